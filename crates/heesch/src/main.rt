@@ -1,0 +1,35 @@
+//! The program `heesch`: tilings and Heesch numbers of polyforms. `heesch list GRID N` writes the free
+//! polyforms of N cells.
+#![tactic(auto)]
+
+use heesch_app::{Status, run};
+use heesch_io::{StdSink, StdSource};
+use heesch_pool::Open;
+use std::process::ExitCode;
+use std::{env, io};
+
+fn main(rt: HostRuntime) -> ExitCode {
+    let alloc = rt.alloc();
+    let source = StdSource::new(rt.stdin(), alloc);
+    let sink = StdSink::new(rt.stdout(), alloc);
+    let status = match (words(&rt), source, sink) {
+        (Err(status), _, _) => status,
+        (Ok(words), Ok(mut source), Ok(mut sink)) => {
+            run(&rt, alloc, &words, &mut source, &mut sink, &Open)
+        }
+        _ => Status::NoMemory,
+    };
+    ExitCode::from(status as u8)
+}
+
+/// The arguments without the program's name, or the status where they can't be had.
+fn words(rt: &HostRuntime) -> Result<Vec<String>, Status> {
+    match env::args(rt) {
+        Ok(args) => args
+            .skip(1)
+            .collect(rt.alloc())
+            .map_err(|_| Status::NoMemory),
+        Err(error) if error.kind() == io::ErrorKind::OutOfMemory => Err(Status::NoMemory),
+        Err(_) => Err(Status::Usage),
+    }
+}

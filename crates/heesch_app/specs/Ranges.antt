@@ -1,0 +1,8 @@
+-- The ranges of a request's numbers.
+use Rattle.std.specs.Prelude.{◌≤◌}
+use Rattle.heesch_words.specs.declared.requests.Request.{Request}
+use Rattle.heesch_words.specs.declared.requests.Request.TheVariants.{List as ListRequest}
+
+-- its size is 1 to 32 cells, and its workers are 1 to 64
+abbrev pub IsInRange : Request → Type 0
+IsInRange (ListRequest grid n workers) = (1 ≤ n) × (n ≤ 32) × (1 ≤ workers) × (workers ≤ 64)

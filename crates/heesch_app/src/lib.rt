@@ -1,0 +1,9 @@
+//! What the program `heesch` does, over any source and any sink.
+#![tactic(auto)]
+
+mod listing;
+mod program;
+mod status;
+
+pub use program::run;
+pub use status::Status;

@@ -1,0 +1,77 @@
+ghost use Rattle.std.specs.Prelude.{◌≡◌, ◌≢◌, ◌≤◌, ◌⊎◌, map, string_bytes, IfOk};
+ghost use Rattle.heesch_io.specs.Causes.{Rose};
+ghost use Rattle.heesch_words.specs.Requests.{Asks};
+ghost use Rattle.heesch_app.specs.Outputs.{IsAccepted, IsOutput, Writes, WritesPrefix};
+ghost use Rattle.heesch_app.specs.Ranges.{IsInRange};
+
+use crate::Status;
+use crate::listing::listing;
+use heesch_io::{Failed, NoMemory, Sink, Source, put};
+use heesch_pool::Gate;
+use heesch_words::{Request, Usage, parse};
+use std::alloc::Global;
+use std::thread::Threads;
+
+/// Does what the words ask for. The words are the arguments without the program's name; the gate is
+/// told of each piece of work that a worker takes, and the program's own is open.
+pub fn run<T: Threads + Sync, R: Source, W: Sink, H: Gate + Sync>(
+    rt: &T,
+    alloc: Global,
+    words: &[String],
+    source: &mut R,
+    sink: &mut W,
+    gate: &H,
+) -> Status
+    // The words alone decide what is refused, and then nothing is read or written.
+    ensures refused { result ≡ Status.Usage → ¬ IsAccepted (map string_bytes words.now) }
+    ensures accepted { result ≢ Status.Usage → IsAccepted (map string_bytes words.now) }
+    ensures untouched { result ≡ Status.Usage → sink.new ≡ sink.old }
+
+    // No form reads.
+    ensures unread { source.new ≡ source.old }
+
+    ensures done { result ≡ Status.Done →
+        Writes (map string_bytes words.now) (W.held sink.old) (W.held sink.new) }
+    ensures write_fault { result ≡ Status.WriteFault →
+        WritesPrefix (map string_bytes words.now) (W.held sink.old) (W.held sink.new) }
+    ensures write_cause { result ≡ Status.WriteFault → Rose (W.faults sink.old) (W.faults sink.new) }
+    ensures no_memory { result ≡ Status.NoMemory →
+        WritesPrefix (map string_bytes words.now) (W.held sink.old) (W.held sink.new) }
+
+    // Where no count rose, what the words ask for is done, or memory was refused.
+    ensures complete { IsAccepted (map string_bytes words.now) →
+        (result ≡ Status.Done) ⊎ (result ≡ Status.NoMemory) ⊎ Rose (W.faults sink.old) (W.faults sink.new) }
+
+    // No form that is built ends in another way.
+    ensures no_invalid { result ≢ Status.Invalid }
+    ensures no_bad_input { result ≢ Status.BadInput }
+    ensures no_read_fault { result ≢ Status.ReadFault }
+{
+    let request = match parse(words) {
+        Ok(request) => request,
+        Err(Usage) => return Status::Usage,
+    };
+    let text = match answer(rt, alloc, request, gate) {
+        Ok(text) => text,
+        Err(NoMemory) => return Status::NoMemory,
+    };
+    match put(sink, &text) {
+        Ok(()) => Status::Done,
+        Err(Failed) => Status::WriteFault,
+    }
+}
+
+/// The text that a request asks for.
+fn answer<T: Threads + Sync, H: Gate + Sync>(
+    rt: &T,
+    alloc: Global,
+    request: Request,
+    gate: &H,
+) -> Result<Vec<u8>, NoMemory>
+    requires { IsInRange request }
+    ensures { IfOk result (λ text. IsOutput request text.items) }
+{
+    match request {
+        Request::List { grid, n, workers } => listing(rt, alloc, grid, n, workers, gate),
+    }
+}

@@ -1,0 +1,11 @@
+pub mod Newness
+pub mod Lower
+pub mod Lines
+pub mod Models
+pub mod Derive
+pub mod MarkLemmas
+pub mod Assembled
+pub mod Facts
+pub mod Resolving
+pub mod Learnt
+pub mod Counting

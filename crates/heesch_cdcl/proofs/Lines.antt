@@ -1,0 +1,113 @@
+use Rattle.std.proofs.Common.{◌≡◌, ◌≢◌, ℕ, ◌-◌, ◌<◌, List, [], ◌∷◌, ◌++◌, length, get_or, take, map, sym, ap, ◌∙◌, subst, inl, inr, refl, arith, append_assoc, append-nil, length-append}
+use Rattle.std.specs.List.{Contains}
+use Rattle.std.proofs.lemmas.Bool.{cases_lt}
+use Rattle.std.proofs.lemmas.List.{take-append-le, take_at, get_or_append_left, get_or_at, map-append}
+use Rattle.std.proofs.lemmas.List.Elements.{All-nil, All-push}
+use Rattle.heesch_cnf.specs.declared.literal.Lit.{Lit}
+use Rattle.heesch_cnf.specs.declared.log.Line.{Line}
+use Rattle.heesch_cnf.specs.declared.log.Line.TheVariants.{Learn, Given}
+use Rattle.heesch_cnf.specs.Clauses.{IsClause, IsNew}
+use Rattle.heesch_cnf.specs.Lines.{clauses_with, clause_of, LineHolds, IsShown, FinalHolds}
+use Rattle.heesch_cnf.proofs.Lists.{Contains-none}
+use Rattle.heesch_trail.specs.Fixpoint.{IsSettled, IsFixpoint}
+use Rattle.heesch_trail.specs.State.{State, IsTrail, values_of, level_of, up_to}
+use Rattle.heesch_cdcl.specs.declared.analysis.Learnt.{Learnt}
+use Rattle.heesch_cdcl.specs.Search.{LowerFixpoints, SameClauses}
+use Rattle.heesch_cnf.specs.Meaning.{IsLearn}
+use Rattle.heesch_cdcl.specs.Learning.{IsLearnt, LearnsOne, LearnsMore}
+use Rattle.heesch_cdcl.specs.Searching.{IsSearching, NoFinal}
+use Rattle.heesch_cdcl.proofs.Newness.{learnt_is_new, no_final}
+use Rattle.heesch_cdcl.proofs.Lower.{Lower-back, Lower-add, up_to-up_to}
+
+-- the search goes on with other assignments
+pub Searching-moves : (vars : ℕ) (clauses : List (List Lit)) (lines : List Line) (old new : State) → IsSearching vars clauses lines old → SameClauses old new → IsTrail new → LowerFixpoints new → IsSearching vars clauses lines new
+Searching-moves vars clauses lines old new s same valid lower =
+    record { form = s.form; valid = valid; same_vars = same.vars ∙ s.same_vars; same_clauses = same.clauses ∙ s.same_clauses; lower = lower; hold = s.hold; fresh = s.fresh }
+
+pub Lower-zero : (new : State) → level_of new.steps ≡ 0 → LowerFixpoints new
+Lower-zero new zero j below = absurd (omega arith)
+
+pub Searching-restart : (vars : ℕ) (clauses : List (List Lit)) (lines : List Line) (old new : State) → IsSearching vars clauses lines old → SameClauses old new → IsTrail new → level_of new.steps ≡ 0 → IsSearching vars clauses lines new
+Searching-restart vars clauses lines old new s same valid zero = Searching-moves vars clauses lines old new s same valid (Lower-zero new zero)
+
+pub Searching-no_final : (vars : ℕ) (clauses : List (List Lit)) (lines : List Line) (trail : State) → IsSearching vars clauses lines trail → IsFixpoint (values_of trail.steps) trail.clauses → NoFinal (clauses_with clauses lines)
+Searching-no_final vars clauses lines trail s fixpoint hints final =
+    no_final (values_of trail.steps) trail.clauses hints fixpoint (subst (λ cs. FinalHolds cs hints) (sym s.same_clauses) final)
+
+clauses_with-push : (clauses : List (List Lit)) (lines : List Line) (line : Line) → clauses_with clauses (lines ++ line ∷ []) ≡ clauses_with clauses lines ++ clause_of line ∷ []
+clauses_with-push clauses lines line = ap (λ cs. clauses ++ cs) (map-append clause_of lines (line ∷ [])) ∙ sym (append_assoc clauses (map clause_of lines) (clause_of line ∷ []))
+
+-- what holds of each line after those before it holds with one line more
+lines-push : (P : List (List Lit) → Line → Type 0) (clauses : List (List Lit)) (lines : List Line) (line : Line) →
+    ((i : ℕ) (d : Line) → i < length lines → P (clauses_with clauses (take i lines)) (get_or lines i d)) → P (clauses_with clauses lines) line →
+    (i : ℕ) (d : Line) → i < length (lines ++ line ∷ []) → P (clauses_with clauses (take i (lines ++ line ∷ []))) (get_or (lines ++ line ∷ []) i d)
+lines-push P clauses lines line before here i d lt = elim (cases_lt i (length lines)) [
+  | inl less ↦
+      subst (λ ls. P (clauses_with clauses ls) (get_or (lines ++ line ∷ []) i d)) (sym (take-append-le i lines (line ∷ []) (omega arith)))
+      (subst (P (clauses_with clauses (take i lines))) (sym (get_or_append_left lines (line ∷ []) d i less)) (before i d less))
+  | inr past ↦
+      let at : length lines ≡ i = omega (arith, lt, length-append lines (line ∷ [])) in
+      subst (λ ls. P (clauses_with clauses ls) (get_or (lines ++ line ∷ []) i d)) (sym (take_at lines (line ∷ []) i at))
+      (subst (P (clauses_with clauses lines)) (sym (get_or_at lines line [] d i at)) here)
+]
+
+-- the search goes on with the line that was learnt
+pub Searching-learns : (vars : ℕ) (clauses : List (List Lit)) (lines : List Line) (old mid new : State) (learnt : Learnt) (c : List Lit) → IsSearching vars clauses lines old → IsLearnt old learnt → c ≡ learnt.clause →
+    mid ≡ record old { clauses = old.clauses ++ c ∷ [] } → new ≡ record mid { steps = up_to learnt.back mid.steps } → level_of new.steps ≡ learnt.back → IsTrail new →
+    IsSearching vars clauses (lines ++ Learn learnt.clause learnt.hints ∷ []) new
+Searching-learns vars clauses lines old mid new learnt c s l same add back level valid =
+    let line = Learn learnt.clause learnt.hints in
+    let low : State = record old { steps = up_to learnt.back old.steps } in
+    let steps : new.steps ≡ up_to learnt.back old.steps = ap (λ (t : State). t.steps) back ∙ ap (λ (t : State). up_to learnt.back t.steps) add in
+    let is : new ≡ record low { clauses = low.clauses ++ learnt.clause ∷ [] } =
+    back ∙ ap (λ (t : State). record t { steps = up_to learnt.back t.steps }) add ∙ ap (λ (cl : List Lit). record low { clauses = old.clauses ++ cl ∷ [] }) same in
+    let low_level : level_of low.steps ≡ learnt.back = sym (ap level_of steps) ∙ level in
+    let below = l.back_below in
+    let lower_low = Lower-back old low learnt.back (omega arith) refl low_level s.lower in
+    let settled : (j : ℕ) → j < level_of low.steps → IsSettled (values_of (up_to j low.steps)) learnt.clause =
+    λ j lt. subst (λ ss. IsSettled (values_of ss) learnt.clause) (sym (up_to-up_to j learnt.back old.steps (omega (arith, lt, low_level)))) (l.settled j (omega (arith, lt, low_level))) in
+    let fixpoint = s.lower (level_of old.steps - 1) (omega arith) in
+    let fresh = learnt_is_new (values_of (up_to (level_of old.steps - 1) old.steps)) old.clauses learnt.clause l.top fixpoint l.asserting in
+    let some : learnt.clause ≢ [] = λ e. Contains-none l.top (subst (λ ls. Contains ls l.top) e l.asserting.has_top) in
+    let form = subst (λ v. IsClause v learnt.clause) s.same_vars l.form in
+    let shown = subst (λ cs. IsShown cs learnt.clause learnt.hints) s.same_clauses l.shown in
+    let hold = lines-push (LineHolds vars) clauses lines line (λ i d lt. s.hold i lt d) (some, (form, shown)) in
+    record {
+      form = s.form;
+      valid = valid;
+      same_vars = ap (λ (t : State). t.vars) is ∙ s.same_vars;
+      same_clauses = ap (λ (t : State). t.clauses) is ∙ ap (λ cs. cs ++ learnt.clause ∷ []) s.same_clauses ∙ sym (clauses_with-push clauses lines line);
+      lower = Lower-add low new learnt.clause is settled lower_low;
+      hold = λ i lt d. hold i d lt;
+      fresh = lines-push (λ cs x. IsNew cs (clause_of x)) clauses lines line s.fresh (subst (λ cs. IsNew cs learnt.clause) s.same_clauses fresh);
+    }
+
+-- what `pop` leaves after a push
+pub pop-push : {X : Type 0} (before pushed left : List X) (x : X) → pushed ≡ before ++ x ∷ [] → left ≡ take (length pushed - 1) pushed → left ≡ before
+pop-push before pushed left x push pop =
+    let short : length before ≡ length pushed - 1 = omega (arith, ap length push, length-append before (x ∷ [])) in
+    pop ∙ ap (take (length pushed - 1)) push ∙ take_at before (x ∷ []) (length pushed - 1) short
+
+pub LearnsMore-none : (lines : List Line) → LearnsMore lines lines
+LearnsMore-none lines = ([], (sym (append-nil lines), All-nil IsLearn))
+
+pub LearnsMore-one : (first old new : List Line) → LearnsMore first old → LearnsOne old new → LearnsMore first new
+LearnsMore-one first old new more one =
+    (more.0 ++ one.0 ∷ [], (one.1.0 ∙ ap (λ ls. ls ++ one.0 ∷ []) more.1.0 ∙ append_assoc first more.0 (one.0 ∷ []), All-push IsLearn more.0 one.0 more.1.1 one.1.1))
+
+-- the search goes on at level 0 with a clause that was given
+pub Searching-gives : (vars : ℕ) (clauses : List (List Lit)) (lines : List Line) (old mid new : State) (clause copy : List Lit) → IsSearching vars clauses lines old → IsClause vars clause → IsNew (clauses_with clauses lines) clause → copy ≡ clause →
+    mid ≡ record old { clauses = old.clauses ++ copy ∷ [] } → new ≡ record mid { steps = up_to 0 mid.steps } → level_of new.steps ≡ 0 → IsTrail new →
+    IsSearching vars clauses (lines ++ Given clause ∷ []) new
+Searching-gives vars clauses lines old mid new clause copy s form fresh same add back level valid =
+    let line = Given clause in
+    let hold = lines-push (LineHolds vars) clauses lines line (λ i d lt. s.hold i lt d) form in
+    record {
+      form = s.form;
+      valid = valid;
+      same_vars = ap (λ (t : State). t.vars) back ∙ ap (λ (t : State). t.vars) add ∙ s.same_vars;
+      same_clauses = ap (λ (t : State). t.clauses) back ∙ ap (λ (t : State). t.clauses) add ∙ ap (λ (c : List Lit). old.clauses ++ c ∷ []) same ∙ ap (λ cs. cs ++ clause ∷ []) s.same_clauses ∙ sym (clauses_with-push clauses lines line);
+      lower = Lower-zero new level;
+      hold = λ i lt d. hold i d lt;
+      fresh = lines-push (λ cs x. IsNew cs (clause_of x)) clauses lines line s.fresh fresh;
+    }

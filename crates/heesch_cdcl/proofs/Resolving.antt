@@ -1,0 +1,311 @@
+use Rattle.std.proofs.Common.{◌≡◌, ◌≢◌, ℕ, zero, suc, ◌+◌, ◌-◌, ◌<◌, ◌≤◌, Bool, true, false, not, cond, eqb, Option, None, Some, option_map, option_and_then, reverse, List, [], ◌∷◌, ◌++◌, length, get_or, set, take, Decides, MatchOption, count_by, sym, ap, ◌∙◌, subst, inl, inr, ◌⊎◌, refl, arith}
+use Rattle.std.specs.List.{Contains}
+use Rattle.std.proofs.lemmas.List.Sums.{sum_by-set}
+use Rattle.std.proofs.lemmas.List.{take_all, get_or_past, get_or-map, get_or_read, reverse-append}
+use Rattle.std.proofs.lemmas.List.Elements.{All-nil, All-cons}
+use Rattle.std.proofs.lemmas.Bool.{cases_lt}
+use Rattle.std.proofs.lemmas.Bool.Decides.{Decides-eqb}
+use Rattle.heesch_cnf.specs.declared.literal.Lit.{Lit}
+use Rattle.heesch_cnf.specs.Literals.{Values, lit_value, signed, is_false_value}
+use Rattle.heesch_cnf.specs.Clauses.{IsClause, left_of}
+use Rattle.heesch_cnf.specs.Lines.{numbered, is_empty, IsNumber, clauses_with}
+use Rattle.heesch_cnf.proofs.Lists.{Contains-none, Contains-cases, Contains-filter}
+use Rattle.heesch_trail.specs.declared.step.Step.{Step}
+use Rattle.heesch_trail.specs.Fixpoint.{IsFalse, IsSettled}
+use Rattle.heesch_trail.specs.State.{State, IsTrail, made_by, values_of, fact_of, level_of, up_to}
+use Rattle.heesch_cdcl.specs.Derivation.{Matches, Derives}
+use Rattle.heesch_cdcl.specs.Marking.{marked, level_in, AreMarks, MarksClause}
+use Rattle.heesch_cdcl.specs.Resolved.{IsResolving, IsBegun}
+use Rattle.heesch_cdcl.specs.Learning.{IsConflict}
+use Rattle.heesch_cdcl.specs.Search.{LowerFixpoints}
+use Rattle.heesch_cdcl.specs.Searching.{IsSearching}
+use Rattle.heesch_cnf.specs.declared.log.Line.{Line}
+use Rattle.heesch_cdcl.proofs.Derive.{Derives-start, Derives-skip, Derives-resolve, values_of-push}
+use Rattle.heesch_cdcl.proofs.MarkLemmas.{some_marked, same_or_not, marked-set_same, marked-set_other}
+use Rattle.heesch_cdcl.proofs.Facts.{AtStep, at_step, Trail-apart, assigned-fact, fact-take, fact-level, fact-level_take, value-low}
+
+-- a marked variable has a place
+marked-room : (places : List Bool) (v : ℕ) → marked places v ≡ true → v < length places
+marked-room places v m = elim (cases_lt v (length places)) [ inl lt ↦ lt | inr ge ↦ absurd (let bad : false ≡ true = sym (get_or_past places v false ge) ∙ m in cc) ]
+
+-- a marked variable of the level is counted
+pub positive_count : (places : List Bool) (v : ℕ) → marked places v ≡ true → 1 ≤ count_by (λ b. b) places
+positive_count places v m =
+    let weight : Bool → ℕ = λ b. cond b 1 0 in
+    let was = ap weight m in
+    omega (arith, sum_by-set weight places v false false (marked-room places v m), was)
+
+-- besides one marked variable of at least two there is another
+another_marked : (places : List Bool) (v : ℕ) → marked places v ≡ true → 2 ≤ count_by (λ b. b) places → (w : ℕ) × ((marked places w ≡ true) × (v ≡ w → ⊥))
+another_marked places v m le =
+    let weight : Bool → ℕ = λ b. cond b 1 0 in
+    let was = ap weight m in
+    let lt = marked-room places v m in
+    let r = some_marked (set places v false) (omega (arith, sum_by-set weight places v false false lt, was)) in
+    let differ : v ≡ r.0 → ⊥ = λ e. let bad : false ≡ true = sym (marked-set_same places v r.0 false lt e) ∙ r.1 in cc in
+    (r.0, (sym (marked-set_other places v r.0 false differ) ∙ r.1, differ))
+
+-- of at most one marked variable there is no other
+pub only_marked : (places : List Bool) (v w : ℕ) → marked places v ≡ true → marked places w ≡ true → count_by (λ b. b) places ≤ 1 → v ≡ w
+only_marked places v w mv mw le = elim (same_or_not v w) [
+  | inl e ↦ e
+  | inr ne ↦
+      let weight : Bool → ℕ = λ b. cond b 1 0 in
+      let was = ap weight mv in
+      let lt = marked-room places v mv in
+      let more = positive_count (set places v false) w (marked-set_other places v w false ne ∙ mw) in
+      absurd (omega (arith, sum_by-set weight places v false false lt, was, more))
+]
+
+pub level_of_some : (o : Option Step) (s : Step) (k : ℕ) → o ≡ Some s → option_map (λ (x : Step). x.level) o ≡ Some k → s.level ≡ k
+level_of_some o s k e at = let both : Some s.level ≡ Some k = sym (ap (option_map (λ (x : Step). x.level)) e) ∙ at in cc
+
+-- a variable of the present level that is marked
+pub record HasHere (trail : State) (place : ℕ) (v : ℕ) : Type 0 where
+  pub step : Step
+  pub fact_before : fact_of (take place trail.steps) v ≡ Some step
+  pub fact : fact_of trail.steps v ≡ Some step
+  pub level : step.level ≡ level_of trail.steps
+
+pub here_facts : (trail : State) (place : ℕ) (seen here : List Bool) (pending : ℕ) (hints : List ℕ) (v : ℕ) → IsResolving trail place seen here pending hints → marked here v ≡ true → HasHere trail place v
+here_facts trail place seen here pending hints v r m =
+    let at = r.marks.here_seen v m in
+    let f = assigned-fact (take place trail.steps) v (r.assigned v at.0) in
+    let fact = fact-take place trail.steps v f.0 f.1 in
+    record { step = f.0; fact_before = f.1; fact = fact; level = level_of_some (fact_of trail.steps v) f.0 (level_of trail.steps) fact at.1 }
+
+-- while variables of the level are marked, there are assignments before
+pub place_left : (trail : State) (place : ℕ) (seen here : List Bool) (pending : ℕ) (hints : List ℕ) → IsResolving trail place seen here pending hints → 1 ≤ pending → 1 ≤ place
+place_left trail zero seen here pending hints r le =
+    let w = some_marked here (omega (arith, r.marks.counted)) in
+    absurd (r.assigned w.0 (r.marks.here_seen w.0 w.1).0 refl)
+place_left trail (suc p) seen here pending hints r le = omega arith
+
+-- the last assignment before the place is of the present level
+top_level : (trail : State) (p : ℕ) (s : Step) (seen here : List Bool) (pending : ℕ) (hints : List ℕ) → IsTrail trail → AtStep trail p s → IsResolving trail (p + 1) seen here pending hints → 1 ≤ pending → s.level ≡ level_of trail.steps
+top_level trail p s seen here pending hints valid at r le =
+    let w = some_marked here (omega (arith, r.marks.counted)) in
+    let h = here_facts trail (p + 1) seen here pending hints w.0 r w.1 in
+    let low = fact-level_take trail (p + 1) w.0 h.step valid (omega (arith, at.place_in)) h.fact_before in
+    let high = fact-level trail s.lit.var s valid at.fact in
+    omega (arith, low, high, h.level, at.level)
+
+-- so where it is marked, it is counted
+pub top_here : (trail : State) (p : ℕ) (s : Step) (seen here : List Bool) (pending : ℕ) (hints : List ℕ) → IsTrail trail → AtStep trail p s → IsResolving trail (p + 1) seen here pending hints → 1 ≤ pending →
+    marked seen s.lit.var ≡ true → marked here s.lit.var ≡ true
+top_here trail p s seen here pending hints valid at r le m =
+    r.marks.seen_here s.lit.var m (ap (option_map (λ (x : Step). x.level)) at.fact ∙ ap Some (top_level trail p s seen here pending hints valid at r le))
+
+-- a variable with another assignment has its value before
+assigned-before : (trail : State) (p : ℕ) (s : Step) (v : ℕ) → AtStep trail p s → (s.lit.var ≡ v → ⊥) → values_of (take (p + 1) trail.steps) v ≢ None → values_of (take p trail.steps) v ≢ None
+assigned-before trail p s v at ne some none =
+    some (ap (λ (ss : List Step). values_of ss v) at.split ∙ ap (λ (f : Values). f v) (values_of-push (take p trail.steps) s at.holds.was_open) ∙ by_test (eqb s.lit.var v) (Decides-eqb s.lit.var v))
+  where
+    by_test : (t : Bool) → Decides t (s.lit.var ≡ v) → cond t (Some s.lit.positive) (values_of (take p trail.steps) v) ≡ None
+    by_test true d = absurd (ne (d.0 refl))
+    by_test false d = none
+
+-- no decision is resolved
+pub has_reason : (trail : State) (p : ℕ) (s : Step) (seen here : List Bool) (pending : ℕ) (hints : List ℕ) → IsTrail trail → AtStep trail p s → IsResolving trail (p + 1) seen here pending hints →
+    (2 ≤ pending) ⊎ ((1 ≤ pending) × (level_of trail.steps ≡ 0)) → marked seen s.lit.var ≡ true → s.reason ≢ None
+has_reason trail p s seen here pending hints valid at r (inr zero_level) m none =
+    let level = top_level trail p s seen here pending hints valid at r zero_level.0 in
+    let decided : s.level ≡ level_of (take p trail.steps) + 1 = subst (λ o. MatchOption o (s.level ≡ level_of (take p trail.steps) + 1) (λ n. s.level ≡ level_of (take p trail.steps))) none at.holds.level in
+    let zero_is = zero_level.1 in
+    omega arith
+has_reason trail p s seen here pending hints valid at r (inl two) m none =
+    let level = top_level trail p s seen here pending hints valid at r (omega arith) in
+    let here_s = top_here trail p s seen here pending hints valid at r (omega arith) m in
+    let w = another_marked here s.lit.var here_s (omega (arith, r.marks.counted)) in
+    let h = here_facts trail (p + 1) seen here pending hints w.0 r w.1.0 in
+    let before = assigned-before trail p s w.0 at w.1.1 (r.assigned w.0 (r.marks.here_seen w.0 w.1.0).0) in
+    let f = assigned-fact (take p trail.steps) w.0 before in
+    let same_step : Some f.0 ≡ Some h.step = sym (fact-take p trail.steps w.0 f.0 f.1) ∙ h.fact in
+    let same : f.0 ≡ h.step = cc in
+    let low = fact-level_take trail p w.0 f.0 valid (omega (arith, at.place_in)) f.1 in
+    let decided : s.level ≡ level_of (take p trail.steps) + 1 = subst (λ o. MatchOption o (s.level ≡ level_of (take p trail.steps) + 1) (λ n. s.level ≡ level_of (take p trail.steps))) none at.holds.level in
+    omega (arith, low, decided, level, h.level, ap (λ (x : Step). x.level) same)
+
+-- the literals of a clause that are left
+false_or_left : (values : Values) (clause : List Lit) (l : Lit) → Contains clause l → (lit_value values l ≡ Some false) ⊎ Contains (left_of values clause) l
+false_or_left values clause l has = by_value (lit_value values l) refl
+  where
+    by_value : (o : Option Bool) → lit_value values l ≡ o → (lit_value values l ≡ Some false) ⊎ Contains (left_of values clause) l
+    by_value None e = inr (Contains-filter (λ m. not (is_false_value (lit_value values m))) clause l has (ap (λ o. not (is_false_value o)) e))
+    by_value (Some true) e = inr (Contains-filter (λ m. not (is_false_value (lit_value values m))) clause l has (ap (λ o. not (is_false_value o)) e))
+    by_value (Some false) e = inl e
+
+pub conflict_false : (values : Values) (clause : List Lit) (l : Lit) → IsFalse values clause → Contains clause l → lit_value values l ≡ Some false
+conflict_false values clause l conflict has = elim (false_or_left values clause l has) [ inl f ↦ f | inr left ↦ absurd (Contains-none l (subst (λ ls. Contains ls l) conflict left)) ]
+
+pub value_of_false : (values : Values) (l : Lit) → lit_value values l ≡ Some false → values l.var ≡ Some (not l.positive)
+value_of_false values l e = by_sign l.positive (values l.var) e
+  where
+    by_sign : (p : Bool) (o : Option Bool) → signed p o ≡ Some false → o ≡ Some (not p)
+    by_sign true o e = e
+    by_sign false None e = absurd (let bad : None ≡ Some false = e in cc)
+    by_sign false (Some true) e = refl
+    by_sign false (Some false) e = absurd (let bad : Some true ≡ Some false = e in cc)
+
+some_not_none : {A : Type 0} (o : Option A) (x : A) → o ≡ Some x → o ≢ None
+some_not_none o x e none = let bad : Some x ≡ None = sym e ∙ none in cc
+
+-- the values of the assignments match themselves
+Matches-itself : (marks : ℕ → Bool) (steps : List Step) → Matches (values_of steps) marks steps
+Matches-itself marks steps = record { same = λ v m. refl; among = λ v b e. e }
+
+hints_more : (clauses : List (List Lit)) (marks : ℕ → Bool) (steps : List Step) (hints : List ℕ) → Derives clauses marks steps hints → is_empty hints ≡ false
+hints_more clauses marks steps [] derives = absurd (let bad : false ≡ true = derives (values_of steps) (Matches-itself marks steps) in cc)
+hints_more clauses marks steps (h ∷ hints) derives = refl
+
+-- an assignment that isn't marked is passed over
+pub Resolving-skip : (trail : State) (p : ℕ) (s : Step) (seen here : List Bool) (pending : ℕ) (hints : List ℕ) → AtStep trail p s → IsResolving trail (p + 1) seen here pending hints → marked seen s.lit.var ≡ false →
+    IsResolving trail p seen here pending hints
+Resolving-skip trail p s seen here pending hints at r unmarked = record {
+  place_in = omega (arith, r.place_in);
+  marks = r.marks;
+  assigned = λ v m. assigned-before trail p s v at (λ e. let bad : false ≡ true = sym unmarked ∙ ap (marked seen) e ∙ m in cc) (r.assigned v m);
+  numbers = r.numbers;
+  derives = Derives-skip trail.clauses (marked seen) (take p trail.steps) s hints at.holds.was_open unmarked (subst (λ ss. Derives trail.clauses (marked seen) ss hints) at.split r.derives);
+}
+
+-- what a reason says
+pub record HasReason (trail : State) (p : ℕ) (s : Step) (n : ℕ) : Type 0 where
+  pub number : IsNumber trail.clauses n
+  pub alone : left_of (values_of (take p trail.steps)) (numbered trail.clauses n) ≡ s.lit ∷ []
+
+pub reason_says : (trail : State) (p : ℕ) (s : Step) (n : ℕ) → AtStep trail p s → s.reason ≡ Some n → HasReason trail p s n
+reason_says trail p s n at is =
+    let both = subst (λ o. MatchOption o (Unit {0}) (λ n. IsNumber trail.clauses n × (left_of (values_of (take p trail.steps)) (numbered trail.clauses n) ≡ s.lit ∷ []))) is at.holds.reason in
+    record { number = both.0; alone = both.1 }
+
+-- a marked assignment is resolved with its reason
+pub Resolving-resolve : (trail : State) (p n : ℕ) (s : Step) (seen here mid after : List Bool) (pending less : ℕ) (hints : List ℕ) → AtStep trail p s → IsResolving trail (p + 1) seen here pending hints → s.reason ≡ Some n →
+    MarksClause seen mid (numbered trail.clauses n) → s.lit.var < length mid → AreMarks trail.vars (level_of trail.steps) trail.steps (set mid s.lit.var false) after less →
+    IsResolving trail p (set mid s.lit.var false) after less (n ∷ hints)
+Resolving-resolve trail p n s seen here mid after pending less hints at r is marks room new_marks =
+    let reason = reason_says trail p s n at is in
+    record {
+      place_in = omega (arith, r.place_in);
+      marks = new_marks;
+      assigned = λ v m. elim (same_or_not s.lit.var v) [
+        | inl e ↦ absurd (let bad : false ≡ true = sym (marked-set_same mid s.lit.var v false room e) ∙ m in cc)
+        | inr ne ↦ elim (marks.others v (sym (marked-set_other mid s.lit.var v false ne) ∙ m)) [
+          | inl was ↦ assigned-before trail p s v at ne (r.assigned v was)
+          | inr w ↦ subst (λ x. values_of (take p trail.steps) x ≢ None) w.1.1 (in_reason reason w.0 w.1.0 (λ e. ne (e ∙ w.1.1)))
+        ]
+      ];
+      numbers = All-cons (IsNumber trail.clauses) n hints reason.number r.numbers;
+      derives = Derives-resolve trail.clauses (marked seen) (marked (set mid s.lit.var false)) (take p trail.steps) s n hints (hints_more trail.clauses (marked seen) (take (p + 1) trail.steps) hints r.derives) at.holds.was_open reason.alone
+          (λ v ne m. marked-set_other mid s.lit.var v false ne ∙ marks.kept v m) (λ l has ne. marked-set_other mid s.lit.var l.var false ne ∙ marks.added l has)
+          (subst (λ ss. Derives trail.clauses (marked seen) ss hints) at.split r.derives);
+    }
+  where
+    in_reason : HasReason trail p s n → (l : Lit) → Contains (numbered trail.clauses n) l → (s.lit.var ≡ l.var → ⊥) → values_of (take p trail.steps) l.var ≢ None
+    in_reason reason l has ne = elim (false_or_left (values_of (take p trail.steps)) (numbered trail.clauses n) l has) [
+      | inl f ↦ some_not_none _ _ (value_of_false (values_of (take p trail.steps)) l f)
+      | inr left ↦ elim (Contains-cases s.lit [] l (subst (λ ls. Contains ls l) reason.alone left)) [
+        | inl e ↦ absurd (ne (ap (λ (x : Lit). x.var) e))
+        | inr none ↦ absurd (Contains-none l none)
+      ]
+    ]
+
+-- the conflict begins the resolution
+pub Begun-conflict : (trail : State) (n : ℕ) (none seen here : List Bool) (pending : ℕ) → IsTrail trail → LowerFixpoints trail → IsConflict trail n → ((v : ℕ) → marked none v ≡ true → ⊥) →
+    MarksClause none seen (numbered trail.clauses n) → AreMarks trail.vars (level_of trail.steps) trail.steps seen here pending → IsBegun trail n seen here pending
+Begun-conflict trail n none seen here pending valid lower conflict empty marks are =
+    let clause = numbered trail.clauses n in
+    let all = take_all (length trail.steps) trail.steps (omega arith) in
+    record {
+      resolving = record {
+        place_in = omega arith;
+        marks = are;
+        assigned = λ v m. elim (marks.others v m) [
+          | inl was ↦ absurd (empty v was)
+          | inr w ↦ subst (λ ss. values_of ss v ≢ None) (sym all) (subst (λ x. values_of trail.steps x ≢ None) w.1.1 (some_not_none _ _ (value_of_false (values_of trail.steps) w.0 (conflict_false (values_of trail.steps) clause w.0 conflict.1 w.1.0))))
+        ];
+        numbers = All-cons (IsNumber trail.clauses) n [] conflict.0 (All-nil (IsNumber trail.clauses));
+        derives = Derives-start trail.clauses (marked seen) (take (length trail.steps) trail.steps) n (subst (λ ss. IsFalse (values_of ss) clause) (sym all) conflict.1) marks.added;
+      };
+      some = λ above. by_settled above (lower (level_of trail.steps - 1) (omega arith) (n - 1) [] (let num = conflict.0 in omega arith));
+    }
+  where
+    -- a literal that isn't false below the present level is counted
+    counted : 1 ≤ level_of trail.steps → (l : Lit) → Contains (numbered trail.clauses n) l → (lit_value (values_of (up_to (level_of trail.steps - 1) trail.steps)) l ≡ Some false → ⊥) → 1 ≤ pending
+    counted above l has not_false =
+        let is_false = conflict_false (values_of trail.steps) (numbered trail.clauses n) l conflict.1 has in
+        let value = value_of_false (values_of trail.steps) l is_false in
+        let f = assigned-fact trail.steps l.var (some_not_none _ _ value) in
+        let high = fact-level trail l.var f.0 valid f.1 in
+        elim (cases_lt (level_of trail.steps - 1) f.0.level) [
+          | inl lt ↦
+              let level : f.0.level ≡ level_of trail.steps = omega arith in
+              let here_is = are.seen_here l.var (marks.added l has) (ap (option_map (λ (x : Step). x.level)) f.1 ∙ ap Some level) in
+              omega (arith, positive_count here l.var here_is, are.counted)
+          | inr ge ↦
+              absurd (not_false (ap (signed l.positive) (value-low (level_of trail.steps - 1) trail.steps l.var f.0 (Trail-apart trail valid) f.1 ge) ∙ is_false))
+        ]
+
+    by_settled : 1 ≤ level_of trail.steps → IsSettled (values_of (up_to (level_of trail.steps - 1) trail.steps)) (numbered trail.clauses n) → 1 ≤ pending
+    by_settled above (inl t) = counted above t.0 t.1.0 (λ f. let bad : Some true ≡ Some false = sym t.1.1 ∙ f in cc)
+    by_settled above (inr two) = counted above two.one two.has_one (λ f. let bad : None ≡ Some false = sym two.one_open ∙ f in cc)
+
+-- the clause of a number, as it is read
+pub same_clause : (vars : ℕ) (clauses : List (List Lit)) (lines : List Line) (trail : State) (n : ℕ) (clause : List Lit) → IsSearching vars clauses lines trail → clause ≡ numbered (clauses_with clauses lines) n → clause ≡ numbered trail.clauses n
+same_clause vars clauses lines trail n clause s is = is ∙ ap (λ cs. numbered cs n) (sym s.same_clauses)
+
+pub form_of : (vars : ℕ) (clauses : List (List Lit)) (lines : List Line) (trail : State) (n : ℕ) (clause : List Lit) → IsSearching vars clauses lines trail → IsNumber trail.clauses n → clause ≡ numbered (clauses_with clauses lines) n → IsClause trail.vars clause
+form_of vars clauses lines trail n clause s number is =
+    subst (IsClause trail.vars) (sym (same_clause vars clauses lines trail n clause s is)) (s.valid.clauses (n - 1) [] (let num = number in omega arith))
+
+pub high_number : (vars : ℕ) (clauses : List (List Lit)) (lines : List Line) (trail : State) (n : ℕ) → IsSearching vars clauses lines trail → IsNumber trail.clauses n → n ≤ length (clauses_with clauses lines)
+high_number vars clauses lines trail n s number = subst (λ cs. n ≤ length cs) s.same_clauses number.1
+
+-- the assignment whose variable was read at a place
+pub record IsRead (trail : State) (p n : ℕ) : Type 0 where
+  pub step : Step
+  pub at : AtStep trail p step
+  pub var : step.lit.var ≡ n
+
+pub read_step : (trail : State) (p : ℕ) (made : List Lit) → IsTrail trail → made ≡ made_by trail.steps → p < length trail.steps → IsRead trail p (get_or made p (record { var = 0; positive = false })).var
+read_step trail p made valid is lt =
+    let none : Lit = record { var = 0; positive = false } in
+    let d : Step = record { lit = none; level = 0; reason = None } in
+    record {
+      step = get_or trail.steps p d;
+      at = at_step trail p d valid lt;
+      var = ap (λ (l : Lit). l.var) (sym (ap (λ ls. get_or ls p none) is ∙ get_or-map (λ (s : Step). s.lit) trail.steps p d none lt));
+    }
+
+-- the variables of the assignments are the trail's
+pub made-in_range : (trail : State) (made : List Lit) (p : ℕ) → IsTrail trail → made ≡ made_by trail.steps → p < length trail.steps → (get_or made p (record { var = 0; positive = false })).var ≤ trail.vars
+made-in_range trail made p valid is lt = let r = read_step trail p made valid is lt in omega (arith, r.var, r.at.holds.high)
+
+pub read_mark : (seen : List Bool) (n : ℕ) (x b : Bool) → n < length seen → x ≡ get_or seen n x → x ≡ b → marked seen n ≡ b
+read_mark seen n x b lt is e = sym (get_or_read seen n x lt is false) ∙ e
+
+pub reason_is : (trail : State) (p n : ℕ) (o : Option ℕ) → (r : IsRead trail p n) → o ≡ option_and_then (λ (s : Step). s.reason) (fact_of trail.steps n) → r.step.reason ≡ o
+reason_is trail p n o r is =
+    sym (is ∙ ap (λ v. option_and_then (λ (s : Step). s.reason) (fact_of trail.steps v)) (sym r.var) ∙ ap (option_and_then (λ (s : Step). s.reason)) r.at.fact)
+
+pub some_pending : (pending level : ℕ) → (2 ≤ pending) ⊎ ((1 ≤ pending) × (level ≡ 0)) → 1 ≤ pending
+some_pending pending level (inl two) = omega arith
+some_pending pending level (inr one) = one.0
+
+-- after the marks of its reason the variable is counted still
+pub read_here : (trail : State) (p n : ℕ) (seen here mid mid_here : List Bool) (pending more : ℕ) (hints : List ℕ) (clause : List Lit) → IsTrail trail → (r : IsRead trail p n) → IsResolving trail (p + 1) seen here pending hints → 1 ≤ pending →
+    marked seen n ≡ true → MarksClause seen mid clause → AreMarks trail.vars (level_of trail.steps) trail.steps mid mid_here more → marked mid_here n ≡ true
+read_here trail p n seen here mid mid_here pending more hints clause valid r going le m marks are =
+    are.seen_here n (marks.kept n m) (subst (λ v. level_in trail.steps v ≡ Some (level_of trail.steps)) r.var
+    (ap (option_map (λ (x : Step). x.level)) r.at.fact ∙ ap Some (top_level trail p r.step seen here pending hints valid r.at going le)))
+
+pub Resolving-read : (trail : State) (p n reason : ℕ) (seen here mid after after_here : List Bool) (pending less : ℕ) (hints more : List ℕ) → (r : IsRead trail p n) → IsResolving trail (p + 1) seen here pending (reverse hints) → r.step.reason ≡ Some reason →
+    MarksClause seen mid (numbered trail.clauses reason) → n < length mid → after ≡ set mid n false → more ≡ hints ++ reason ∷ [] → AreMarks trail.vars (level_of trail.steps) trail.steps after after_here less →
+    IsResolving trail p after after_here less (reverse more)
+Resolving-read trail p n reason seen here mid after after_here pending less hints more r going is marks room write push are =
+    let written : after ≡ set mid r.step.lit.var false = write ∙ ap (λ v. set mid v false) (sym r.var) in
+    let turned : reverse more ≡ reason ∷ reverse hints = ap reverse push ∙ reverse-append hints (reason ∷ []) in
+    subst (λ hs. IsResolving trail p after after_here less hs) (sym turned)
+    (subst (λ ps. IsResolving trail p ps after_here less (reason ∷ reverse hints)) (sym written)
+    (Resolving-resolve trail p reason r.step seen here mid after_here pending less (reverse hints) r.at going is marks (subst (λ v. v < length mid) (sym r.var) room)
+    (subst (λ ps. AreMarks trail.vars (level_of trail.steps) trail.steps ps after_here less) written are)))

@@ -1,0 +1,16 @@
+use Rattle.std.proofs.Common.{◌≤◌, ◌-◌, length}
+use Rattle.heesch_cdcl.specs.Learning.{LearnsMore}
+use Rattle.heesch_cdcl.specs.Ready.{IsReady}
+use Rattle.heesch_cdcl.specs.Searching.{IsSearching}
+use Rattle.heesch_cdcl.proofs.learning.run.Given as goal
+
+abbrev pub invariant-loop-conflict : goal.invariant-loop-conflict
+invariant-loop-conflict l = record {
+  searching : IsSearching l.formula.vars l.formula.clauses l.lines l.trail;
+  ready : IsReady l.formula.vars l.work;
+  few : length l.lines ≤ l.turns;
+  learns : LearnsMore l.fn.lines l.lines;
+}
+
+abbrev pub decreases-loop-conflict : goal.decreases-loop-conflict
+decreases-loop-conflict l = l.turns - length l.lines

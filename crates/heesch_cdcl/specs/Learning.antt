@@ -1,0 +1,43 @@
+use Rattle.std.specs.Prelude.{◌≡◌, ℕ, ◌-◌, ◌<◌, List, [], ◌∷◌, ◌++◌, length}
+use Rattle.heesch_cnf.specs.declared.literal.Lit.{Lit}
+use Rattle.heesch_cnf.specs.declared.log.Line.{Line}
+use Rattle.heesch_cnf.specs.Clauses.{IsClause}
+use Rattle.heesch_cnf.specs.Lines.{clauses_with, IsNumber, numbered, IsShown, FinalHolds}
+use Rattle.heesch_cnf.specs.Meaning.{IsLearn, LearnsAlone}
+use Rattle.heesch_trail.specs.Fixpoint.{IsFixpoint, IsFalse, IsSettled}
+use Rattle.heesch_trail.specs.State.{State, values_of, level_of, up_to}
+use Rattle.heesch_cdcl.specs.declared.analysis.Learnt.{Learnt}
+use Rattle.heesch_cdcl.specs.declared.learning.Ending.{Ending}
+use Rattle.heesch_cdcl.specs.declared.learning.Ending.TheVariants.{Model, Refuted, Spent}
+use Rattle.heesch_cdcl.specs.Newness.{IsAsserting}
+use Rattle.heesch_cdcl.specs.Search.{IsComplete}
+use Rattle.heesch_cdcl.specs.Searching.{NoFinal}
+
+-- all literals of a clause are false
+abbrev pub IsConflict : State → ℕ → Type 0
+IsConflict trail n = IsNumber trail.clauses n × IsFalse (values_of trail.steps) (numbered trail.clauses n)
+
+-- a clause that the hints show, with one literal of the present level; the others are false below it, and below the
+-- level to go back to at least two literals are open
+pub record IsLearnt (trail : State) (learnt : Learnt) : Type 0 where
+  pub top : Lit
+  pub form : IsClause trail.vars learnt.clause
+  pub shown : IsShown trail.clauses learnt.clause learnt.hints
+  pub asserting : IsAsserting (values_of (up_to (level_of trail.steps - 1) trail.steps)) learnt.clause top
+  pub back_below : learnt.back < level_of trail.steps
+  pub settled : (j : ℕ) → j < learnt.back → IsSettled (values_of (up_to j trail.steps)) learnt.clause
+
+-- the new lines are the old ones and one Learn line
+abbrev pub LearnsOne : List Line → List Line → Type 0
+LearnsOne old new = (line : Line) × ((new ≡ old ++ line ∷ []) × IsLearn line)
+
+-- the new lines are the old ones and Learn lines alone
+abbrev pub LearnsMore : List Line → List Line → Type 0
+LearnsMore old new = (more : List Line) × ((new ≡ old ++ more) × LearnsAlone more)
+
+-- how the search ended: a complete assignment, under which every clause has a true literal; a final line that holds;
+-- or no turn left, and no final line that holds
+abbrev pub IsEnding : ℕ → List (List Lit) → ℕ → List Line → State → Ending → Type 0
+IsEnding vars clauses turns lines trail Model = IsFixpoint (values_of trail.steps) trail.clauses × IsComplete trail
+IsEnding vars clauses turns lines trail (Refuted hints) = FinalHolds (clauses_with clauses lines) hints
+IsEnding vars clauses turns lines trail Spent = (length lines ≡ turns) × NoFinal (clauses_with clauses lines)

@@ -1,0 +1,14 @@
+pub mod Bound
+pub mod Derivation
+pub mod Empty
+pub mod Found
+pub mod Learning
+pub mod Marked
+pub mod Marking
+pub mod Newness
+pub mod Problem
+pub mod Queue
+pub mod Ready
+pub mod Resolved
+pub mod Search
+pub mod Searching

@@ -1,0 +1,196 @@
+ghost use Rattle.std.specs.Prelude.{◌≡◌, ◌+◌, ◌<◌, ◌≤◌, ◌⊎◌, IfOk, OnOk, length, reverse};
+ghost use Rattle.heesch_cdcl.specs.Marking.{AreListed, AreClear};
+ghost use Rattle.heesch_cdcl.specs.Marked.{IsClauseOfMarked, IsLevelIn};
+ghost use Rattle.heesch_cdcl.specs.Ready.{IsReady, IsInUse};
+ghost use Rattle.heesch_cdcl.specs.Resolved.{IsResolving, IsResolved, IsBegun};
+ghost use Rattle.heesch_cnf.specs.Clauses.{IsClause};
+ghost use Rattle.heesch_cnf.specs.Lines.{clauses_with, FinalHolds};
+ghost use Rattle.heesch_trail.specs.State.{level_of};
+ghost use Rattle.heesch_cdcl.specs.Learning.{IsConflict, IsLearnt};
+ghost use Rattle.heesch_cdcl.specs.Searching.{IsSearching};
+
+use crate::assembly::clause_of_marks;
+use crate::marks::Marks;
+use crate::workspace::Workspace;
+use heesch_cnf::{Formula, Hints, Line, Lit, Lits, clause_numbered};
+use heesch_io::{NoMemory, Seq};
+use heesch_trail::Trail;
+use std::alloc::Global;
+
+/// A clause that follows from the conflict, its hints, and the level at which it has one open literal.
+#[derive(Drop)]
+pub struct Learnt {
+    pub clause: Lits,
+    pub hints: Hints,
+    pub back: u32,
+}
+
+/// The variables of the conflict are marked.
+fn begin(
+    formula: &Formula,
+    lines: &[Line],
+    trail: &Trail,
+    conflict: u32,
+    marks: &mut Marks,
+) -> Result<(), NoMemory>
+    requires searching { IsSearching formula.now.vars formula.now.clauses lines.now trail.now }
+    requires conflict { IsConflict trail.now conflict }
+    requires clear { AreClear trail.now.vars marks.old.seen.items marks.old.here.items marks.old.touched.items marks.old.pending }
+    ensures begun { OnOk result (IsBegun trail.now conflict marks.new.seen.items marks.new.here.items marks.new.pending) }
+    ensures listed { AreListed trail.now.vars marks.new.seen.items marks.new.here.items marks.new.touched.items }
+{
+    let clause = clause_numbered(formula, lines, conflict);
+    marks.mark(trail, trail.level(), clause)?;
+    Ok(())
+}
+
+/// The assignment at the place is left out, resolved with its reason where it is marked.
+fn resolve_at(
+    formula: &Formula,
+    lines: &[Line],
+    trail: &Trail,
+    place: usize,
+    marks: &mut Marks,
+    hints: &mut Vec<u32>,
+) -> Result<(), NoMemory>
+    requires searching { IsSearching formula.now.vars formula.now.clauses lines.now trail.now }
+    requires place { place < length trail.now.steps }
+    requires many { (2 ≤ marks.old.pending) ⊎ ((1 ≤ marks.old.pending) × (level_of trail.now.steps ≡ 0)) }
+    requires resolving { IsResolving trail.now (place + 1) marks.old.seen.items marks.old.here.items marks.old.pending (reverse hints.old.items) }
+    requires listed { AreListed trail.now.vars marks.old.seen.items marks.old.here.items marks.old.touched.items }
+    ensures resolving { OnOk result (IsResolving trail.now place marks.new.seen.items marks.new.here.items marks.new.pending (reverse hints.new.items)) }
+    ensures listed { AreListed trail.now.vars marks.new.seen.items marks.new.here.items marks.new.touched.items }
+    ensures one { OnOk result (marks.old.pending ≤ marks.new.pending + 1) }
+{
+    let var = trail.made()[place].var;
+    if !marks.seen[var as usize] {
+        return Ok(());
+    }
+    let Some(reason) = trail.reason_of(var) else {
+        unreachable!()
+    };
+    hints.push(reason).map_err(|_| NoMemory)?;
+    let level = trail.level();
+    marks.mark(trail, level, clause_numbered(formula, lines, reason))?;
+    marks.unmark(trail, level, var);
+    Ok(())
+}
+
+/// Resolves the conflict with the reasons of the latest assignments, until at most `stop` literals of the present level
+/// are left. The hints are those of the resolved clauses, in the order of the assignments.
+fn resolve(
+    alloc: Global,
+    formula: &Formula,
+    lines: &[Line],
+    trail: &Trail,
+    conflict: u32,
+    stop: usize,
+    marks: &mut Marks,
+) -> Result<Hints, NoMemory>
+    requires searching { IsSearching formula.now.vars formula.now.clauses lines.now trail.now }
+    requires conflict { IsConflict trail.now conflict }
+    requires stop { (1 ≤ stop) ⊎ (level_of trail.now.steps ≡ 0) }
+    requires clear { AreClear trail.now.vars marks.old.seen.items marks.old.here.items marks.old.touched.items marks.old.pending }
+    ensures resolved { IfOk result (λ hints. IsResolved trail.now stop marks.new.seen.items marks.new.here.items marks.new.pending hints) }
+    ensures listed { AreListed trail.now.vars marks.new.seen.items marks.new.here.items marks.new.touched.items }
+{
+    begin(formula, lines, trail, conflict, marks)?;
+    let mut hints = Vec::new(alloc);
+    hints.push(conflict).map_err(|_| NoMemory)?;
+    let mut place = trail.made().len();
+    while marks.pending > stop {
+        place -= 1;
+        resolve_at(formula, lines, trail, place, marks, &mut hints)?;
+    }
+    hints.reverse();
+    Ok(Seq::from_vec(hints))
+}
+
+/// A level of the clause below the present one, and the highest of these, or 0.
+fn back_of(trail: &Trail, clause: &[Lit]) -> u32
+    requires form { IsClause trail.now.vars clause.now }
+    requires level { 1 ≤ level_of trail.now.steps }
+    ensures below { result < level_of trail.now.steps }
+    ensures reached { IsLevelIn trail.now.steps clause.now result }
+{
+    let level = trail.level();
+    let mut back = 0;
+    for lit in clause {
+        if let Some(of) = trail.level_of(lit.var) {
+            if back < of && of < level {
+                back = of;
+            }
+        }
+    }
+    back
+}
+
+/// The clause that is learnt from the conflict. The variables that were marked move to the end of the order.
+fn learnt_from(
+    alloc: Global,
+    formula: &Formula,
+    lines: &[Line],
+    trail: &Trail,
+    conflict: u32,
+    work: &mut Workspace,
+) -> Result<Learnt, NoMemory>
+    requires searching { IsSearching formula.now.vars formula.now.clauses lines.now trail.now }
+    requires conflict { IsConflict trail.now conflict }
+    requires level { 1 ≤ level_of trail.now.steps }
+    requires ready { IsReady formula.now.vars work.old }
+    ensures learnt { IfOk result (IsLearnt trail.now) }
+    ensures in_use { IsInUse formula.now.vars work.new }
+{
+    let hints = resolve(alloc, formula, lines, trail, conflict, 1, &mut work.marks)?;
+    work.order.bump_all(&work.marks.touched);
+    let clause = clause_of_marks(alloc, trail, &work.marks)?;
+    let back = back_of(trail, clause.as_slice());
+    Ok(Learnt {
+        clause,
+        hints,
+        back,
+    })
+}
+
+/// The clause that is learnt from a conflict above level 0. The cost is the lengths of the clauses that are resolved, the
+/// assignments of the present level, and the sorting of the clause's variables.
+pub fn analyse(
+    alloc: Global,
+    formula: &Formula,
+    lines: &[Line],
+    trail: &Trail,
+    conflict: u32,
+    work: &mut Workspace,
+) -> Result<Learnt, NoMemory>
+    requires searching { IsSearching formula.now.vars formula.now.clauses lines.now trail.now }
+    requires conflict { IsConflict trail.now conflict }
+    requires level { 1 ≤ level_of trail.now.steps }
+    requires ready { IsReady formula.now.vars work.old }
+    ensures learnt { IfOk result (IsLearnt trail.now) }
+    ensures ready { IsReady formula.now.vars work.new }
+{
+    let learnt = learnt_from(alloc, formula, lines, trail, conflict, work);
+    work.marks.clear(formula.vars);
+    learnt
+}
+
+/// The hints of the final line, from a conflict at level 0.
+pub fn final_hints(
+    alloc: Global,
+    formula: &Formula,
+    lines: &[Line],
+    trail: &Trail,
+    conflict: u32,
+    work: &mut Workspace,
+) -> Result<Hints, NoMemory>
+    requires searching { IsSearching formula.now.vars formula.now.clauses lines.now trail.now }
+    requires conflict { IsConflict trail.now conflict }
+    requires level { level_of trail.now.steps ≡ 0 }
+    requires ready { IsReady formula.now.vars work.old }
+    ensures last { IfOk result (FinalHolds (clauses_with formula.now.clauses lines.now)) }
+    ensures ready { IsReady formula.now.vars work.new }
+{
+    let hints = resolve(alloc, formula, lines, trail, conflict, 0, &mut work.marks);
+    work.marks.clear(formula.vars);
+    hints
+}

@@ -1,0 +1,38 @@
+ghost use Rattle.std.specs.Prelude.{◌≡◌, ◌≤◌, IfOk};
+ghost use Rattle.heesch_cdcl.specs.Marking.{AreListed};
+ghost use Rattle.heesch_cdcl.specs.Marked.{IsClauseOfMarked, falsified};
+
+use crate::marks::Marks;
+use heesch_cnf::{Lit, Lits};
+use heesch_io::{NoMemory, Seq};
+use heesch_trail::Trail;
+use std::alloc::Global;
+
+/// The literal of a variable that its value makes false.
+fn false_literal(trail: &Trail, var: u32) -> Lit
+    requires { var ≤ trail.now.vars }
+    ensures { result ≡ falsified trail.now.steps var }
+{
+    Lit {
+        var,
+        positive: !trail.value(var).unwrap_or(false),
+    }
+}
+
+/// The clause of the marked variables, whose literals are false. They are sorted, since the variables of a clause rise.
+pub fn clause_of_marks(alloc: Global, trail: &Trail, marks: &Marks) -> Result<Lits, NoMemory>
+    requires { AreListed trail.now.vars marks.now.seen.items marks.now.here.items marks.now.touched.items }
+    ensures { IfOk result (IsClauseOfMarked trail.now.vars trail.now.steps marks.now.seen.items) }
+{
+    let mut vars = marks.kept(alloc, trail.vars())?;
+    vars.sort_unstable();
+    let mut clause = Seq::new(alloc);
+    let mut last = 0;
+    for var in &vars {
+        if last < *var {
+            clause.push(false_literal(trail, *var))?;
+            last = *var;
+        }
+    }
+    Ok(clause)
+}

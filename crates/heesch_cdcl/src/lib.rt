@@ -1,0 +1,20 @@
+//! A solver that learns clauses and keeps a log of them.
+#![tactic(auto)]
+
+mod analysis;
+mod assembly;
+mod empty;
+mod filled;
+mod laws;
+mod learning;
+mod marks;
+mod order;
+mod ring;
+mod search;
+mod solver;
+mod values;
+mod workspace;
+
+pub use laws::{clause_is_new, given_is_new, lines_are_few, no_final_line, twelve_variables};
+pub use solver::{Found, Solver};
+pub use values::makes_false;

@@ -1,0 +1,18 @@
+//! Workers claim the numbers below a count, each number once.
+//!
+//! `ClaimCore` is the machine as plain data, and `Board` runs it among threads: whatever the schedule, its word and
+//! the views of its seats show a state of that machine. `specs/Machine.antt` defines the machine, and
+//! `specs/Views.antt` what holds of a board between any two steps, as `MeetsSixPoints`.
+#![tactic(auto)]
+
+mod board;
+mod event;
+mod machine;
+#[cfg(test)]
+mod tests;
+mod view;
+
+pub use board::{Board, Drawn, Seat};
+pub use event::{Event, Told};
+pub use machine::{ClaimCore, every_run_is_sound};
+pub use view::board_is_machine;

@@ -1,0 +1,6 @@
+pub mod Conflict
+pub mod Lists
+pub mod Refuted
+pub mod Reading
+pub mod Rising
+pub mod Sizes

@@ -1,0 +1,30 @@
+pub mod ListFacts
+pub mod CellFacts
+pub mod OrderFacts
+pub mod Computed
+pub mod Growth
+pub mod GridFacts
+pub mod ClauseFacts
+pub mod WindowFacts
+pub mod TileFacts
+pub mod LayerFacts
+pub mod CoronasToModel
+pub mod ModelToCoronas
+pub mod WindowToCoronas
+pub mod IsometryFacts
+pub mod SortFacts
+pub mod PeriodicToWindow
+pub mod Pinned
+pub mod AroundFacts
+pub mod Connected
+pub mod CanonicalFacts
+pub mod GrowthOfLists
+pub mod ReductionFacts
+pub mod TorusFacts
+pub mod Adding
+pub mod NonTilers
+pub mod Images
+pub mod FromDefinitions
+pub mod SymmetryFacts
+mod SmallShapes
+mod WorkedRows

@@ -1,0 +1,48 @@
+-- The order of cells and of cell lists, as tests and as answers of three.
+use Rattle.std.proofs.Common.{◌≡◌, refl, ◌∙◌, arith, ◌&&◌, ◌||◌, List, [], ◌∷◌}
+use Rattle.std.specs.declared.cmp.Ordering.{Ordering}
+use Rattle.std.specs.declared.cmp.Ordering.TheVariants.{Less, Equal, Greater}
+use Rattle.std.specs.Ordering.{is_lt, is_gt, is_eq, ordering_then}
+use Rattle.std.specs.Cmp.Lexicographic.{slice_cmp}
+use Rattle.std.proofs.lemmas.Int.{ints}
+use Rattle.heesch_grid.specs.declared.Cell.{Cell}
+use Rattle.heesch_grid.specs.Cells.{same_cell, cell_before, cell_cmp, cells_before}
+use Rattle.heesch_grid.specs.Integers.{same_truth}
+
+pub cell_less : (c d : Cell) → is_lt (cell_cmp c d) ≡ cell_before c d
+cell_less c d = same_truth (is_lt (cell_cmp c d)) (cell_before c d) (λ h. grind (arith, ints)) (λ h. grind (arith, ints))
+
+pub cell_greater : (c d : Cell) → is_gt (cell_cmp c d) ≡ cell_before d c
+cell_greater c d = same_truth (is_gt (cell_cmp c d)) (cell_before d c) (λ h. grind (arith, ints)) (λ h. grind (arith, ints))
+
+pub cell_equal : (c d : Cell) → is_eq (cell_cmp c d) ≡ same_cell c d
+cell_equal c d = same_truth (is_eq (cell_cmp c d)) (same_cell c d) (λ h. grind (arith, ints)) (λ h. grind (arith, ints))
+
+pub cell_equal_back : (c d : Cell) → is_eq (cell_cmp c d) ≡ same_cell d c
+cell_equal_back c d = same_truth (is_eq (cell_cmp c d)) (same_cell d c) (λ h. grind (arith, ints)) (λ h. grind (arith, ints))
+
+then_less : (o r : Ordering) → is_lt (ordering_then o r) ≡ (is_lt o || (is_eq o && is_lt r))
+then_less Less r = refl
+then_less Equal r = refl
+then_less Greater r = refl
+
+then_greater : (o r : Ordering) → is_gt (ordering_then o r) ≡ (is_gt o || (is_eq o && is_gt r))
+then_greater Less r = refl
+then_greater Equal r = refl
+then_greater Greater r = refl
+
+pub cells_less : (xs ys : List Cell) → is_lt (slice_cmp cell_cmp xs ys) ≡ cells_before xs ys
+cells_less [] [] = refl
+cells_less [] (y ∷ ys) = refl
+cells_less (x ∷ xs) [] = refl
+cells_less (x ∷ xs) (y ∷ ys) =
+    then_less (cell_cmp x y) (slice_cmp cell_cmp xs ys)
+    ∙ (λ i. cell_less x y i || (cell_equal x y i && cells_less xs ys i))
+
+pub cells_greater : (xs ys : List Cell) → is_gt (slice_cmp cell_cmp xs ys) ≡ cells_before ys xs
+cells_greater [] [] = refl
+cells_greater [] (y ∷ ys) = refl
+cells_greater (x ∷ xs) [] = refl
+cells_greater (x ∷ xs) (y ∷ ys) =
+    then_greater (cell_cmp x y) (slice_cmp cell_cmp xs ys)
+    ∙ (λ i. cell_greater x y i || (cell_equal_back x y i && cells_greater xs ys i))

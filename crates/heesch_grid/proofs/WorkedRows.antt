@@ -1,0 +1,94 @@
+-- Worked examples of the formulas, by computation.
+use Rattle.std.proofs.Common.{◌≡◌, ℕ, Bool, true, false, not, cond, refl, List, [], ◌∷◌, map, filter, length, flat_map}
+use Rattle.std.specs.Prelude.{pos, negsuc, ◌+ℤ◌, slice_get, Some}
+use Rattle.heesch_grid.specs.declared.Cell.{Cell}
+use Rattle.heesch_grid.specs.Cells.{cell, cells_before}
+use Rattle.heesch_grid.specs.Geometry.{Geometry, are_touching, image}
+use Rattle.heesch_grid.specs.Placement.{touch}
+use Rattle.heesch_grid.specs.Pattern.{grid_of}
+use Rattle.heesch_grid.specs.Grids.{iamond as iamond_tables}
+use Rattle.heesch_grid.specs.Clauses.{Literals, formula_size}
+use Rattle.heesch_grid.specs.CoronaFormula.{Variable, corona_clauses}
+use Rattle.heesch_grid.specs.TorusFormula.{torus_clauses}
+use Rattle.heesch_grid.proofs.Computed.{window}
+use Rattle.heesch_grid.proofs.SortFacts.{sorted, placed_in}
+use Rattle.heesch_grid.proofs.AroundFacts.{cells_around}
+use Rattle.heesch_grid.specs.Examples.{square, ring}
+
+abbrev iamond : Geometry
+iamond = grid_of iamond_tables
+
+-- literals as a number with a sign
+abbrev signed : Literals (ℕ × Bool)
+signed = record {
+  plus = λ n. (n, true);
+  minus = λ n. (n, false);
+  holds = λ values l. cond l.1 (values l.0) (not (values l.0));
+  plus_holds = λ values n. refl;
+  minus_holds = λ values n. refl;
+}
+
+-- ---- the domino at level 1: 24 variables, 52 clauses, 118 literals, and clause 1 is `1 5 6 7`
+
+abbrev domino : List Cell
+domino = cell (pos 0) (pos 0) ∷ cell (pos 1) (pos 0) ∷ []
+
+abbrev put_tile : List Cell → List (List Cell) → List (List Cell)
+put_tile t [] = t ∷ []
+put_tile t (s ∷ ts) = cond (cells_before t s) (t ∷ s ∷ ts) (s ∷ put_tile t ts)
+
+abbrev sorted_tiles : List (List Cell) → List (List Cell)
+sorted_tiles [] = []
+sorted_tiles (t ∷ ts) = put_tile t (sorted_tiles ts)
+
+abbrev dominoes : List (List Cell)
+dominoes = flat_map (λ c. (c ∷ cell (c.a +ℤ pos 1) c.b ∷ []) ∷ (c ∷ cell c.a (c.b +ℤ pos 1) ∷ []) ∷ []) (window 3)
+
+abbrev domino_variables : List Variable
+domino_variables = map (λ t. record { level = 1; tile = t }) (sorted_tiles (filter (touch square domino) dominoes))
+
+domino_variable_count : length domino_variables ≡ 24
+domino_variable_count = refl
+
+abbrev domino_clauses : List (List (ℕ × Bool))
+domino_clauses = corona_clauses signed square (cells_around square) domino 1 domino_variables
+
+domino_clause_count : length domino_clauses ≡ 52
+unfolding sorted placed_in
+domino_clause_count = refl
+
+domino_size : formula_size domino_clauses ≡ 118
+unfolding sorted placed_in
+domino_size = refl
+
+domino_clause_1 : slice_get domino_clauses 0 ≡ Some ((1, true) ∷ (5, true) ∷ (6, true) ∷ (7, true) ∷ [])
+unfolding sorted placed_in
+domino_clause_1 = refl
+
+-- ---- the single iamond at level 1: 12 variables and 12 literals
+
+abbrev up : Cell
+up = cell (pos 1) (pos 1)
+
+abbrev iamond_variables : List Variable
+iamond_variables = map (λ c. record { level = 1; tile = c ∷ [] }) (filter (are_touching iamond up) (window 5))
+
+iamond_size : formula_size (corona_clauses signed iamond (cells_around iamond) (up ∷ []) 1 iamond_variables) ≡ 12
+unfolding sorted placed_in
+iamond_size = refl
+
+-- ---- the ring of seven cells: its centre is the ninth cell around it
+
+ring_centre : slice_get (cells_around square ring) 8 ≡ Some (cell (pos 1) (pos 1))
+unfolding sorted placed_in
+ring_centre = refl
+
+-- ---- the symmetry with turn 1 that takes the iamond 1,1 to its image under the half-turn
+
+iamond_by : image iamond (record { turn = 1; da = pos 0; db = negsuc 0 }) (image iamond (record { turn = 0; da = pos 0; db = pos 0 }) (up ∷ [])) ≡ image iamond (record { turn = 3; da = pos 0; db = pos 0 }) (up ∷ [])
+iamond_by = refl
+
+-- ---- the torus formula of the single iamond for (1, 1, 0)
+
+iamond_torus : torus_clauses signed (up ∷ cell (pos 2) (pos 2) ∷ []) ((up ∷ []) ∷ (cell (pos 2) (pos 2) ∷ []) ∷ []) ≡ ((1, true) ∷ []) ∷ ((2, true) ∷ []) ∷ []
+iamond_torus = refl

@@ -1,0 +1,12 @@
+-- The grids by their names.
+use Rattle.heesch_grid.specs.declared.GridName.{GridName}
+use Rattle.heesch_grid.specs.declared.GridName.TheVariants.{Square, Hex, Iamond}
+use Rattle.heesch_grid.specs.Geometry.{Geometry}
+use Rattle.heesch_grid.specs.Grids.{square, hex, iamond}
+use Rattle.heesch_grid.specs.Pattern.{grid_of}
+
+-- the grid of a name
+abbrev pub geometry_of : GridName → Geometry
+geometry_of Square = grid_of square
+geometry_of Hex = grid_of hex
+geometry_of Iamond = grid_of iamond

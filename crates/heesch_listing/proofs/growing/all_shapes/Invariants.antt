@@ -1,0 +1,5 @@
+use Rattle.heesch_grid.specs.Polyform.{IsFreeList}
+use Rattle.heesch_listing.proofs.growing.all_shapes.Given as goal
+
+abbrev pub invariant-loop-size : goal.invariant-loop-size
+invariant-loop-size g l = IsFreeList g.G.Grid.geometry l._size l.shapes.items

@@ -1,0 +1,67 @@
+ghost use Rattle.std.specs.Prelude.{◌≡◌, ◌≤◌, [], ◌∷◌, IfOk, IsTrue};
+ghost use Rattle.heesch_grid.specs.Cells.{cells_before};
+ghost use Rattle.heesch_grid.specs.Listing.{ListsExactly};
+ghost use Rattle.heesch_grid.specs.Polyform.{IsFreeList};
+ghost use Rattle.heesch_grow.specs.Adds.{IsGrownFromSome};
+ghost use Rattle.heesch_listing.specs.Parts.{are_small};
+
+use crate::parts::{ChildrenOf, PART};
+use heesch_grid::Grid;
+use heesch_grow::first;
+use heesch_io::NoMemory;
+use heesch_merge::merge_all;
+use heesch_pool::{Gate, Job, run_all};
+use heesch_shape::Shape;
+use std::alloc::Global;
+use std::thread::Threads;
+
+/// The free list of a size: the canonical shapes of all polyforms of n cells, each once, in strictly rising order.
+/// It is the same list for every number of workers.
+///
+/// Each size is grown from the one before: one job with a ticket for each 64 consecutive parents, whose lists of
+/// children are merged. A list of 2^32 shapes or more counts as want of memory.
+pub fn all_shapes<G: Grid + Send + Sync, T: Threads + Sync, H: Gate + Sync>(
+    rt: &T,
+    alloc: Global,
+    n: u32,
+    workers: u32,
+    gate: &H,
+) -> Result<Vec<Shape<G>>, NoMemory>
+    requires size { (1 ≤ n) × (n ≤ 32) }
+    requires workers { (1 ≤ workers) × (workers ≤ 64) }
+    ensures { IfOk result (λ shapes. IsFreeList G.geometry n shapes.items) }
+{
+    let mut shapes = alone(alloc, first::<G>())?;
+    for _size in 1..n {
+        shapes = grown(rt, alloc, &shapes, workers, gate)?;
+    }
+    Ok(shapes)
+}
+
+/// The list of one shape.
+fn alone<G: Grid>(alloc: Global, shape: Shape<G>) -> Result<Vec<Shape<G>>, NoMemory>
+    ensures { IfOk result (λ shapes. shapes.items ≡ shape ∷ []) }
+{
+    let mut shapes = Vec::new(alloc);
+    shapes.push(shape)?;
+    Ok(shapes)
+}
+
+/// The strictly rising list of what is grown from some of the parents.
+fn grown<G: Grid + Send + Sync, T: Threads + Sync, H: Gate + Sync>(
+    rt: &T,
+    alloc: Global,
+    parents: &[Shape<G>],
+    workers: u32,
+    gate: &H,
+) -> Result<Vec<Shape<G>>, NoMemory>
+    requires small { IsTrue (are_small parents.now) }
+    requires workers { (1 ≤ workers) × (workers ≤ 64) }
+    ensures { IfOk result (λ made. ListsExactly cells_before (IsGrownFromSome G.geometry parents.now) made.items) }
+{
+    let Ok(count) = u32::try_from(parents.len().div_ceil(PART)) else {
+        return Err(NoMemory);
+    };
+    let job = Job::new(ChildrenOf { alloc, parents }, count);
+    merge_all(alloc, run_all(rt, alloc, &job, workers, gate)?)
+}

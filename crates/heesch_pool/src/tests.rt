@@ -1,0 +1,148 @@
+use crate::{Answer, Gate, Job, Open, run_all, run_span, work};
+use heesch_claims::Board;
+use heesch_io::NoMemory;
+use std::sync::atomic::{AtomicU64, Ordering};
+use std::test::Fail;
+use std::thread;
+
+/// Answers the half of each number, but for one that it refuses.
+#[derive(Drop)]
+struct Halves {
+    refused: Option<u32>,
+}
+
+impl Answer<u32> for Halves {
+    ghost use Rattle.std.specs.Prelude.{true, IfOk, ◌≡◌, ◌/◌};
+
+    ghost accepts = { λ _ _. true };
+
+    ghost gives = { λ _ i r. IfOk r (λ x. x ≡ i / 2) };
+
+    fn answer(&self, number: u32) -> Result<u32, NoMemory> {
+        if self.refused == Some(number) {
+            return Err(NoMemory);
+        }
+        Ok(number / 2)
+    }
+}
+
+/// Holds one ticket until so many others have passed, for so many turns at most.
+struct Hold {
+    held: u32,
+    others: u64,
+    turns: u64,
+    passed: AtomicU64,
+    expired: AtomicU64,
+}
+
+impl Hold {
+    fn new(held: u32, others: u64, turns: u64) -> Hold {
+        Hold {
+            held,
+            others,
+            turns,
+            passed: AtomicU64::new(0),
+            expired: AtomicU64::new(0),
+        }
+    }
+
+    fn has_expired(&self) -> bool {
+        self.expired.load(Ordering::SeqCst) != 0
+    }
+}
+
+impl Gate for Hold {
+    fn pass(&self, _worker: u32, ticket: u32) {
+        if ticket != self.held {
+            self.passed.fetch_add(1, Ordering::SeqCst);
+            return;
+        }
+        for _ in 0..self.turns {
+            if self.passed.load(Ordering::SeqCst) >= self.others {
+                return;
+            }
+            thread::yield_now();
+        }
+        self.expired.store(1, Ordering::SeqCst);
+    }
+}
+
+impl Drop for Hold {
+    fn drop(self) {
+        let Self {
+            held: _,
+            others: _,
+            turns: _,
+            passed: _,
+            expired: _,
+        } = self;
+    }
+}
+
+/// Long enough for any thread to come to its turn.
+const TURNS: u64 = 200_000_000;
+
+#[test]
+fn two_workers_run_at_once(rt: HostRuntime) -> Result<(), Fail> {
+    let job = Job::new(Halves { refused: None }, 2);
+    let gate = Hold::new(0, 1, TURNS);
+    let items = run_all(&rt, rt.alloc(), &job, 2, &gate)?;
+    assert!(rt; items.as_slice() == [0, 0].as_slice());
+    assert!(rt; !gate.has_expired());
+    Ok(())
+}
+
+/// One worker claims ticket 0 first, and no other ticket passes while it is held.
+#[test]
+fn one_worker_lets_the_gate_expire(rt: HostRuntime) -> Result<(), Fail> {
+    let job = Job::new(Halves { refused: None }, 2);
+    let gate = Hold::new(0, 1, 1_000);
+    let items = run_all(&rt, rt.alloc(), &job, 1, &gate)?;
+    assert!(rt; items.as_slice() == [0, 0].as_slice());
+    assert!(rt; gate.has_expired());
+    Ok(())
+}
+
+#[test]
+fn workers_claim_as_they_come_free(rt: HostRuntime) -> Result<(), Fail> {
+    let job = Job::new(Halves { refused: None }, 8);
+    for held in 0..8 {
+        let gate = Hold::new(held, 7, TURNS);
+        let items = run_all(&rt, rt.alloc(), &job, 2, &gate)?;
+        assert!(rt; items.as_slice() == [0, 0, 1, 1, 2, 2, 3, 3].as_slice());
+        assert!(rt; !gate.has_expired(), "ticket {held}");
+    }
+    Ok(())
+}
+
+#[test]
+fn a_refusal_of_one_ticket_refuses_all(rt: HostRuntime) -> Result<(), Fail> {
+    let job = Job::new(Halves { refused: Some(5) }, 8);
+    for workers in [1, 3, 8] {
+        assert!(rt;
+            run_all(&rt, rt.alloc(), &job, workers, &Open).is_err(),
+            "{workers} workers"
+        );
+    }
+    Ok(())
+}
+
+#[test]
+fn a_span_begins_where_it_is_told(rt: HostRuntime) -> Result<(), Fail> {
+    let job = Job::new(Halves { refused: None }, 10);
+    let items = run_span(&rt, rt.alloc(), &job, 4, 9, 3, &Open)?;
+    assert!(rt; items.as_slice() == [2, 2, 3, 3, 4].as_slice());
+    assert!(rt; run_span(&rt, rt.alloc(), &job, 9, 9, 64, &Open)?.is_empty());
+    Ok(())
+}
+
+#[test]
+fn one_seat_claims_in_order(rt: HostRuntime) -> Result<(), Fail> {
+    let job = Job::new(Halves { refused: None }, 3);
+    let (board, mut seat) = Board::new(rt.alloc(), 3)?;
+    let pairs = work(rt.alloc(), &job, 0, &board, &mut seat, 0, &Open)?;
+    assert!(rt; pairs.as_slice() == [(0, 0), (1, 0), (2, 1)].as_slice());
+    let drawn = board.close(seat);
+    assert!(rt; drawn.shares == 64 && drawn.ended);
+    Ok(())
+}

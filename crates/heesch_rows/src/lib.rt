@@ -1,0 +1,7 @@
+//! Rows that the program must write, and what its crates must answer together. There are tests here alone.
+#![tactic(auto)]
+
+#[cfg(test)]
+mod lists;
+#[cfg(test)]
+mod solver;

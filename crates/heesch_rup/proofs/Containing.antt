@@ -1,0 +1,138 @@
+use Rattle.std.proofs.Common.{inl, inr, ◌≡◌, ℕ, zero, suc, ◌+◌, ◌<◌, ◌≤◌, Bool, true, false, not, cond, eqb, None, Some, List, [], ◌∷◌, ◌++◌, length, get_or, take, IsTrue, ◌↔◌, MatchBool, sym, ap, ◌∙◌, subst, refl, arith, get_or-take, length-take-le}
+use Rattle.std.specs.List.{Contains}
+use Rattle.std.proofs.Math.Seq.{take-append-add}
+use Rattle.std.proofs.lemmas.Bool.{cases_lt}
+use Rattle.std.proofs.lemmas.Bool.Decides.{Decides-eqb}
+use Rattle.std.proofs.lemmas.List.{get_or_default}
+use Rattle.std.proofs.lemmas.List.Elements.{All-head, All-weaker, All-contains}
+use Rattle.heesch_cnf.specs.declared.literal.Lit.{Lit}
+use Rattle.heesch_cnf.specs.declared.log.Line.{Line}
+use Rattle.heesch_cnf.specs.Literals.{Values, lit_value, signed}
+use Rattle.heesch_cnf.specs.Clauses.{IsClause, IsNew, IsWithin}
+use Rattle.heesch_cnf.specs.Lines.{refuting, clause_of, clauses_of, clauses_with, LinesAreNew}
+use Rattle.heesch_cnf.proofs.Lists.{Contains-none, Contains-here, Contains-there, Contains-cases}
+use Rattle.heesch_cnf.proofs.Rising.{Rises, Rises-from_adjacent}
+use Rattle.heesch_rup.specs.Listed.{lit_slot, slot_of, IsFalsified, SomeFalsified, NoneFalsifiedAt}
+
+same_literal : (x l : Lit) → x.var ≡ l.var → signed l.positive (Some (not x.positive)) ≡ Some false → x ≡ l
+same_literal x l var e = ap (λ (n : ℕ). record x { var = n }) var ∙ ap (λ (b : Bool). record l { positive = b }) (by_signs x.positive l.positive e)
+  where
+    by_signs : (p q : Bool) → signed q (Some (not p)) ≡ Some false → p ≡ q
+    by_signs true true e = refl
+    by_signs true false e = absurd (let bad : true ≡ false = cc in cc)
+    by_signs false true e = absurd (let bad : true ≡ false = cc in cc)
+    by_signs false false e = refl
+
+-- what is false under the values that refute a clause is one of its literals
+false_contains : (clause : List Lit) (l : Lit) → lit_value (refuting clause) l ≡ Some false → Contains clause l
+false_contains [] l e = absurd (open_ l.positive e)
+  where
+    open_ : (p : Bool) → signed p None ≡ Some false → ⊥
+    open_ true e = let bad : None ≡ Some false = e in cc
+    open_ false e = let bad : None ≡ Some false = e in cc
+false_contains (x ∷ xs) l e = by_test (eqb x.var l.var) ((Decides-eqb x.var l.var).0) (λ rest. false_contains xs l rest) e
+  where
+    by_test : (t : Bool) → (t ≡ true → x.var ≡ l.var) → (lit_value (refuting xs) l ≡ Some false → Contains xs l) →
+        signed l.positive (cond t (Some (not x.positive)) (refuting xs l.var)) ≡ Some false → Contains (x ∷ xs) l
+    by_test true same later e = subst (λ m. Contains (x ∷ xs) m) (same_literal x l (same refl) e) (Contains-here x xs)
+    by_test false same later e = Contains-there x xs l (later e)
+
+-- each literal of a clause is false under the values that refute it
+contains_false : (clause : List Lit) (l : Lit) → Rises clause → Contains clause l → lit_value (refuting clause) l ≡ Some false
+contains_false [] l rises has = absurd (Contains-none l has)
+contains_false (x ∷ xs) l rises has = elim (Contains-cases x xs l has) [
+  | inl same ↦ subst (λ m. lit_value (refuting (x ∷ xs)) m ≡ Some false) same (here (eqb x.var x.var) ((Decides-eqb x.var x.var).1 refl) x.positive)
+  | inr there ↦
+      let above : x.var < l.var = All-contains (λ (y : Lit). x.var < y.var) xs l rises.0 there in
+      later (eqb x.var l.var) ((Decides-eqb x.var l.var).0) above (contains_false xs l rises.1 there)
+]
+  where
+    here : (t : Bool) → t ≡ true → (p : Bool) → signed p (cond t (Some (not p)) (refuting xs x.var)) ≡ Some false
+    here true e true = refl
+    here true e false = refl
+    here false e p = absurd (let bad : false ≡ true = e in cc)
+
+    later : (t : Bool) → (t ≡ true → x.var ≡ l.var) → x.var < l.var → lit_value (refuting xs) l ≡ Some false →
+        signed l.positive (cond t (Some (not x.positive)) (refuting xs l.var)) ≡ Some false
+    later true same above e = let equal : x.var ≡ l.var = same refl in absurd (omega arith)
+    later false same above e = e
+
+-- the values that refute a clause make just those clauses false that it contains
+pub falsified_within : (vars : ℕ) (earlier clause : List Lit) → IsClause vars clause → IsWithin earlier clause → IsFalsified (refuting clause) earlier
+falsified_within vars earlier clause form within =
+    All-weaker (Contains clause) (λ l. lit_value (refuting clause) l ≡ Some false) (λ l has. contains_false clause l (Rises-from_adjacent clause form.rising) has) earlier within
+
+pub within_falsified : (earlier clause : List Lit) → IsFalsified (refuting clause) earlier → IsWithin earlier clause
+within_falsified earlier clause falsified =
+    All-weaker (λ l. lit_value (refuting clause) l ≡ Some false) (Contains clause) (λ l e. false_contains clause l e) earlier falsified
+
+-- a clause is new among the first n exactly where it contains none of them, place by place
+IsNew-from : (clauses : List (List Lit)) (n : ℕ) (clause : List Lit) → n ≤ length clauses → ((k : ℕ) → k < n → IsWithin (get_or clauses k []) clause → ⊥) → IsNew (take n clauses) clause
+IsNew-from clauses n clause le none k d lt =
+    let below : k < n = omega (arith, lt, length-take-le n clauses le) in
+    subst (λ e. IsWithin e clause → ⊥) (sym (get_or-take n clauses k d below ∙ get_or_default clauses k d [] (omega arith))) (none k below)
+
+IsNew-at : (clauses : List (List Lit)) (n : ℕ) (clause : List Lit) → n ≤ length clauses → IsNew (take n clauses) clause → (k : ℕ) → k < n → IsWithin (get_or clauses k []) clause → ⊥
+IsNew-at clauses n clause le fresh k below =
+    subst (λ e. IsWithin e clause → ⊥) (get_or-take n clauses k [] below) (fresh k [] (omega (arith, length-take-le n clauses le)))
+
+-- where no clause of the empty clause's slot, nor of a slot of a literal of the clause, is falsified, the clause is new
+pub new_when_none : (vars : ℕ) (values : Values) (clauses : List (List Lit)) (n : ℕ) (clause : List Lit) → values ≡ refuting clause → IsClause vars clause → n ≤ length clauses →
+    NoneFalsifiedAt values clauses n 0 → ((j : ℕ) (d : Lit) → j < length clause → NoneFalsifiedAt values clauses n (lit_slot (get_or clause j d))) → IsNew (take n clauses) clause
+new_when_none vars values clauses n clause is form le none_empty none = IsNew-from clauses n clause le (λ k lt. by_form k lt (get_or clauses k []) refl)
+  where
+    falsified : (e : List Lit) → IsWithin e clause → IsFalsified values e
+    falsified e within = subst (λ (v : Values). IsFalsified v e) (sym is) (falsified_within vars e clause form within)
+
+    by_form : (k : ℕ) → k < n → (e : List Lit) → get_or clauses k [] ≡ e → IsWithin e clause → ⊥
+    by_form k lt [] at within = none_empty k lt (ap slot_of at) (subst (IsFalsified values) (sym at) (falsified [] within))
+    by_form k lt (l ∷ ls) at within =
+        let has = All-head (Contains clause) l ls within in
+        let slot = ap slot_of at ∙ ap lit_slot (sym has.2) in
+        none has.0 l has.1 k lt slot (subst (IsFalsified values) (sym at) (falsified (l ∷ ls) within))
+
+-- a falsified clause among the first n lies within the clause
+pub not_new_when_some : (values : Values) (clauses : List (List Lit)) (n : ℕ) (clause : List Lit) → values ≡ refuting clause → n ≤ length clauses → SomeFalsified values clauses n → IsNew (take n clauses) clause → ⊥
+not_new_when_some values clauses n clause is le some fresh =
+    IsNew-at clauses n clause le fresh some.0 some.1.0 (within_falsified (get_or clauses some.0 []) clause (subst (λ (v : Values). IsFalsified v (get_or clauses some.0 [])) is some.1.1))
+
+-- the answer, turned
+pub new_by_cases : (contains : Bool) (Some_ New : Type 0) → MatchBool contains Some_ New → (Some_ → New → ⊥) → IsTrue (not contains) ↔ New
+new_by_cases true Some_ New h apart = (λ e. absurd (let bad : false ≡ true = e in cc), λ fresh. absurd (apart h fresh))
+new_by_cases false Some_ New h apart = (λ e. h, λ fresh. refl)
+
+-- the first clauses of the formula and the lines are those of the formula and the first lines
+take-map : (i : ℕ) (lines : List Line) → take i (clauses_of lines) ≡ clauses_of (take i lines)
+take-map zero lines = refl
+take-map (suc i) [] = refl
+take-map (suc i) (x ∷ xs) = ap (λ cs. clause_of x ∷ cs) (take-map i xs)
+
+pub take-clauses_with : (clauses : List (List Lit)) (lines : List Line) (n i : ℕ) → n ≡ length clauses + i → take n (clauses_with clauses lines) ≡ clauses_with clauses (take i lines)
+take-clauses_with clauses lines n i is =
+    ap (λ m. take m (clauses_with clauses lines)) is ∙ take-append-add clauses (clauses_of lines) i ∙ ap (λ cs. clauses ++ cs) (take-map i lines)
+
+-- one line more is new
+pub fresh_more : (clauses : List (List Lit)) (lines : List Line) (i : ℕ) (x : Line) → i < length lines → x ≡ get_or lines i x →
+    ((k : ℕ) (d : Line) → k < i → IsNew (clauses_with clauses (take k lines)) (clause_of (get_or lines k d))) → IsNew (clauses_with clauses (take i lines)) (clause_of x) →
+    (k : ℕ) (d : Line) → k < i + 1 → IsNew (clauses_with clauses (take k lines)) (clause_of (get_or lines k d))
+fresh_more clauses lines i x lt is before here k d below = elim (cases_lt k i) [
+  | inl less ↦ before k d less
+  | inr past ↦
+      let same : i ≡ k = omega arith in
+      subst (λ n. IsNew (clauses_with clauses (take n lines)) (clause_of (get_or lines n d))) same
+      (subst (λ y. IsNew (clauses_with clauses (take i lines)) (clause_of y)) (is ∙ get_or_default lines i x d lt) here)
+]
+
+-- that a line is new, among the first n clauses of the formula and the lines, and among those before it
+pub fresh_line : (clauses : List (List Lit)) (lines : List Line) (n i : ℕ) (x : Line) (clause : List Lit) → n ≡ length clauses + i → clause ≡ clause_of x →
+    IsNew (take n (clauses_with clauses lines)) clause → IsNew (clauses_with clauses (take i lines)) (clause_of x)
+fresh_line clauses lines n i x clause n_is is fresh =
+    subst (λ (cs : List (List Lit)). IsNew cs (clause_of x)) (take-clauses_with clauses lines n i n_is) (subst (λ (c : List Lit). IsNew (take n (clauses_with clauses lines)) c) is fresh)
+
+pub line_of_new : (clauses : List (List Lit)) (lines all : List Line) (n i : ℕ) (x : Line) (clause : List Lit) → lines ≡ all → n ≡ length clauses + i → clause ≡ clause_of x → x ≡ get_or lines i x →
+    i < length lines → LinesAreNew clauses all → IsNew (take n (clauses_with clauses lines)) clause
+line_of_new clauses lines all n i x clause same n_is is at lt fresh =
+    let here = subst (λ (ls : List Line). LinesAreNew clauses ls) (sym same) fresh i x lt in
+    let there = subst (λ (y : Line). IsNew (clauses_with clauses (take i lines)) (clause_of y)) (sym at) here in
+    subst (λ (c : List Lit). IsNew (take n (clauses_with clauses lines)) c) (sym is)
+    (subst (λ (cs : List (List Lit)). IsNew cs (clause_of x)) (sym (take-clauses_with clauses lines n i n_is)) there)

@@ -1,0 +1,4 @@
+pub mod Answer
+pub mod Assigned
+pub mod Listed
+pub mod Status

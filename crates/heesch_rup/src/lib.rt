@@ -1,0 +1,15 @@
+//! The check of a log, line by line, and whether its lines are new. It shares no code with the solver.
+#![tactic(auto)]
+
+mod assignment;
+mod check;
+mod hints;
+mod newness;
+mod numbers;
+mod occurrences;
+mod status;
+#[cfg(test)]
+mod tests;
+
+pub use check::{LogAnswer, check_log};
+pub use newness::all_new;

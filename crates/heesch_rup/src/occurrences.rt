@@ -1,0 +1,97 @@
+ghost use Rattle.std.specs.Prelude.{◌≡◌, ◌+◌, ◌*◌, ◌<◌, ◌≤◌, List, length, IfOk, OnOk, MatchBool, vec_len};
+ghost use Rattle.heesch_cnf.specs.declared.literal.Lit.{Lit};
+ghost use Rattle.heesch_cnf.specs.Literals.{held};
+ghost use Rattle.heesch_cnf.specs.Clauses.{AreClauses};
+ghost use Rattle.heesch_cnf.specs.Lines.{clauses_with};
+ghost use Rattle.heesch_rup.specs.Listed.{lit_slot, slot_of, ListsFirst, SomeFalsified, NoneFalsifiedAt};
+
+use crate::assignment::Assignment;
+use crate::numbers::clause_at;
+use crate::status::is_falsified;
+use heesch_cnf::{Formula, Line, Lit};
+use heesch_io::NoMemory;
+use std::alloc::Global;
+
+/// The slot of a literal: two for each variable, the negative literal's first.
+pub fn lit_slot(lit: Lit) -> usize
+    ensures { result ≡ lit_slot lit }
+{
+    2 * lit.var as usize + usize::from(lit.positive)
+}
+
+/// The slot at which a clause is listed: that of its first literal, or 0 for the empty clause.
+pub fn slot_of(clause: &[Lit]) -> usize
+    ensures { result ≡ slot_of clause.now }
+{
+    match clause {
+        [] => 0,
+        [lit, ..] => lit_slot(*lit),
+    }
+}
+
+/// Clauses by their first literal. A clause contains another only if it has that one's first literal, so few have to be compared.
+#[derive(Drop)]
+pub struct Occurrences {
+    /// For each slot, the place of its last clause.
+    pub last: Vec<Option<usize>>,
+    /// For each clause, the place of the one before it at the same slot.
+    pub earlier: Vec<Option<usize>>,
+}
+
+impl Occurrences {
+    /// No clauses yet, and slots for the literals of the variables 1 to `vars`.
+    pub fn new(alloc: Global, vars: u32) -> Result<Occurrences, NoMemory>
+        ensures room { IfOk result (λ o. vec_len o.last ≡ 2 * vars + 2) }
+        ensures none { IfOk result (λ o. vec_len o.earlier ≡ 0) }
+        ensures lists { IfOk result (λ o. (clauses : List (List Lit)) → ListsFirst clauses o) }
+    {
+        Ok(Occurrences {
+            last: vec![in alloc; None; 2 * vars as usize + 2]?,
+            earlier: Vec::new(alloc),
+        })
+    }
+
+    /// Lists the next clause of the formula and the lines. It takes a step, and the cost of a `Vec::push`.
+    pub fn list_next(&mut self, formula: &Formula, lines: &[Line]) -> Result<(), NoMemory>
+        requires room { 2 * formula.now.vars + 1 < vec_len self.old.last }
+        requires form { AreClauses formula.now.vars (clauses_with formula.now.clauses lines.now) }
+        requires more { vec_len self.old.earlier < length (clauses_with formula.now.clauses lines.now) }
+        requires lists { ListsFirst (clauses_with formula.now.clauses lines.now) self.old }
+        ensures room { vec_len self.new.last ≡ vec_len self.old.last }
+        ensures count { OnOk result (vec_len self.new.earlier ≡ vec_len self.old.earlier + 1) }
+        ensures lists { OnOk result (ListsFirst (clauses_with formula.now.clauses lines.now) self.new) }
+    {
+        let place = self.earlier.len();
+        let slot = slot_of(clause_at(formula, lines, place));
+        self.earlier.push(self.last[slot])?;
+        self.last[slot] = Some(place);
+        Ok(())
+    }
+
+    /// Whether a listed clause of this slot has all its literals false. It reads the clauses of the slot.
+    pub fn any_falsified(
+        &self,
+        assignment: &Assignment,
+        formula: &Formula,
+        lines: &[Line],
+        slot: usize,
+    ) -> bool
+        requires slot { slot < vec_len self.now.last }
+        requires room { formula.now.vars < vec_len assignment.now.values }
+        requires form { AreClauses formula.now.vars (clauses_with formula.now.clauses lines.now) }
+        requires lists { ListsFirst (clauses_with formula.now.clauses lines.now) self.now }
+        ensures { let clauses = clauses_with formula.now.clauses lines.now in
+            let values = held assignment.now.values.items in
+            let count = vec_len self.now.earlier in
+            MatchBool result (SomeFalsified values clauses count) (NoneFalsifiedAt values clauses count slot) }
+    {
+        let mut next = self.last[slot];
+        while let Some(place) = next {
+            if is_falsified(assignment, clause_at(formula, lines, place)) {
+                return true;
+            }
+            next = self.earlier[place];
+        }
+        false
+    }
+}

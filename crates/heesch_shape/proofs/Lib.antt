@@ -1,0 +1,13 @@
+pub mod Words
+pub mod Sets
+pub mod Forms
+pub mod Loops
+pub mod Normal
+pub mod Best
+pub mod Reached
+pub mod Parting
+pub mod Made
+pub mod Added
+pub mod Near
+pub mod Single
+pub mod Faultless

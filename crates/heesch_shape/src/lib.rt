@@ -1,0 +1,16 @@
+//! Polyforms of at most 32 cells.
+#![tactic(auto)]
+
+mod faults;
+mod lists;
+mod places;
+mod reach;
+mod shapes;
+
+pub use faults::ShapeFault;
+pub use lists::CELLS_MAX;
+pub use reach::is_next_to;
+pub use shapes::Shape;
+
+#[cfg(test)]
+mod tests;

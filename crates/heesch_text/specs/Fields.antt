@@ -1,0 +1,18 @@
+-- The text of each field of a line: integers are decimal, and words are separated by single spaces.
+use Rattle.std.specs.Prelude.{ℕ, List, [], ◌∷◌, ◌++◌, codes}
+use Rattle.std.specs.Fmt.{signed_decimal}
+use Rattle.std.specs.List.{flat_map}
+use Rattle.heesch_grid.specs.declared.Cell.{Cell}
+
+-- each item behind a space
+abbrev pub spaced : {X : Type 0} → (X → List ℕ) → List X → List ℕ
+spaced text items = flat_map (λ x. codes " " ++ text x) items
+
+-- `A,B`, two integers
+abbrev pub cell_text : Cell → List ℕ
+cell_text c = signed_decimal c.a ++ codes "," ++ signed_decimal c.b
+
+-- the cells, with single spaces between them
+abbrev pub cells_text : List Cell → List ℕ
+cells_text [] = []
+cells_text (c ∷ cells) = cell_text c ++ spaced cell_text cells

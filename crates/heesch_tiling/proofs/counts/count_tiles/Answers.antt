@@ -1,0 +1,34 @@
+use Rattle.std.proofs.Common.{◌≡◌, ◌<◌, ◌≤◌, ◌*◌, suc, List, length, take, get_or, sym, ap, subst, arith}
+use Rattle.std.proofs.lemmas.List.{length-take-le}
+use Rattle.std.proofs.Math.Nat.{mul-le-mul_left}
+use Rattle.heesch_grid.specs.declared.Cell.{Cell}
+use Rattle.heesch_grid.specs.Tiling.{no_move}
+use Rattle.heesch_tiling.specs.Counting.{residues, tile_residues, in_window, AreCounts}
+use Rattle.heesch_tiling.proofs.Steps.{residues_more, residues_length}
+use Rattle.heesch_tiling.proofs.Tallies.{times_few, then_counts}
+use Rattle.heesch_tiling.proofs.counts.count_tiles.Goals as goal
+
+pub count_tile-requires-clause-room : goal.count_tile-requires-clause-room
+count_tile-requires-clause-room g c =
+    let geometry = g.G.Grid.geometry in
+    let t = c.args.triple in
+    let i = c.loop-by.by-index in
+    let n = length c.args.cells.now in
+    let so_far = residues_length geometry c.args.cells.now t (take i c.args.places.now) in
+    let places : length (take i c.args.places.now) ≡ i = length-take-le i c.args.places.now (omega (arith, c.loop-by-test.true)) in
+    let product = ap (λ k. n * k) places in
+    let all : n * suc i ≤ n * length c.args.places.now = mul-le-mul_left n c.loop-by-test.true in
+    λ k less.
+    let count = c.loop-by.invariant.each k (subst (λ m. k < m) c.loop-by.invariant.all less) in
+    let few = times_few (residues geometry c.args.cells.now t (take i c.args.places.now)) (in_window geometry t k) in
+    omega (arith, count, few, so_far, product, all, c.requires.few)
+
+pub loop-by-preserved : goal.loop-by-preserved
+loop-by-preserved g c =
+    let geometry = g.G.Grid.geometry in
+    let t = c.args.triple in
+    let cells = c.args.cells.now in
+    let places = c.args.places.now in
+    let i = c.loop-by.by-index in
+    subst (λ (xs : List Cell). AreCounts geometry t xs c.count_tile.new.counts) (sym (residues_more geometry cells t places i no_move c.loop-by-test.true))
+    (then_counts geometry t (residues geometry cells t (take i places)) (tile_residues geometry cells t (get_or places i no_move)) c.loop-by.counts c.count_tile.new.counts c.loop-by.invariant c.count_tile.ensures)

@@ -1,0 +1,17 @@
+use Rattle.std.specs.Prelude.{◌≡◌, ℕ, ◌≤◌, List, [], ◌∷◌, slice_index_or}
+use Rattle.std.specs.List.{slice_range}
+use Rattle.heesch_cnf.specs.declared.literal.Lit.{Lit}
+
+-- the lists that one after another, from this start, end at these places of one list
+abbrev pub pieces : List Lit → ℕ → List ℕ → List (List Lit)
+pieces literals start [] = []
+pieces literals start (end ∷ ends) = slice_range literals start end ∷ pieces literals end ends
+
+-- the places rise from the start to the end of the list, which is the last of them
+abbrev pub AreEnds : ℕ → List ℕ → ℕ → Type 0
+AreEnds start [] size = start ≡ size
+AreEnds start (end ∷ ends) size = (start ≤ end) × AreEnds end ends size
+
+-- where the piece of an index begins
+abbrev pub start_at : ℕ → List ℕ → ℕ → ℕ
+start_at start ends index = slice_index_or (start ∷ ends) index 0

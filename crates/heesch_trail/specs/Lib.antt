@@ -1,0 +1,5 @@
+pub mod Fixpoint
+pub mod Flat
+pub mod Inner
+pub mod Readings
+pub mod State

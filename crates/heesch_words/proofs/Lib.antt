@@ -1,0 +1,4 @@
+mod Digits
+mod Forms
+mod OptionRows
+mod Settings

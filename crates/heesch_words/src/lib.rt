@@ -1,0 +1,11 @@
+//! The words of a command line, and what they ask for.
+#![tactic(auto)]
+
+pub mod laws;
+mod numbers;
+mod options;
+mod requests;
+#[cfg(test)]
+mod tests;
+
+pub use requests::{Request, Usage, parse};
