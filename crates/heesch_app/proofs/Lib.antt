@@ -1,1 +1,3 @@
+mod PlainAnswers
+mod PlainLines
 mod Ranges

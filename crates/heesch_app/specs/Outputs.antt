@@ -6,10 +6,13 @@ use Rattle.heesch_grid.specs.declared.Cell.{Cell}
 use Rattle.heesch_grid.specs.Geometry.{Geometry}
 use Rattle.heesch_grid.specs.Names.{geometry_of}
 use Rattle.heesch_grid.specs.Polyform.{IsFreeList}
+use Rattle.heesch_text.specs.Plains.{plain_list_text}
 use Rattle.heesch_text.specs.Shapes.{list_text}
+use Rattle.heesch_tiling.specs.declared.found.Plain.{Plain}
 use Rattle.heesch_words.specs.declared.requests.Request.{Request}
-use Rattle.heesch_words.specs.declared.requests.Request.TheVariants.{List as ListRequest}
+use Rattle.heesch_words.specs.declared.requests.Request.TheVariants.{List as ListRequest, Plain as PlainRequest}
 use Rattle.heesch_words.specs.Requests.{Asks}
+use Rattle.heesch_app.specs.Tilings.{ArePlain}
 
 -- The words have one of the forms.
 abbrev pub IsAccepted : List (List ℕ) → Type 0
@@ -19,9 +22,14 @@ IsAccepted words = (request : Request) × Asks words request
 abbrev pub IsListing : Geometry → ℕ → List ℕ → Type 0
 IsListing g n output = (shapes : List (List Cell)) × IsFreeList g n shapes × (output ≡ list_text shapes)
 
+-- the output is the text of that list, each shape with its plain tiling
+abbrev pub IsPlainListing : Geometry → ℕ → List ℕ → Type 0
+IsPlainListing g n output = (shapes : List (List Cell)) × (tilings : List (Option Plain)) × IsFreeList g n shapes × ArePlain g shapes tilings × (output ≡ plain_list_text shapes tilings)
+
 -- the output is what the request asks to be written
 abbrev pub IsOutput : Request → List ℕ → Type 0
 IsOutput (ListRequest grid n workers) output = IsListing (geometry_of grid) n output
+IsOutput (PlainRequest grid n workers) output = IsPlainListing (geometry_of grid) n output
 
 -- the output is what the words ask to be written
 abbrev pub IsAnswer : List (List ℕ) → List ℕ → Type 0

@@ -4,6 +4,7 @@
 mod listing;
 mod program;
 mod status;
+mod tilings;
 
 pub use program::run;
 pub use status::Status;

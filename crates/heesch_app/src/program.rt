@@ -6,6 +6,7 @@ ghost use Rattle.heesch_app.specs.Ranges.{IsInRange};
 
 use crate::Status;
 use crate::listing::listing;
+use crate::tilings::plain_listing;
 use heesch_io::{Failed, NoMemory, Sink, Source, put};
 use heesch_pool::Gate;
 use heesch_words::{Request, Usage, parse};
@@ -73,5 +74,6 @@ fn answer<T: Threads + Sync, H: Gate + Sync>(
 {
     match request {
         Request::List { grid, n, workers } => listing(rt, alloc, grid, n, workers, gate),
+        Request::Plain { grid, n, workers } => plain_listing(rt, alloc, grid, n, workers, gate),
     }
 }

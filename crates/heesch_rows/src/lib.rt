@@ -4,4 +4,8 @@
 #[cfg(test)]
 mod lists;
 #[cfg(test)]
+mod plains;
+#[cfg(test)]
+mod running;
+#[cfg(test)]
 mod solver;

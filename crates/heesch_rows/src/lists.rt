@@ -1,8 +1,7 @@
 //! `heesch list`: what is written, and what is refused.
-use heesch_app::{Status, run};
-use heesch_io::{MemorySink, MemorySource, NoMemory};
-use heesch_pool::Open;
-use std::alloc::Global;
+use crate::running::{room, run_into};
+use heesch_app::Status;
+use heesch_io::MemorySink;
 use std::test::Fail;
 
 const FIVE_TETROMINOES: &str =
@@ -15,33 +14,6 @@ const COUNTS: [(&str, [usize; 10]); 3] = [
     ("iamond", [1, 1, 1, 3, 4, 12, 24, 66, 160, 448]),
 ];
 
-/// The words of a line.
-fn words_of(alloc: Global, line: &str) -> Result<Vec<String>, NoMemory> {
-    let mut words = Vec::new(alloc);
-    for word in line.split_whitespace() {
-        words.push(String::from_str(alloc, word)?)?;
-    }
-    Ok(words)
-}
-
-/// How a run of these words ended, and what the sink holds after it. The source is empty.
-fn run_into(
-    rt: &HostRuntime,
-    line: &str,
-    mut sink: MemorySink,
-) -> Result<(Status, MemorySink), NoMemory> {
-    let alloc = rt.alloc();
-    let words = words_of(alloc, line)?;
-    let mut source = MemorySource::new(Vec::new(alloc), 1, Vec::new(alloc));
-    let status = run(rt, alloc, &words, &mut source, &mut sink, &Open);
-    Ok((status, sink))
-}
-
-/// A sink with so much room.
-fn room(alloc: Global, bytes: usize) -> Result<MemorySink, NoMemory> {
-    MemorySink::new(alloc, bytes, bytes.max(1), Vec::new(alloc))
-}
-
 #[test]
 fn small_lists_are_written(rt: HostRuntime) -> Result<(), Fail> {
     let alloc = rt.alloc();
@@ -53,7 +25,7 @@ fn small_lists_are_written(rt: HostRuntime) -> Result<(), Fail> {
         ("list iamond 1", "1,1\n"),
         ("list iamond 3", "1,1 4,1 2,2\n"),
     ] {
-        let (status, sink) = run_into(&rt, line, room(alloc, 100)?)?;
+        let (status, sink) = run_into(&rt, alloc, line, room(alloc, 100)?)?;
         assert_eq!(rt; status, Status::Done, "{line}");
         assert_eq!(rt; sink.held.as_slice(), text.as_bytes(), "{line}");
     }
@@ -69,7 +41,7 @@ fn lists_have_the_known_lengths(rt: HostRuntime) -> Result<(), Fail> {
                 continue;
             }
             let line = format!(in alloc; "list {grid} {}", below + 1)?;
-            let (status, sink) = run_into(&rt, &line, room(alloc, 300_000)?)?;
+            let (status, sink) = run_into(&rt, alloc, &line, room(alloc, 300_000)?)?;
             assert_eq!(rt; status, Status::Done, "{line}");
             let lines = sink.held.iter().filter(|byte| **byte == b'\n').count();
             assert_eq!(rt; lines, *count, "{line}");
@@ -81,10 +53,10 @@ fn lists_have_the_known_lengths(rt: HostRuntime) -> Result<(), Fail> {
 #[test]
 fn workers_change_no_byte(rt: HostRuntime) -> Result<(), Fail> {
     let alloc = rt.alloc();
-    let (_, one) = run_into(&rt, "list square 7", room(alloc, 10_000)?)?;
+    let (_, one) = run_into(&rt, alloc, "list square 7", room(alloc, 10_000)?)?;
     for workers in [1, 2, 5, 64] {
         let line = format!(in alloc; "list square 7 --workers {workers}")?;
-        let (status, sink) = run_into(&rt, &line, room(alloc, 10_000)?)?;
+        let (status, sink) = run_into(&rt, alloc, &line, room(alloc, 10_000)?)?;
         assert_eq!(rt; status, Status::Done, "{line}");
         assert_eq!(rt; sink.held.as_slice(), one.held.as_slice(), "{line}");
     }
@@ -105,7 +77,7 @@ fn other_words_are_refused_and_nothing_is_written(rt: HostRuntime) -> Result<(),
         "list square 4 --workers 2 --workers 2",
         "table --brief",
     ] {
-        let (status, sink) = run_into(&rt, line, room(alloc, 100)?)?;
+        let (status, sink) = run_into(&rt, alloc, line, room(alloc, 100)?)?;
         assert_eq!(rt; status, Status::Usage, "{line}");
         assert_eq!(rt; sink.calls, 0, "{line}");
     }
@@ -116,7 +88,7 @@ fn other_words_are_refused_and_nothing_is_written(rt: HostRuntime) -> Result<(),
 fn a_sink_that_fails_keeps_a_prefix(rt: HostRuntime) -> Result<(), Fail> {
     let alloc = rt.alloc();
     let sink = MemorySink::new(alloc, 100, 16, [3].to_vec(alloc)?)?;
-    let (status, sink) = run_into(&rt, "list square 4", sink)?;
+    let (status, sink) = run_into(&rt, alloc, "list square 4", sink)?;
     assert_eq!(rt; status, Status::WriteFault);
     assert!(rt; sink.held.len() <= 32);
     assert!(rt;

@@ -1,8 +1,9 @@
 -- The text of each field of a line: integers are decimal, and words are separated by single spaces.
-use Rattle.std.specs.Prelude.{ℕ, List, [], ◌∷◌, ◌++◌, codes}
+use Rattle.std.specs.Prelude.{ℕ, List, [], ◌∷◌, ◌++◌, codes, decimal}
 use Rattle.std.specs.Fmt.{signed_decimal}
 use Rattle.std.specs.List.{flat_map}
 use Rattle.heesch_grid.specs.declared.Cell.{Cell}
+use Rattle.heesch_grid.specs.Lattice.{Triple}
 
 -- each item behind a space
 abbrev pub spaced : {X : Type 0} → (X → List ℕ) → List X → List ℕ
@@ -16,3 +17,7 @@ cell_text c = signed_decimal c.a ++ codes "," ++ signed_decimal c.b
 abbrev pub cells_text : List Cell → List ℕ
 cells_text [] = []
 cells_text (c ∷ cells) = cell_text c ++ spaced cell_text cells
+
+-- `P Q S`, three natural numbers
+abbrev pub triple_text : Triple → List ℕ
+triple_text t = decimal t.p ++ codes " " ++ decimal t.q ++ codes " " ++ decimal t.s

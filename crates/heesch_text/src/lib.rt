@@ -2,6 +2,8 @@
 #![tactic(auto)]
 
 mod fields;
+mod plains;
 mod shapes;
 
+pub use plains::write_plain;
 pub use shapes::write_shape;

@@ -4,7 +4,7 @@ use Rattle.heesch_grid.specs.declared.GridName.{GridName}
 use Rattle.heesch_grid.specs.declared.GridName.TheVariants.{Square, Hex, Iamond}
 use Rattle.heesch_words.specs.declared.options.Options.{Options}
 use Rattle.heesch_words.specs.declared.requests.Request.{Request}
-use Rattle.heesch_words.specs.declared.requests.Request.TheVariants.{List as ListRequest}
+use Rattle.heesch_words.specs.declared.requests.Request.TheVariants.{List as ListRequest, Plain as PlainRequest}
 use Rattle.heesch_words.specs.Options.{AreOptions}
 
 -- the word of a grid
@@ -27,6 +27,11 @@ pub record HasSizeForm (form : List ℕ) (words : List (List ℕ)) (grid : GridN
   pub most : n ≤ most_cells grid
   pub given : AreOptions others options
 
--- The words have the form of the request, with its values: `list GRID N`.
+-- the words are FORM GRID N, and the option `--workers` where it is wanted: the number of workers is 1 by default
+abbrev pub HasListForm : List ℕ → List (List ℕ) → GridName → ℕ → ℕ → Type 0
+HasListForm form words grid n workers = (options : Options) × HasSizeForm form words grid n options × (workers ≡ unwrap_or options.workers 1)
+
+-- The words have the form of the request, with its values: `list GRID N`, `plain GRID N`.
 abbrev pub Asks : List (List ℕ) → Request → Type 0
-Asks words (ListRequest grid n workers) = (options : Options) × HasSizeForm (codes "list") words grid n options × (workers ≡ unwrap_or options.workers 1)
+Asks words (ListRequest grid n workers) = HasListForm (codes "list") words grid n workers
+Asks words (PlainRequest grid n workers) = HasListForm (codes "plain") words grid n workers

@@ -1,5 +1,5 @@
-ghost use Rattle.std.specs.Prelude.{◌≡◌, ◌≢◌, ◌∷◌, map, string_bytes, codes, IfOk, OnErr};
-ghost use Rattle.heesch_words.specs.Requests.{Asks, grid_word, most_cells};
+ghost use Rattle.std.specs.Prelude.{◌≡◌, ◌≢◌, ◌∷◌, ℕ, List, map, string_bytes, codes, IfOk, OnErr};
+ghost use Rattle.heesch_words.specs.Requests.{Asks, HasListForm, grid_word, most_cells};
 
 use crate::numbers::number;
 use crate::options::Options;
@@ -20,11 +20,17 @@ pub enum Request {
         n: u32,
         workers: u32,
     },
+    /// The plain tilings of the free shapes of `n` cells, found by so many workers.
+    Plain {
+        grid: GridName,
+        n: u32,
+        workers: u32,
+    },
 }
 
 /// What the words ask for: the arguments of the program, without its name.
 ///
-/// The form is `list GRID N`, with the option `--workers W`. GRID is `square`, `hex` or `iamond`. N
+/// The forms are `list GRID N` and `plain GRID N`, with the option `--workers W`. GRID is `square`, `hex` or `iamond`. N
 /// is 1 to 12 for `square`, 1 to 10 for `hex` and 1 to 15 for `iamond`. W is 1 to 64, by default 1.
 /// A number is written in decimal digits, without a sign or a leading zero. Options follow the
 /// other words in any order, each at most once.
@@ -41,6 +47,7 @@ pub fn parse(words: &[String]) -> Result<Request, Usage>
     };
     match form.as_str() {
         "list" => list(rest),
+        "plain" => plain(rest),
         _ => Err(Usage),
     }
 }
@@ -52,6 +59,35 @@ fn list(words: &[String]) -> Result<Request, Usage>
     ensures usage { OnErr result
         ((request : Request) → ¬ Asks (codes "list" ∷ map string_bytes words.now) request) }
 {
+    let ListForm { grid, n, workers } = list_form(words)?;
+    Ok(Request::List { grid, n, workers })
+}
+
+/// The request whose words are `plain` and these.
+fn plain(words: &[String]) -> Result<Request, Usage>
+    ensures ok { IfOk result
+        (λ request. Asks (codes "plain" ∷ map string_bytes words.now) request) }
+    ensures usage { OnErr result
+        ((request : Request) → ¬ Asks (codes "plain" ∷ map string_bytes words.now) request) }
+{
+    let ListForm { grid, n, workers } = list_form(words)?;
+    Ok(Request::Plain { grid, n, workers })
+}
+
+/// What the words GRID N give, with the option `--workers`.
+struct ListForm {
+    grid: GridName,
+    n: u32,
+    workers: u32,
+}
+
+/// What these words give after the word of a form.
+fn list_form(words: &[String]) -> Result<ListForm, Usage>
+    ensures ok { IfOk result (λ given. (form : List ℕ)
+        → HasListForm form (form ∷ map string_bytes words.now) given.grid given.n given.workers) }
+    ensures usage { OnErr result ((form : List ℕ) (grid : GridName) (n workers : ℕ)
+        → ¬ HasListForm form (form ∷ map string_bytes words.now) grid n workers) }
+{
     let [grid, n, options @ ..] = words else {
         return Err(Usage);
     };
@@ -59,7 +95,7 @@ fn list(words: &[String]) -> Result<Request, Usage>
     let n = number(n.as_str(), 1, most_cells(grid))? as u32;
     let options = Options::read(options)?;
     let workers = options.workers.unwrap_or(1);
-    Ok(Request::List { grid, n, workers })
+    Ok(ListForm { grid, n, workers })
 }
 
 /// The grid that a word names.

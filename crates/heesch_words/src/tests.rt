@@ -24,6 +24,9 @@ fn forms_are_read(rt: HostRuntime) -> Result<(), Fail> {
         let request = Request::List { grid, n, workers };
         assert_eq!(rt; parse(&words), Ok(request), "at {line}");
     }
+    let words = words_of(alloc, "plain hex 7 --workers 2")?;
+    let (grid, n, workers) = (GridName::Hex, 7, 2);
+    assert_eq!(rt; parse(&words), Ok(Request::Plain { grid, n, workers }));
     Ok(())
 }
 
@@ -42,6 +45,8 @@ fn other_words_are_refused(rt: HostRuntime) -> Result<(), Fail> {
         "list hex 11",
         "list iamond 16",
         "list square 4 5",
+        "plain",
+        "plain square 13",
         "list square 4 --workers",
         "list square 4 --workers 0",
         "list square 4 --workers 65",

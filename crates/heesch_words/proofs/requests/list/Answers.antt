@@ -4,8 +4,8 @@ use Rattle.heesch_words.specs.Requests.{Asks}
 use Rattle.heesch_words.proofs.Forms.{no_list}
 use Rattle.heesch_words.proofs.requests.list.Goals as goal
 
-pub returns-in_err-options-clause-usage : goal.returns-in_err-options-clause-usage
-returns-in_err-options-clause-usage c =
+pub returns-in_err-grid-clause-usage : goal.returns-in_err-grid-clause-usage
+returns-in_err-grid-clause-usage c =
     let refused : (request : Request) → ¬ Asks (codes "list" ∷ map string_bytes c.args.words.now) request =
-    no_list string_bytes c.args.words.now c.in_err-options.ensures.usage in
+    no_list (map string_bytes c.args.words.now) c.in_err-grid.ensures.usage in
     search rules

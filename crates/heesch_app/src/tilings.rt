@@ -1,0 +1,111 @@
+//! The text of a free list with the plain tilings of its shapes.
+ghost use Rattle.std.specs.Prelude.{◌≡◌, ◌≤◌, length, IfOk, IsTrue};
+ghost use Rattle.heesch_grid.specs.Names.{geometry_of};
+ghost use Rattle.heesch_listing.specs.Parts.{are_small};
+ghost use Rattle.heesch_text.specs.Plains.{plain_list_text};
+ghost use Rattle.heesch_app.specs.Outputs.{IsPlainListing};
+ghost use Rattle.heesch_app.specs.Tilings.{ArePlain};
+
+use heesch_grid::{Grid, GridName, Hex, Iamond, Square};
+use heesch_io::NoMemory;
+use heesch_listing::all_shapes;
+use heesch_pool::{Answer, Gate, Job, run_all};
+use heesch_shape::Shape;
+use heesch_text::write_plain;
+use heesch_tiling::{Plain, plain};
+use std::alloc::Global;
+use std::thread::Threads;
+
+/// The text of the free list of a grid and a size in cells, a line for each shape with its plain
+/// tiling.
+pub fn plain_listing<T: Threads + Sync, H: Gate + Sync>(
+    rt: &T,
+    alloc: Global,
+    grid: GridName,
+    n: u32,
+    workers: u32,
+    gate: &H,
+) -> Result<Vec<u8>, NoMemory>
+    requires size { (1 ≤ n) × (n ≤ 31) }
+    requires workers { (1 ≤ workers) × (workers ≤ 64) }
+    ensures { IfOk result (λ text. IsPlainListing (geometry_of grid) n text.items) }
+{
+    match grid {
+        GridName::Square => plain_listing_of::<Square, T, H>(rt, alloc, n, workers, gate),
+        GridName::Hex => plain_listing_of::<Hex, T, H>(rt, alloc, n, workers, gate),
+        GridName::Iamond => plain_listing_of::<Iamond, T, H>(rt, alloc, n, workers, gate),
+    }
+}
+
+fn plain_listing_of<G: Grid + Send + Sync, T: Threads + Sync, H: Gate + Sync>(
+    rt: &T,
+    alloc: Global,
+    n: u32,
+    workers: u32,
+    gate: &H,
+) -> Result<Vec<u8>, NoMemory>
+    requires size { (1 ≤ n) × (n ≤ 31) }
+    requires workers { (1 ≤ workers) × (workers ≤ 64) }
+    ensures { IfOk result (λ text. IsPlainListing G.geometry n text.items) }
+{
+    let shapes = all_shapes::<G, T, H>(rt, alloc, n, workers, gate)?;
+    let tilings = tilings_of(rt, alloc, &shapes, workers, gate)?;
+    text_of(alloc, &shapes, &tilings)
+}
+
+/// The job whose item is the plain tiling of one of the shapes.
+#[derive(Clone, Copy)]
+struct PlainOf<'a, G: Grid> {
+    shapes: &'a [Shape<G>],
+}
+
+impl<'a, G: Grid> Answer<Option<Plain>> for PlainOf<'a, G> {
+    ghost use Rattle.std.specs.Prelude.{IfOk, List, length, nat_lt, slice_index_or, ◌&&◌};
+    ghost use Rattle.heesch_grid.specs.declared.Cell.{Cell};
+    ghost use Rattle.heesch_grid.specs.Tiling.{IsPlain};
+    ghost use Rattle.heesch_listing.specs.Parts.{are_small};
+    ghost use Rattle.heesch_tiling.specs.PlainAnswer.{answered};
+
+    ghost accepts = { λ s number. nat_lt number (length s.shapes.now) && are_small s.shapes.now };
+
+    ghost gives = { λ s number tiling. IfOk tiling (λ t. (d : List Cell) → IsPlain G.geometry (slice_index_or s.shapes.now number d) (answered t)) };
+
+    fn answer(&self, number: u32) -> Result<Option<Plain>, NoMemory> {
+        Ok(plain(&self.shapes[number as usize]))
+    }
+}
+
+/// The plain tilings of the shapes, in their order.
+fn tilings_of<G: Grid + Send + Sync, T: Threads + Sync, H: Gate + Sync>(
+    rt: &T,
+    alloc: Global,
+    shapes: &[Shape<G>],
+    workers: u32,
+    gate: &H,
+) -> Result<Vec<Option<Plain>>, NoMemory>
+    requires small { IsTrue (are_small shapes.now) }
+    requires workers { (1 ≤ workers) × (workers ≤ 64) }
+    ensures { IfOk result (λ tilings. ArePlain G.geometry shapes.now tilings.items) }
+{
+    let Ok(count) = u32::try_from(shapes.len()) else {
+        return Err(NoMemory);
+    };
+    let job = Job::new(PlainOf { shapes }, count);
+    run_all(rt, alloc, &job, workers, gate)
+}
+
+/// A line for each shape and its tiling.
+fn text_of<G: Grid>(
+    alloc: Global,
+    shapes: &[Shape<G>],
+    tilings: &[Option<Plain>],
+) -> Result<Vec<u8>, NoMemory>
+    requires { length tilings.now ≡ length shapes.now }
+    ensures { IfOk result (λ text. text.items ≡ plain_list_text shapes.now tilings.now) }
+{
+    let mut text = Vec::new(alloc);
+    for (i, shape) in shapes.iter().enumerate() {
+        write_plain(shape.cells(), &tilings[i], &mut text)?;
+    }
+    Ok(text)
+}

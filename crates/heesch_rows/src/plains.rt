@@ -1,0 +1,55 @@
+//! `heesch plain`: each shape with its plain tiling.
+use crate::running::{room, run_into};
+use heesch_app::Status;
+use std::test::Fail;
+
+const FIVE_TETROMINOES: &str = "0,0 1,0 2,0 3,0 translation 4 1 0
+0,0 1,0 2,0 0,1 translation 4 1 1
+0,0 1,0 2,0 1,1 translation 4 1 2
+0,0 1,0 0,1 1,1 translation 2 2 0
+0,0 1,0 1,1 2,1 translation 2 2 0
+";
+
+#[test]
+fn small_shapes_have_their_plain_tilings(rt: HostRuntime) -> Result<(), Fail> {
+    let alloc = rt.alloc();
+    for (line, text) in [
+        (
+            "plain square 3",
+            "0,0 1,0 2,0 translation 3 1 0\n0,0 1,0 0,1 translation 3 1 1\n",
+        ),
+        ("plain square 4 --workers 2", FIVE_TETROMINOES),
+        ("plain iamond 1", "1,1 halfturn 1 1 0 0 0\n"),
+        ("plain iamond 3", "1,1 4,1 2,2 halfturn 3 1 0 0 0\n"),
+    ] {
+        let (status, sink) = run_into(&rt, alloc, line, room(alloc, 1_000)?)?;
+        assert_eq!(rt; status, Status::Done, "{line}");
+        assert_eq!(rt; sink.held.as_slice(), text.as_bytes(), "{line}");
+    }
+    Ok(())
+}
+
+/// How many lines of a text have the word.
+fn lines_with(text: &str, word: &str) -> usize {
+    text.lines().filter(|line| line.contains(word)).count()
+}
+
+#[test]
+fn every_polyomino_of_at_most_six_cells_has_a_plain_tiling(rt: HostRuntime) -> Result<(), Fail> {
+    let alloc = rt.alloc();
+    for (line, translations, half_turns) in [
+        ("plain square 1", 1, 0),
+        ("plain square 2", 1, 0),
+        ("plain square 3", 2, 0),
+        ("plain square 4", 5, 0),
+        ("plain square 5", 9, 3),
+        ("plain square 6", 24, 11),
+    ] {
+        let (_, sink) = run_into(&rt, alloc, line, room(alloc, 10_000)?)?;
+        let text = str::from_utf8(&sink.held)?;
+        assert_eq!(rt; lines_with(text, " translation "), translations, "{line}");
+        assert_eq!(rt; lines_with(text, " halfturn "), half_turns, "{line}");
+        assert_eq!(rt; lines_with(text, " none"), 0, "{line}");
+    }
+    Ok(())
+}

@@ -1,0 +1,33 @@
+//! Runs of the program over a source and a sink in memory.
+use heesch_app::{Status, run};
+use heesch_io::{MemorySink, MemorySource, NoMemory};
+use heesch_pool::Open;
+use std::alloc::Global;
+use std::thread::Threads;
+
+/// The words of a line.
+fn words_of(alloc: Global, line: &str) -> Result<Vec<String>, NoMemory> {
+    let mut words = Vec::new(alloc);
+    for word in line.split_whitespace() {
+        words.push(String::from_str(alloc, word)?)?;
+    }
+    Ok(words)
+}
+
+/// How a run of these words ended, and what the sink holds after it. The source is empty.
+pub fn run_into<T: Threads + Sync>(
+    rt: &T,
+    alloc: Global,
+    line: &str,
+    mut sink: MemorySink,
+) -> Result<(Status, MemorySink), NoMemory> {
+    let words = words_of(alloc, line)?;
+    let mut source = MemorySource::new(Vec::new(alloc), 1, Vec::new(alloc));
+    let status = run(rt, alloc, &words, &mut source, &mut sink, &Open);
+    Ok((status, sink))
+}
+
+/// A sink with so much room.
+pub fn room(alloc: Global, bytes: usize) -> Result<MemorySink, NoMemory> {
+    MemorySink::new(alloc, bytes, bytes.max(1), Vec::new(alloc))
+}
