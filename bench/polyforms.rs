@@ -1,5 +1,7 @@
 //! The free polyforms of a size, as a plain Rust program lists them: shapes are grown cell by cell into a hash
 //! set of canonical cell arrays, then sorted and printed. `list GRID N`, for comparison with `heesch list GRID N`.
+//! `plain GRID N` adds each shape's first tiling by translations, or by translations and half-turns: residues modulo
+//! a lattice are marked, up to the first that is marked twice.
 use std::collections::HashSet;
 use std::io::Write;
 
@@ -16,6 +18,7 @@ struct Shape {
 
 struct Grid {
     unit: i32,
+    per: usize,
     turns: fn(u32, Cell) -> Cell,
     turn_count: u32,
     neighbours: fn(Cell) -> &'static [(i32, i32)],
@@ -56,6 +59,7 @@ fn grid(name: &str) -> Grid {
     match name {
         "square" => Grid {
             unit: 1,
+            per: 1,
             turns: square_turn,
             turn_count: 8,
             neighbours: |_| &[(0, -1), (-1, 0), (1, 0), (0, 1)],
@@ -63,6 +67,7 @@ fn grid(name: &str) -> Grid {
         },
         "hex" => Grid {
             unit: 1,
+            per: 1,
             turns: hex_turn,
             turn_count: 12,
             neighbours: |_| &[(0, -1), (1, -1), (-1, 0), (1, 0), (-1, 1), (0, 1)],
@@ -70,6 +75,7 @@ fn grid(name: &str) -> Grid {
         },
         _ => Grid {
             unit: 3,
+            per: 2,
             turns: hex_turn,
             turn_count: 12,
             neighbours: |c| {
@@ -106,6 +112,50 @@ fn canonical(grid: &Grid, shape: &Shape) -> Shape {
     least.unwrap()
 }
 
+/// The triples (p, q, s) of the lattices by which so many cells can be a cover, by p and then s.
+fn triples(grid: &Grid, cells: usize) -> impl Iterator<Item = (i32, i32, i32)> {
+    let area = if cells % grid.per == 0 { cells / grid.per } else { 0 };
+    (1..=area)
+        .filter(move |p| area % p == 0)
+        .flat_map(move |p| (0..p).map(move |s| (p as i32, (area / p) as i32, s as i32)))
+}
+
+/// Marks the residues of the cells; whether none was marked before.
+fn mark(grid: &Grid, (p, q, s): (i32, i32, i32), cells: impl Iterator<Item = Cell>, marks: &mut [bool; 1024]) -> bool {
+    let (wide, high) = (grid.unit * p, grid.unit * q);
+    for (b, a) in cells {
+        let rows = b.div_euclid(high);
+        let place = b.rem_euclid(high) * wide + (a - grid.unit * s * rows).rem_euclid(wide);
+        if std::mem::replace(&mut marks[place as usize], true) {
+            return false;
+        }
+    }
+    true
+}
+
+fn plain(grid: &Grid, cells: &[Cell]) -> String {
+    for triple in triples(grid, cells.len()) {
+        if mark(grid, triple, cells.iter().copied(), &mut [false; 1024]) {
+            return format!("translation {} {} {}", triple.0, triple.1, triple.2);
+        }
+    }
+    for triple in triples(grid, 2 * cells.len()) {
+        let mut own = [false; 1024];
+        if !mark(grid, triple, cells.iter().copied(), &mut own) {
+            continue;
+        }
+        for db in 0..triple.1 {
+            for da in 0..triple.0 {
+                let turned = cells.iter().map(|(b, a)| (grid.unit * db - b, grid.unit * da - a));
+                if mark(grid, triple, turned, &mut own.clone()) {
+                    return format!("halfturn {} {} {} {da} {db}", triple.0, triple.1, triple.2);
+                }
+            }
+        }
+    }
+    "none".to_string()
+}
+
 fn main() {
     let args: Vec<String> = std::env::args().collect();
     let grid = grid(&args[2]);
@@ -139,6 +189,11 @@ fn main() {
     let mut out = std::io::BufWriter::new(std::io::stdout().lock());
     for shape in &list {
         let line: Vec<String> = shape.cells[..shape.count].iter().map(|(b, a)| format!("{a},{b}")).collect();
-        writeln!(out, "{}", line.join(" ")).unwrap();
+        if args[1] == "plain" {
+            let tiling = plain(&grid, &shape.cells[..shape.count]);
+            writeln!(out, "{} {tiling}", line.join(" ")).unwrap();
+        } else {
+            writeln!(out, "{}", line.join(" ")).unwrap();
+        }
     }
 }
