@@ -15,7 +15,7 @@ fn words_of(alloc: Global, line: &str) -> Result<Vec<String>, NoMemory> {
 }
 
 /// How a run of these words ended, and what the sink holds after it. The source is empty.
-pub fn run_into<T: Threads + Sync>(
+pub(crate) fn run_into<T: Threads + Sync>(
     rt: &T,
     alloc: Global,
     line: &str,
@@ -28,6 +28,6 @@ pub fn run_into<T: Threads + Sync>(
 }
 
 /// A sink with so much room.
-pub fn room(alloc: Global, bytes: usize) -> Result<MemorySink, NoMemory> {
+pub(crate) fn room(alloc: Global, bytes: usize) -> Result<MemorySink, NoMemory> {
     MemorySink::new(alloc, bytes, bytes.max(1), Vec::new(alloc))
 }
