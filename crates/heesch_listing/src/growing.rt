@@ -1,4 +1,4 @@
-ghost use Rattle.std.specs.Prelude.{◌≡◌, ◌≤◌, [], ◌∷◌, IfOk, IsTrue};
+ghost use Rattle.std.specs.Prelude.{◌≡◌, ◌<◌, ◌≤◌, ◌^◌, [], ◌∷◌, IfOk, IsTrue, vec_len};
 ghost use Rattle.heesch_grid.specs.Cells.{cells_before};
 ghost use Rattle.heesch_grid.specs.Listing.{ListsExactly};
 ghost use Rattle.heesch_grid.specs.Polyform.{IsFreeList};
@@ -29,7 +29,8 @@ pub fn all_shapes<G: Grid + Send + Sync, T: Threads + Sync, H: Gate + Sync>(
 ) -> Result<Vec<Shape<G>>, NoMemory>
     requires size { (1 ≤ n) × (n ≤ 32) }
     requires workers { (1 ≤ workers) × (workers ≤ 64) }
-    ensures { IfOk result (λ shapes. IsFreeList G.geometry n shapes.items) }
+    ensures free { IfOk result (λ shapes. IsFreeList G.geometry n shapes.items) }
+    ensures few { IfOk result (λ shapes. vec_len shapes < 2 ^ 32) }
 {
     let mut shapes = alone(alloc, first::<G>())?;
     for _size in 1..n {
@@ -40,7 +41,8 @@ pub fn all_shapes<G: Grid + Send + Sync, T: Threads + Sync, H: Gate + Sync>(
 
 /// The list of one shape.
 fn alone<G: Grid>(alloc: Global, shape: Shape<G>) -> Result<Vec<Shape<G>>, NoMemory>
-    ensures { IfOk result (λ shapes. shapes.items ≡ shape ∷ []) }
+    ensures items { IfOk result (λ shapes. shapes.items ≡ shape ∷ []) }
+    ensures one { IfOk result (λ shapes. vec_len shapes ≡ 1) }
 {
     let mut shapes = Vec::new(alloc);
     shapes.push(shape)?;
@@ -57,11 +59,16 @@ fn grown<G: Grid + Send + Sync, T: Threads + Sync, H: Gate + Sync>(
 ) -> Result<Vec<Shape<G>>, NoMemory>
     requires small { IsTrue (are_small parents.now) }
     requires workers { (1 ≤ workers) × (workers ≤ 64) }
-    ensures { IfOk result (λ made. ListsExactly cells_before (IsGrownFromSome G.geometry parents.now) made.items) }
+    ensures grown { IfOk result (λ made. ListsExactly cells_before (IsGrownFromSome G.geometry parents.now) made.items) }
+    ensures few { IfOk result (λ made. vec_len made < 2 ^ 32) }
 {
     let Ok(count) = u32::try_from(parents.len().div_ceil(PART)) else {
         return Err(NoMemory);
     };
     let job = Job::new(ChildrenOf { alloc, parents }, count);
-    merge_all(alloc, run_all(rt, alloc, &job, workers, gate)?)
+    let made = merge_all(alloc, run_all(rt, alloc, &job, workers, gate)?)?;
+    if made.len() > u32::MAX as usize {
+        return Err(NoMemory);
+    }
+    Ok(made)
 }

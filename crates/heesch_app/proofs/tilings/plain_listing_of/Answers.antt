@@ -7,4 +7,4 @@ use Rattle.heesch_app.proofs.tilings.plain_listing_of.Goals as goal
 pub tilings_of-requires-clause-small : goal.tilings_of-requires-clause-small
 tilings_of-requires-clause-small g c κs within =
     let laws = (g.met.G.Grid g.world.𝓛 g.world.𝓜 g.world.𝓡 ((λ s x. x), (λ x. x), (λ x. x), λ x. x)).laws in
-    subst (λ xs. IsTrue (are_small xs)) (sym c.deref.ensures.value) (free_lists_pass g.G.Grid.geometry laws c.args.n c.requires.size.1 c.in_ok-shapes.shapes.items c.in_ok-shapes.ensures.only)
+    subst (λ xs. IsTrue (are_small xs)) (sym c.deref.ensures.value) (free_lists_pass g.G.Grid.geometry laws c.args.n c.requires.size.1 c.in_ok-shapes.shapes.items c.in_ok-shapes.ensures.free.only)

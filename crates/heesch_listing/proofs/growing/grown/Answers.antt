@@ -1,4 +1,4 @@
-use Rattle.std.proofs.Common.{◌≡◌, ℕ, ◌+◌, ◌/◌, ◌%◌, min, List, length, Vec, Global, Result, Ok, Err, IfOk, Some, slice_get, sym, ap, ◌∙◌, subst, zero-add}
+use Rattle.std.proofs.Common.{◌≡◌, ℕ, ◌+◌, ◌/◌, ◌%◌, min, List, length, Vec, Global, Some, slice_get, sym, ap, ◌∙◌, subst, zero-add}
 use Rattle.heesch_grid.specs.declared.Cell.{Cell}
 use Rattle.heesch_grid.specs.Cells.{cells_before}
 use Rattle.heesch_grid.specs.Listing.{ListsExactly}
@@ -7,12 +7,8 @@ use Rattle.heesch_listing.specs.Parts.{part_of}
 use Rattle.heesch_listing.proofs.Covering.{grown_by_parts}
 use Rattle.heesch_listing.proofs.growing.grown.Goals as goal
 
-if_ok : {T E : Type 0} {P Q : T → Type 0} (r : Result T E) → ((x : T) → P x → Q x) → IfOk r P → IfOk r Q
-if_ok (Ok x) f h = f x h
-if_ok (Err e) f h = h
-
-pub returns : goal.returns
-returns g c =
+pub returns-clause-grown : goal.returns-clause-grown
+returns-clause-grown g c =
     let geometry = g.G.Grid.geometry in
     let parents = c.args.parents.now in
     let parts = c.in_ok-run_all.field-0.items in
@@ -24,4 +20,4 @@ returns g c =
     let h = c.in_ok-run_all.ensures.answers i part e in
     subst (λ n. ListsExactly cells_before (IsGrownFromSome geometry (part_of n parents)) part.items) (zero-add i)
     (subst (λ ps. ListsExactly cells_before (IsGrownFromSome geometry (part_of (0 + i) ps)) part.items) same h) in
-    if_ok c.merge_all.result (λ made. grown_by_parts geometry parents c.in-Ok.count parts made.items many long each) c.merge_all.ensures
+    grown_by_parts geometry parents c.in-Ok.count parts c.in_ok-made.made.items many long each c.in_ok-made.ensures
