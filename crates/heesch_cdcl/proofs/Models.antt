@@ -16,7 +16,8 @@ use Rattle.heesch_cdcl.specs.Search.{IsComplete}
 use Rattle.heesch_cdcl.specs.declared.workspace.Workspace.{Workspace}
 use Rattle.heesch_cdcl.specs.Ready.{IsReady}
 use Rattle.heesch_cdcl.specs.Searching.{IsSearching}
-use Rattle.heesch_cdcl.specs.Problem.{assignment_of, values_list, IsModel, IsInner, LastHolds}
+use Rattle.heesch_cnf.specs.Clauses.{assignment_of}
+use Rattle.heesch_cdcl.specs.Problem.{values_list, IsModel, IsInner, LastHolds}
 use Rattle.heesch_cdcl.proofs.Newness.{given_is_new_lem}
 
 -- a clause that the kept model makes false contains no earlier clause

@@ -1,8 +1,8 @@
-use Rattle.std.specs.Prelude.{◌≡◌, ℕ, ◌+◌, ◌-◌, ◌<◌, ◌≤◌, ◌^◌, Bool, false, Option, Some, None, List, length, map, unwrap_or, slice_index_or, IfSome, IsSome, if◌then◌else◌}
+use Rattle.std.specs.Prelude.{◌≡◌, ℕ, ◌+◌, ◌<◌, ◌≤◌, ◌^◌, Bool, false, Option, Some, None, List, length, map, unwrap_or, IfSome, IsSome, if◌then◌else◌}
 use Rattle.std.specs.List.{range_with_len}
 use Rattle.heesch_cnf.specs.declared.literal.Lit.{Lit}
 use Rattle.heesch_cnf.specs.declared.log.Log.{Log}
-use Rattle.heesch_cnf.specs.Clauses.{AreClauses, Satisfies}
+use Rattle.heesch_cnf.specs.Clauses.{AreClauses, Satisfies, assignment_of}
 use Rattle.heesch_cnf.specs.Lines.{clauses_with, LinesHold, LinesAreNew, FinalHolds}
 use Rattle.heesch_trail.specs.declared.step.Step.{Step}
 use Rattle.heesch_trail.specs.State.{State, values_of}
@@ -17,10 +17,6 @@ pub record Problem : Type 0 where
   pub turns : ℕ
   pub log : Log
   pub model : Option (List Bool)
-
--- the assignment that a list of values is, in number order
-abbrev pub assignment_of : List Bool → ℕ → Bool
-assignment_of values v = slice_index_or values (v - 1) false
 
 -- a value for each variable, under which all clauses are true
 pub record IsModel (vars : ℕ) (clauses : List (List Lit)) (values : List Bool) : Type 0 where

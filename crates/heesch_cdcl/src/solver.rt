@@ -1,10 +1,10 @@
 ghost use Rattle.std.specs.Prelude.{◌≡◌, ◌≢◌, ℕ, ◌+◌, ◌<◌, ◌≤◌, ◌^◌, [], ◌∷◌, ◌++◌, length, None, IfOk, OnOk, OnErr, IsSomeAnd};
-ghost use Rattle.heesch_cnf.specs.Clauses.{IsClause, AreClauses};
+ghost use Rattle.heesch_cnf.specs.Clauses.{IsClause, AreClauses, assignment_of};
 ghost use Rattle.heesch_cnf.specs.Lines.{FinalHolds};
 ghost use Rattle.heesch_trail.specs.State.{values_of};
 ghost use Rattle.heesch_cdcl.specs.Newness.{IsMadeFalse};
 ghost use Rattle.heesch_cdcl.specs.Learning.{LearnsMore};
-ghost use Rattle.heesch_cdcl.specs.Problem.{Problem, IsSolver, SameProblem, IsLeftOpen, assignment_of, values_list};
+ghost use Rattle.heesch_cdcl.specs.Problem.{Problem, IsSolver, SameProblem, IsLeftOpen, values_list};
 ghost use Rattle.heesch_cdcl.specs.Empty.{IsFirstEmpty};
 ghost use Rattle.heesch_cdcl.specs.Found.{IsFound, IsRefutedAtOnce};
 

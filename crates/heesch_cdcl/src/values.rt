@@ -1,6 +1,6 @@
 ghost use Rattle.std.specs.Prelude.{◌≡◌, IsTrue, ◌↔◌};
 ghost use Rattle.heesch_cdcl.specs.Newness.{IsMadeFalse};
-ghost use Rattle.heesch_cdcl.specs.Problem.{assignment_of};
+ghost use Rattle.heesch_cnf.specs.Clauses.{assignment_of};
 
 use heesch_cnf::Lit;
 

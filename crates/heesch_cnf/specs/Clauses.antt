@@ -1,4 +1,4 @@
-use Rattle.std.specs.Prelude.{◌≡◌, ℕ, ◌<◌, ◌≤◌, Bool, not, List, length, filter, All, Contains}
+use Rattle.std.specs.Prelude.{◌≡◌, ℕ, ◌-◌, ◌<◌, ◌≤◌, Bool, false, not, List, length, filter, slice_index_or, All, Contains}
 use Rattle.std.specs.List.{AllAdjacentBelow}
 use Rattle.heesch_cnf.specs.declared.literal.Lit.{Lit}
 use Rattle.heesch_cnf.specs.Literals.{Values, lit_value, is_false_value}
@@ -31,6 +31,10 @@ IsMadeTrue v l = v l.var ≡ l.positive
 -- a clause is true under an assignment where one of its literals is
 abbrev pub IsSatisfied : (ℕ → Bool) → List Lit → Type 0
 IsSatisfied v clause = (l : Lit) × (Contains clause l × IsMadeTrue v l)
+
+-- the assignment that a list of values is, in number order from 1
+abbrev pub assignment_of : List Bool → ℕ → Bool
+assignment_of values v = slice_index_or values (v - 1) false
 
 -- all clauses are true under the assignment
 abbrev pub Satisfies : (ℕ → Bool) → List (List Lit) → Type 0

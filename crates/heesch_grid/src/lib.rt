@@ -29,7 +29,7 @@ pub use isometries::Iso;
 pub use squares::Square;
 
 /// A cell of a grid, or any other pair of coordinates, in grid units.
-#[derive(Clone, Copy, Debug, Default, PartialEq, Eq)]
+#[derive(Clone, Copy, Debug, Default, PartialEq, Eq, Hash)]
 pub struct Cell {
     pub a: i32,
     pub b: i32,

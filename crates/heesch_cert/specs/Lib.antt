@@ -1,0 +1,10 @@
+pub mod Limits
+pub mod Literals
+pub mod Formulas
+pub mod Cuts
+pub mod Proofs
+pub mod TrueEntry
+pub mod Parts
+pub mod RightVerdict
+pub mod Statements
+pub mod Examples
