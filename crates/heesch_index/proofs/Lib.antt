@@ -1,0 +1,3 @@
+mod FlatLemmas
+pub mod NumberFacts
+mod EntryFacts

@@ -1,0 +1,10 @@
+//! An index of sets of cells: which of the sets, by number, have a cell.
+#![tactic(auto)]
+
+mod entries;
+mod index;
+mod sets;
+#[cfg(test)]
+mod tests;
+
+pub use index::CellIndex;
