@@ -6,3 +6,4 @@ pub mod Steps
 pub mod Verdicts
 pub mod Searching
 pub mod Answering
+pub mod Areas
