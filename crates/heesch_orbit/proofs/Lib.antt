@@ -1,0 +1,13 @@
+pub mod Repeats
+pub mod Sets
+pub mod Inverses
+pub mod Deciding
+pub mod Quotients
+pub mod Options
+pub mod Shifts
+pub mod Images
+pub mod Carrying
+pub mod Places
+pub mod Leasts
+pub mod Lists
+pub mod Finding
