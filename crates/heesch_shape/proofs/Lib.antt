@@ -11,3 +11,5 @@ pub mod Added
 pub mod Near
 pub mod Single
 pub mod Faultless
+pub mod Touches
+pub mod Merging

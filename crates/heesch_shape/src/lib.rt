@@ -1,6 +1,7 @@
 //! Polyforms of at most 32 cells.
 #![tactic(auto)]
 
+mod contact;
 mod faults;
 mod lists;
 mod places;

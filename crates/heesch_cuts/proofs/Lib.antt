@@ -1,0 +1,11 @@
+pub mod Rising
+pub mod Marking
+pub mod Covering
+pub mod CutClause
+pub mod Conditions
+pub mod PatchCells
+pub mod Bordering
+pub mod Spreading
+pub mod Nearby
+pub mod HoleFacts
+pub mod CuttingOff

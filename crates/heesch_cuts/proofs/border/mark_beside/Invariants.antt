@@ -1,0 +1,9 @@
+use Rattle.std.proofs.Common.{All, take}
+use Rattle.heesch_cuts.specs.Patches.{AreChosen, Grows, IsBordered}
+use Rattle.heesch_cuts.proofs.border.mark_beside.Given as goal
+
+abbrev pub invariant-loop-i : goal.invariant-loop-i
+invariant-loop-i g l =
+    AreChosen l.universe.vars l.model l.level l.marks
+    × Grows l.initial.marks l.marks
+    × All (IsBordered l.shape l.universe.vars l.level l.patch l.marks) (take l.i (g.G.Grid.geometry.adjacent l.c))

@@ -1,0 +1,90 @@
+//! A cut for a model whose placements enclose a hole.
+ghost use Rattle.std.specs.Prelude.{◌≡◌, ◌<◌, ◌≤◌, All, IfOk, MatchOption, length};
+ghost use Rattle.heesch_grid.specs.Hole.{IsGreatestHole};
+ghost use Rattle.heesch_grid.specs.Vectors.{IsWithin};
+ghost use Rattle.heesch_place.specs.Universes.{IsUniverseOf};
+ghost use Rattle.heesch_cuts.specs.Chosen.{IsOpen, CutsOff};
+ghost use Rattle.heesch_cuts.specs.Patches.{patch_cells};
+
+use crate::border::border_of;
+use crate::parts::joined_part;
+use crate::patches::add_layer;
+use heesch_cert::Cut;
+use heesch_grid::{Cell, Grid};
+use heesch_io::NoMemory;
+use heesch_place::Universe;
+use heesch_region::Region;
+use heesch_shape::Shape;
+use std::alloc::Global;
+
+/// The cut of a joined part of the greatest hole of the patch of a level.
+fn cut_around<G: Grid>(
+    alloc: Global,
+    shape: &Shape<G>,
+    universe: &Universe<G>,
+    model: &[bool],
+    level: u32,
+    patch: &Region<G>,
+    greatest: &[Cell],
+) -> Result<Cut, NoMemory>
+    requires universe { IsUniverseOf G.geometry universe.now }
+    requires shape { universe.now.shape ≡ shape.now }
+    requires values { length universe.now.vars ≤ length model.now }
+    requires level { (1 ≤ level) × (level ≤ universe.now.level) }
+    requires patch { patch.now ≡ patch_cells universe.now model.now level }
+    requires near { All (IsWithin 1000000) patch.now }
+    requires some { 0 < length greatest.now }
+    requires greatest { IsGreatestHole G.geometry patch.now greatest.now }
+    ensures { IfOk result (CutsOff G.geometry universe.now model.now) }
+{
+    let hole = joined_part::<G>(alloc, greatest)?;
+    let border = border_of::<G>(alloc, shape, universe, model, level, patch, hole.as_slice())?;
+    Ok(Cut {
+        level,
+        hole,
+        border,
+    })
+}
+
+/// A lawful cut whose clause the model makes false, or None exactly where the patch of every level
+/// from 1 is hole-free. The patch of level k is the shape with the placements of the true variables
+/// of level at most k.
+///
+/// The cut is of the least level whose patch has a hole. Its hole is one joined part of the greatest
+/// hole, the one with the first cell: one hole a model is enough, and a joined hole gives a shorter
+/// clause than the greatest one. Its border has only placements that a cell adjacent to the hole
+/// needs: for each such cell outside the shape, the least true variable of that level or below whose
+/// placement has it.
+///
+/// Condition: the universe is of this shape, and the model has a value for each of its variables,
+/// in number order from 1. Each level looks at each variable once, and floods the patch once.
+pub fn cut_for<G: Grid>(
+    alloc: Global,
+    shape: &Shape<G>,
+    universe: &Universe<G>,
+    model: &[bool],
+) -> Result<Option<Cut>, NoMemory>
+    requires universe { IsUniverseOf G.geometry universe.now }
+    requires shape { universe.now.shape ≡ shape.now }
+    requires values { length universe.now.vars ≤ length model.now }
+    ensures { IfOk result (λ cut. MatchOption cut (IsOpen G.geometry universe.now model.now) (λ cut. CutsOff G.geometry universe.now model.now cut)) }
+{
+    let mut cells = Vec::from_slice(alloc, shape.cells())?;
+    for k in 0..universe.level() {
+        add_layer::<G>(&mut cells, universe, model, k + 1)?;
+        let patch = Region::<G>::from_cells(alloc, &cells)?;
+        if let Some(hole) = patch.hole(alloc)? {
+            let cut = cut_around::<G>(
+                alloc,
+                shape,
+                universe,
+                model,
+                k + 1,
+                &patch,
+                hole.as_slice(),
+            )?;
+            return Ok(Some(cut));
+        }
+    }
+    Ok(None)
+}

@@ -1,0 +1,8 @@
+use Rattle.std.proofs.Common.{take}
+use Rattle.std.specs.Prelude.{flat_map}
+use Rattle.heesch_encode.specs.Taking.{Takes}
+use Rattle.heesch_encode.proofs.Pieces.{covering_piece}
+use Rattle.heesch_encode.proofs.families.take_covering.Given as goal
+
+abbrev pub invariant-loop-c : goal.invariant-loop-c
+invariant-loop-c g l = Takes l.fn.collector l.collector (flat_map (covering_piece l.shape l.universe.vars l.var l.of) (take l.c-index l.c-items))

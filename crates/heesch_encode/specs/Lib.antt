@@ -1,0 +1,4 @@
+pub mod Families
+pub mod Literals
+pub mod Meeting
+pub mod Taking

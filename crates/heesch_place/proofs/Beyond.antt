@@ -1,0 +1,136 @@
+-- What is kept of the placements over targets is a level.
+use Rattle.std.proofs.Common.{◌≡◌, ℕ, ◌+◌, ◌-◌, Bool, true, false, not, ◌&&◌, List, [], ◌∷◌, filter, get_or, Contains, sym, ap, subst, ◌∙◌, arith, inl, inr, true≢false}
+use Rattle.std.specs.List.{list_any}
+use Rattle.std.proofs.lemmas.Int.{ints}
+use Rattle.std.proofs.lemmas.Bool.{and_parts, and_from, cases_Bool, not-true, not_from_false}
+use Rattle.std.proofs.lemmas.List.Elements.{All-contains}
+use Rattle.heesch_grid.specs.declared.Cell.{Cell}
+use Rattle.heesch_grid.specs.Listing.{ListsExactly}
+use Rattle.heesch_grid.specs.Cells.{cell_before, cells_before, has, meet}
+use Rattle.heesch_grid.specs.CoronaFormula.{IsAtLevel}
+use Rattle.heesch_grid.specs.Geometry.{Geometry, IsGrid, IsCell, Touching}
+use Rattle.heesch_grid.specs.Integers.{same_truth}
+use Rattle.heesch_grid.specs.Pairs.{has-true}
+use Rattle.heesch_grid.specs.Placement.{Touch, touch}
+use Rattle.heesch_grid.specs.Vectors.{IsWithin}
+use Rattle.heesch_grid.proofs.CellFacts.{has-is, meet-true, meet-is}
+use Rattle.heesch_grid.proofs.GridFacts.{Touching-symmetric, touching_near}
+use Rattle.heesch_grid.proofs.ListFacts.{All-from_members, rising_filter, filter_member, member_filter, member_here, member_cases, no_member, any_member, member_any}
+use Rattle.heesch_grid.proofs.TileFacts.{Apart-symmetric, contact, touch_by}
+use Rattle.heesch_index.specs.Covering.{numbers_with}
+use Rattle.heesch_index.proofs.NumberFacts.{numbers_with-range, has-numbers_with, Contains-numbers_with}
+use Rattle.heesch_place.specs.Found.{FromOne, TouchesSome, IsPlacementOver, IsBeyond, is_apart_at}
+use Rattle.heesch_place.proofs.Gathering.{member_at, any_default}
+
+-- what passes a test of a list of exactly what has a property
+filtered : {X : Type 0} (before : X → X → Bool) (P Q : X → Type 0) (test : X → Bool) (xs ys : List X) → ys ≡ filter test xs → ListsExactly before P xs → ((x : X) → P x → test x ≡ true → Q x) → ((x : X) → Q x → P x × (test x ≡ true)) → ListsExactly before Q ys
+filtered {X} before P Q test xs ys is l f h =
+    subst (ListsExactly before Q) (sym is) (record {
+      rising = rising_filter before test xs l.rising;
+      only = All-from_members Q (filter test xs) (λ x m. let k = filter_member test xs x m in f x (All-contains P xs x l.only k.0) k.1);
+      every = λ x q. let k = h x q in member_filter test xs x (l.every x k.0) k.1;
+    })
+
+module _ (g : Geometry) (law : IsGrid g) (shape : List Cell) where
+  -- a cell that touches a cell of the tile is one of the targets
+  pub targets_near : (tiles : List (List Cell)) (targets : List Cell) → ListsExactly cell_before (TouchesSome g tiles) targets → ((tile : List Cell) (c : Cell) → Contains tiles tile → has tile c ≡ true → IsWithin 90000 c) → (c : Cell) → has targets c ≡ true → IsWithin 100000 c
+  targets_near tiles targets l near c h =
+      let t = All-contains (TouchesSome g tiles) targets c l.only (has-true targets c h) in
+      let w = near t.source t.gives.source t.inside (has-is t.source t.gives.source t.gives.inside) in
+      let n = touching_near g law t.gives.source c t.gives.gives in
+      record { a_low = omega (arith, ints, w.a_low, n.a_low); a_high = omega (arith, ints, w.a_high, n.a_high); b_low = omega (arith, ints, w.b_low, n.b_low); b_high = omega (arith, ints, w.b_high, n.b_high) }
+
+  pub one_near : ((c : Cell) → has shape c ≡ true → IsWithin 200 c) → (tile : List Cell) (c : Cell) → Contains (shape ∷ []) tile → has tile c ≡ true → IsWithin 90000 c
+  one_near near tile c m h =
+      elim (member_cases shape [] tile m) [
+        | inl e ↦ let w = near c (ap (λ t. has t c) e ∙ h) in record { a_low = omega (arith, ints, w.a_low); a_high = omega (arith, ints, w.a_high); b_low = omega (arith, ints, w.b_low); b_high = omega (arith, ints, w.b_high) }
+        | inr none ↦ absurd (no_member tile none)
+      ]
+
+  -- ---- the first level
+  pub first_level : (targets : List Cell) (tiles kept : List (List Cell)) → ListsExactly cell_before (TouchesSome g (shape ∷ [])) targets → ListsExactly cells_before (IsPlacementOver g shape targets) tiles → kept ≡ filter (λ t. not (meet t shape)) tiles → ListsExactly cells_before (IsAtLevel g shape 1) kept
+  first_level targets tiles kept around over is =
+      filtered cells_before (IsPlacementOver g shape targets) (IsAtLevel g shape 1) (λ t. not (meet t shape)) tiles kept is over
+      (λ t p a.
+      let d = meet-true targets t p.meets in
+      let from = All-contains (TouchesSome g (shape ∷ [])) targets d.0 around.only d.1 in
+      let in_shape : Contains shape from.gives.source = elim (member_cases shape [] from.source from.inside) [ inl e ↦ subst (λ z. Contains z from.gives.source) (sym e) from.gives.inside | inr none ↦ absurd (no_member from.source none) ] in
+      (p.placement, touch_by g shape t (record { apart = Apart-symmetric t shape (not-true (meet t shape) a); first = from.gives.source; second = d.0; in_first = in_shape; in_second = d.2; touching = from.gives.gives })))
+      (λ t l.
+      let k = contact g shape t l.1 in
+      let target = around.every k.second (record { source = shape; inside = member_here shape []; gives = record { source = k.first; inside = k.in_first; gives = k.touching } }) in
+      (record { placement = l.0; meets = meet-is targets t k.second target k.in_second }, not_from_false (meet t shape) (Apart-symmetric shape t k.apart)))
+
+  -- ---- the next level
+  any_source : (inner : List (List Cell)) (t : List Cell) → list_any (λ s. touch g s t) inner ≡ true → FromOne (Touch g) inner t
+  any_source inner t h = let s = any_member (λ s. touch g s t) inner h in record { source = s.0; inside = s.1; gives = s.2 }
+
+  source_any : (inner : List (List Cell)) (t : List Cell) → FromOne (Touch g) inner t → list_any (λ s. touch g s t) inner ≡ true
+  source_any inner t s = member_any (λ s. touch g s t) inner s.source s.inside s.gives
+
+  not_touch : (t : List Cell) → (Touch g shape t → ⊥) → touch g shape t ≡ false
+  not_touch t n = elim (cases_Bool (touch g shape t)) [ inl e ↦ absurd (n e) | inr f ↦ f ]
+
+  pub next_level : (inner : List (List Cell)) (targets : List Cell) (tiles kept : List (List Cell)) → ListsExactly cell_before (TouchesSome g inner) targets → ListsExactly cells_before (IsPlacementOver g shape targets) tiles → kept ≡ filter (λ t. (not (meet shape t) && not (touch g shape t)) && list_any (λ s. touch g s t) inner) tiles → ListsExactly cells_before (IsBeyond g shape inner) kept
+  next_level inner targets tiles kept around over is =
+      filtered cells_before (IsPlacementOver g shape targets) (IsBeyond g shape inner) (λ t. (not (meet shape t) && not (touch g shape t)) && list_any (λ s. touch g s t) inner) tiles kept is over
+      (λ t p a.
+      let b = and_parts (not (meet shape t) && not (touch g shape t)) (list_any (λ s. touch g s t) inner) a in
+      let d = and_parts (not (meet shape t)) (not (touch g shape t)) b.0 in
+      record { placement = p.placement; apart = not-true (meet shape t) d.0; clear = λ y. true≢false (sym y ∙ not-true (touch g shape t) d.1); touched = any_source inner t b.1 })
+      (λ t l.
+      let s = l.touched in
+      let k = contact g s.source t s.gives in
+      let target = around.every k.second (record { source = s.source; inside = s.inside; gives = record { source = k.first; inside = k.in_first; gives = k.touching } }) in (
+        record { placement = l.placement; meets = meet-is targets t k.second target k.in_second },
+        and_from (not (meet shape t) && not (touch g shape t)) (list_any (λ s. touch g s t) inner) (and_from (not (meet shape t)) (not (touch g shape t)) (not_from_false (meet shape t) l.apart) (not_from_false (touch g shape t) (not_touch t l.clear))) (source_any inner t s),
+      ))
+
+-- ---- tiles by their numbers
+pub numbered_any : (inner : List (List Cell)) (tile : List Cell) (c : Cell) → list_any (λ n. not (meet (get_or inner (n - 1) []) tile)) (numbers_with inner c) ≡ is_apart_at inner tile c
+numbered_any inner tile c =
+    same_truth (list_any (λ n. not (meet (get_or inner (n - 1) []) tile)) (numbers_with inner c)) (is_apart_at inner tile c) forth back
+  where
+    forth : list_any (λ n. not (meet (get_or inner (n - 1) []) tile)) (numbers_with inner c) ≡ true → is_apart_at inner tile c ≡ true
+    forth h =
+        let n = any_member (λ n. not (meet (get_or inner (n - 1) []) tile)) (numbers_with inner c) h in
+        let range = numbers_with-range inner c n.0 n.1 in
+        member_any (λ t. has t c && not (meet t tile)) inner (get_or inner (n.0 - 1) []) (member_at inner (n.0 - 1) [] (let low = range.0 in let high = range.1 in omega arith))
+        (and_from (has (get_or inner (n.0 - 1) []) c) (not (meet (get_or inner (n.0 - 1) []) tile)) (has-numbers_with inner c n.0 n.1) n.2)
+
+    back : is_apart_at inner tile c ≡ true → list_any (λ n. not (meet (get_or inner (n - 1) []) tile)) (numbers_with inner c) ≡ true
+    back h =
+        let t = any_member (λ t. has t c && not (meet t tile)) inner h in
+        let both = and_parts (has t.0 c) (not (meet t.0 tile)) t.2 in
+        let k = place_of inner t.0 t.1 in
+        member_any (λ n. not (meet (get_or inner (n - 1) []) tile)) (numbers_with inner c) (k.0 + 1)
+        (Contains-numbers_with inner c (k.0 + 1) (omega arith) (ap (λ z. has (get_or inner z []) c) (omega arith) ∙ ap (λ z. has z c) k.1 ∙ both.0))
+        (ap (λ z. not (meet (get_or inner z []) tile)) (omega arith) ∙ ap (λ z. not (meet z tile)) k.1 ∙ both.1)
+      where
+        place_of : (xs : List (List Cell)) (x : List Cell) → Contains xs x → (k : ℕ) × (get_or xs k [] ≡ x)
+        place_of xs x m = (m.0, any_default xs m.0 [] x m.1 ∙ m.2)
+
+-- one of the tiles touches the tile where one that is apart from it has a cell next to one of its own
+pub reached_any : (g : Geometry) → IsGrid g → (inner : List (List Cell)) (tile : List Cell) → ((c : Cell) → Contains tile c → IsCell g c) → list_any (λ c. list_any (is_apart_at inner tile) (g.touching c)) tile ≡ list_any (λ s. touch g s tile) inner
+reached_any g law inner tile cells =
+    same_truth (list_any (λ c. list_any (is_apart_at inner tile) (g.touching c)) tile) (list_any (λ s. touch g s tile) inner) forth back
+  where
+    forth : list_any (λ c. list_any (is_apart_at inner tile) (g.touching c)) tile ≡ true → list_any (λ s. touch g s tile) inner ≡ true
+    forth h =
+        let c = any_member (λ c. list_any (is_apart_at inner tile) (g.touching c)) tile h in
+        let e = any_member (is_apart_at inner tile) (g.touching c.0) c.2 in
+        let s = any_member (λ t. has t e.0 && not (meet t tile)) inner e.2 in
+        let both = and_parts (has s.0 e.0) (not (meet s.0 tile)) s.2 in
+        let touching = All-contains (Touching g c.0) (g.touching c.0) e.0 (law.touching_listed c.0 (cells c.0 c.1)).0.only e.1 in
+        member_any (λ s. touch g s tile) inner s.0 s.1
+        (touch_by g s.0 tile (record { apart = not-true (meet s.0 tile) both.1; first = e.0; second = c.0; in_first = has-true s.0 e.0 both.0; in_second = c.1; touching = Touching-symmetric g law c.0 e.0 touching }))
+
+    back : list_any (λ s. touch g s tile) inner ≡ true → list_any (λ c. list_any (is_apart_at inner tile) (g.touching c)) tile ≡ true
+    back h =
+        let s = any_member (λ s. touch g s tile) inner h in
+        let k = contact g s.0 tile s.2 in
+        let near = (law.touching_listed k.second (cells k.second k.in_second)).0.every k.first (Touching-symmetric g law k.first k.second k.touching) in
+        member_any (λ c. list_any (is_apart_at inner tile) (g.touching c)) tile k.second k.in_second
+        (member_any (is_apart_at inner tile) (g.touching k.second) k.first near
+        (member_any (λ t. has t k.first && not (meet t tile)) inner s.0 s.1
+        (and_from (has s.0 k.first) (not (meet s.0 tile)) (has-is s.0 k.first k.in_first) (not_from_false (meet s.0 tile) k.apart))))

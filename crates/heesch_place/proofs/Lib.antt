@@ -1,0 +1,8 @@
+pub mod Moves
+pub mod Turning
+pub mod Gathering
+pub mod Sorting
+pub mod Reaching
+pub mod Beyond
+pub mod Universality
+pub mod Numbering

@@ -1,0 +1,163 @@
+-- Moves of cell lists, and isometries that differ by a move.
+use Rattle.std.proofs.Common.{◌≡◌, refl, sym, ap, subst, ◌∙◌, ℕ, zero, suc, ◌+◌, ◌*◌, ◌/◌, ◌%◌, ◌<◌, ◌≤◌, true, List, [], ◌∷◌, ◌++◌, map, length, get_or, take, ℤ, pos, negsuc, neg_ℤ, ◌+ℤ◌, ◌-ℤ◌, ◌*ℤ◌, ◌≤ℤ◌, ◌<ℤ◌, inl, inr, arith, All, Contains}
+use Rattle.std.specs.Prelude.{nat_lt, false}
+use Rattle.std.specs.Int.{int_rem_euclid}
+use Rattle.std.proofs.lemmas.Int.{ints}
+use Rattle.std.proofs.lemmas.Bool.{cases_Bool}
+use Rattle.std.proofs.lemmas.List.{take_more, length-map}
+use Rattle.std.proofs.lemmas.List.Elements.{All-contains}
+use Rattle.std.proofs.Math.Seq.{take-length}
+use borrow.Author.Tests.{ltb-true}
+use Rattle.heesch_grid.specs.declared.Cell.{Cell}
+use Rattle.heesch_grid.specs.declared.isometries.Iso.{Iso}
+use Rattle.heesch_grid.specs.Lists.{rising_by_test}
+use Rattle.heesch_grid.specs.Cells.{cell, cell_before, has, IsCellListOf}
+use Rattle.heesch_grid.specs.Geometry.{Geometry, IsIsometry, apply, image}
+use Rattle.heesch_grid.specs.Placement.{IsLeastIsometry}
+use Rattle.heesch_grid.specs.Vectors.{IsWithin, plus}
+use Rattle.heesch_grid.specs.Integers.{mul_neg}
+use Rattle.heesch_grid.specs.Pairs.{Cell-eta}
+use Rattle.heesch_grid.specs.PatternLaws.{rises_moved}
+use Rattle.heesch_grid.proofs.CellFacts.{cell_before-irreflexive, cell_before-asymmetric, has-is}
+use Rattle.heesch_grid.proofs.ListFacts.{same_listing, All-from_members}
+use Rattle.heesch_grid.proofs.WindowFacts.{member_map, map_member}
+use Rattle.heesch_grid.proofs.CanonicalFacts.{rounds_once}
+use Rattle.heesch_shape.proofs.Loops.{map_more}
+use Rattle.heesch_shape.proofs.Words.{rising_test}
+use Rattle.heesch_place.specs.Steps.{IsFirstOf, AreUnitsOf}
+
+-- ---- whole units
+
+-- what is left without the remainder is a multiple
+quotient : (z unit : ℤ) → pos 1 ≤ℤ unit → (q : ℤ) × (z -ℤ int_rem_euclid z unit ≡ unit *ℤ q)
+quotient (pos a) (pos n) low =
+    let k : n * (a / n) + a % n ≡ a = let l : 1 ≤ n = omega (arith, ints) in omega arith in
+    (pos (a / n), omega (arith, ints))
+quotient (negsuc a) (pos n) low =
+    let l : 1 ≤ n = omega (arith, ints) in
+    let k : n * (a / n) + a % n ≡ a = omega arith in
+    (neg_ℤ (pos (a / n + 1)), rw mul_neg (omega (arith, ints)))
+quotient z (negsuc n) low = absurd (omega (arith, ints))
+
+same_quotient : (unit z p q r : ℤ) → pos 1 ≤ℤ unit → (unit *ℤ p) +ℤ r ≡ z → pos 0 ≤ℤ r → r <ℤ unit → unit *ℤ q ≡ z → r ≡ pos 0
+same_quotient (pos n) z p q r some e low high f =
+    let same : p ≡ q = rounds_once z n p q (omega (arith, ints, some)) (record { low = omega (arith, ints, e, low); high = omega (arith, ints, e, high) }) (record { low = omega (arith, ints, f); high = omega (arith, ints, f, some) }) in
+    let g = ap (λ x. pos n *ℤ x) same in
+    omega (arith, ints, e, f, g)
+same_quotient (negsuc n) z p q r some e low high f = absurd (omega (arith, ints, some))
+
+-- a multiple leaves no remainder
+pub no_rest : (unit z q r : ℤ) → pos 1 ≤ℤ unit → r ≡ int_rem_euclid z unit → pos 0 ≤ℤ r → r <ℤ unit → unit *ℤ q ≡ z → r ≡ pos 0
+no_rest unit z q r some is low high f =
+    let p = quotient z unit some in
+    same_quotient unit z p.0 q r some (let e = p.1 in omega (arith, ints, e, is)) low high f
+
+-- ---- moved lists
+
+pub first_of : (xs : List Cell) (d : Cell) → 0 < length xs → IsFirstOf xs (get_or xs 0 d)
+first_of [] d h = absurd (omega (arith, h))
+first_of (x ∷ xs) d h = record { rest = xs; is = refl }
+
+pub one_cell_list : (zs xs ys : List Cell) → IsCellListOf zs xs → IsCellListOf zs ys → xs ≡ ys
+one_cell_list zs xs ys p q = same_listing cell_before cell_before-irreflexive cell_before-asymmetric (Contains zs) xs ys p q
+
+-- the cell list of a moved set is the moved cell list
+pub moved_list : (s : Cell) (zs xs : List Cell) → IsCellListOf zs xs → IsCellListOf (map (plus s) zs) (map (plus s) xs)
+moved_list s zs xs l = record {
+  rising = rising_by_test cell_before (map (plus s) xs) (rises_moved s xs (rising_test cell_before xs l.rising));
+  only = All-from_members (Contains (map (plus s) zs)) (map (plus s) xs) (λ d m.
+      let c = map_member (plus s) xs d m in
+      subst (Contains (map (plus s) zs)) c.2 (member_map (plus s) zs c.0 (All-contains (Contains zs) xs c.0 l.only c.1)));
+  every = λ d m.
+      let c = map_member (plus s) zs d m in
+      subst (Contains (map (plus s) xs)) c.2 (member_map (plus s) xs c.0 (l.every c.0 c.1));
+}
+
+-- the move of an isometry
+abbrev pub move_of : Geometry → Iso → Cell
+move_of g by = cell (pos g.unit *ℤ by.da) (pos g.unit *ℤ by.db)
+
+applied : (g : Geometry) (by : Iso) (c : Cell) → plus (move_of g by) (g.turn by.turn c) ≡ apply g by c
+applied g by c = Cell-eta (plus (move_of g by) (g.turn by.turn c)) (apply g by c) (omega (arith, ints)) (omega (arith, ints))
+
+moved_image : (g : Geometry) (by : Iso) (xs : List Cell) → map (plus (move_of g by)) (map (g.turn by.turn) xs) ≡ image g by xs
+moved_image g by [] = refl
+moved_image g by (x ∷ xs) = λ i. applied g by x i ∷ moved_image g by xs i
+
+-- the cell list of an image is the moved list of the turned cells
+pub image_list : (g : Geometry) (by : Iso) (shape turned : List Cell) → IsCellListOf (map (g.turn by.turn) shape) turned → IsCellListOf (image g by shape) (map (plus (move_of g by)) turned)
+image_list g by shape turned l =
+    subst (λ zs. IsCellListOf zs (map (plus (move_of g by)) turned)) (moved_image g by shape) (moved_list (move_of g by) (map (g.turn by.turn) shape) turned l)
+
+move_is : (g : Geometry) (unit : ℤ) (by : Iso) (units s : Cell) → unit ≡ pos g.unit → by.da ≡ units.a → by.db ≡ units.b → AreUnitsOf unit units s → move_of g by ≡ s
+move_is g unit by units s e ea eb h =
+    Cell-eta (move_of g by) s (ap (λ u. u *ℤ by.da) (sym e) ∙ ap (λ z. unit *ℤ z) ea ∙ h.in_a) (ap (λ u. u *ℤ by.db) (sym e) ∙ ap (λ z. unit *ℤ z) eb ∙ h.in_b)
+
+-- an isometry of the turn whose move takes the turned cells to the tile gives the tile
+pub gives_tile : (g : Geometry) (unit : ℤ) (by : Iso) (units s : Cell) (shape turned tile : List Cell) → unit ≡ pos g.unit → by.da ≡ units.a → by.db ≡ units.b → AreUnitsOf unit units s → IsCellListOf (map (g.turn by.turn) shape) turned → tile ≡ map (plus s) turned → IsCellListOf (image g by shape) tile
+gives_tile g unit by units s shape turned tile e ea eb h l is =
+    subst (IsCellListOf (image g by shape)) (ap (λ m. map (plus m) turned) (move_is g unit by units s e ea eb h) ∙ sym is) (image_list g by shape turned l)
+
+plus_once : (s t c : Cell) → plus s c ≡ plus t c → s ≡ t
+plus_once s t c e = let a = ap (λ z. z.a) e in let b = ap (λ z. z.b) e in Cell-eta s t (omega (arith, ints, a)) (omega (arith, ints, b))
+
+head_of : (x y : Cell) (xs ys : List Cell) → x ∷ xs ≡ y ∷ ys → x ≡ y
+head_of x y xs ys e = cc
+
+-- an isometry of the turn that gives the tile moves the first turned cell to the first cell of the tile
+pub must_move : (g : Geometry) (k : ℕ) (by : Iso) (shape turned tile : List Cell) (x y s : Cell) → by.turn ≡ k → IsCellListOf (map (g.turn k) shape) turned → IsCellListOf (image g by shape) tile → IsFirstOf turned x → IsFirstOf tile y → plus s x ≡ y → (move_of g by ≡ s) × (tile ≡ map (plus s) turned)
+must_move g k by shape turned tile x y s turn t l fx fy d =
+    let m = move_of g by in
+    let here = subst (λ j. IsCellListOf (map (g.turn j) shape) turned) (sym turn) t in
+    let same : tile ≡ map (plus m) turned = one_cell_list (image g by shape) tile (map (plus m) turned) l (image_list g by shape turned here) in
+    let first : plus m x ∷ map (plus m) fx.rest ≡ y ∷ fy.rest = sym (ap (map (plus m)) fx.is) ∙ sym same ∙ fy.is in
+    let e : m ≡ s = plus_once m s x (head_of (plus m x) y (map (plus m) fx.rest) fy.rest first ∙ sym d) in
+    (e, same ∙ ap (λ z. map (plus z) turned) e)
+
+pub must_be_units : (g : Geometry) (unit : ℤ) (by : Iso) (s : Cell) → unit ≡ pos g.unit → move_of g by ≡ s → AreUnitsOf unit (cell by.da by.db) s
+must_be_units g unit by s e h = record { in_a = ap (λ u. u *ℤ by.da) e ∙ ap (λ c. c.a) h; in_b = ap (λ u. u *ℤ by.db) e ∙ ap (λ c. c.b) h }
+
+-- one more cell of a moved list
+pub moved_more : (f : Cell → Cell) (from to : List Cell) (i : ℕ) (d e : Cell) → i < length from → i < length to → get_or to i e ≡ f (get_or from i d) → take i to ≡ map f (take i from) → take (i + 1) to ≡ map f (take (i + 1) from)
+moved_more f from to i d e lf lt is so_far =
+    take_more to i e lt ∙ ap (λ zs. zs ++ get_or to i e ∷ []) so_far ∙ ap (λ z. map f (take i from) ++ z ∷ []) is ∙ sym (map_more f from i d lf)
+
+pub moved_all : (f : Cell → Cell) (from to : List Cell) (i : ℕ) → i ≡ length from → length from ≡ length to → take i to ≡ map f (take i from) → to ≡ map f from
+moved_all f from to i e long so_far =
+    sym (take-length to) ∙ ap (λ n. take n to) (sym (e ∙ long)) ∙ so_far ∙ ap (λ n. map f (take n from)) e ∙ ap (map f) (take-length from)
+
+get_or_map : (f : Cell → Cell) (xs : List Cell) (i : ℕ) (d e : Cell) → i < length xs → get_or (map f xs) i e ≡ f (get_or xs i d)
+get_or_map f [] i d e l = absurd (omega arith)
+get_or_map f (x ∷ xs) zero d e l = refl
+get_or_map f (x ∷ xs) (suc i) d e l = get_or_map f xs i d e (omega arith)
+
+-- a list that differs at a place is not the moved list
+pub differs_at : (f : Cell → Cell) (from to : List Cell) (i : ℕ) (d e : Cell) → i < length from → (get_or to i e ≡ f (get_or from i d) → ⊥) → to ≡ map f from → ⊥
+differs_at f from to i d e l n is = n (ap (λ zs. get_or zs i e) is ∙ get_or_map f from i d e l)
+
+pub differs_in_length : (f : Cell → Cell) (from to : List Cell) → (length from ≡ length to → ⊥) → to ≡ map f from → ⊥
+differs_in_length f from to n is = n (sym (ap length is ∙ length-map from f))
+
+-- ---- isometries of least turn
+
+not_below : (m n : ℕ) → (m < n → ⊥) → n ≤ m
+not_below m n f = elim (cases_Bool (nat_lt m n)) [ inl t ↦ absurd (f (ltb-true m n t)) | inr e ↦ at_least m n e ]
+  where
+    at_least : (m n : ℕ) → nat_lt m n ≡ false → n ≤ m
+    at_least m n e = grind arith
+
+-- no isometry of a lesser turn gives the tile
+pub least_of : (g : Geometry) (shape tile : List Cell) (by : Iso) → IsIsometry g by → IsCellListOf (image g by shape) tile → ((other : Iso) → other.turn < by.turn → IsCellListOf (image g other shape) tile → ⊥) → IsLeastIsometry g shape tile by
+least_of g shape tile by is gives none =
+    record { is_isometry = is; gives = gives; least = λ other o l. not_below other.turn by.turn (λ less. none other less l) }
+
+pub none_more : (g : Geometry) (shape tile : List Cell) (k : ℕ) → ((other : Iso) → other.turn < k → IsCellListOf (image g other shape) tile → ⊥) → ((other : Iso) → other.turn ≡ k → IsCellListOf (image g other shape) tile → ⊥) → (other : Iso) → other.turn < k + 1 → IsCellListOf (image g other shape) tile → ⊥
+none_more g shape tile k old now other less l =
+    elim (cases_Bool (nat_lt other.turn k)) [ inl t ↦ old other (ltb-true other.turn k t) l | inr e ↦ now other (equal other.turn k less e) l ]
+  where
+    equal : (m n : ℕ) → m < n + 1 → nat_lt m n ≡ false → m ≡ n
+    equal m n l e = grind arith
+
+-- the image of a shape with the cells of the tile lies where the tile lies
+pub image_within : (g : Geometry) (by : Iso) (shape tile : List Cell) → IsCellListOf (image g by shape) tile → ((c : Cell) → has tile c ≡ true → IsWithin 1000000 c) → All (IsWithin 1000000) (image g by shape)
+image_within g by shape tile l within = All-from_members (IsWithin 1000000) (image g by shape) (λ c m. within c (has-is tile c (l.every c m)))

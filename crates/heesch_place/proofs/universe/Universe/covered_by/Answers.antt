@@ -1,0 +1,56 @@
+use Rattle.std.proofs.Common.{◌≡◌, ◌+◌, ◌<◌, List, map, take, length, get_or, sym, ap, subst, ◌∙◌, arith}
+use Rattle.heesch_grid.specs.declared.Cell.{Cell}
+use Rattle.heesch_grid.specs.CoronaFormula.{Variable}
+use Rattle.heesch_index.specs.Covering.{numbers_with}
+use Rattle.heesch_index.proofs.NumberFacts.{numbers_with-at}
+use Rattle.heesch_place.specs.Universes.{Levels, LevelsUpTo, covering}
+use Rattle.heesch_place.proofs.Numbering.{covering_cut, covering_all, numbered_entry, levels_more, index_tiles, length-mapped}
+use Rattle.heesch_place.specs.declared.universe.Entry.{Entry}
+use Rattle.heesch_place.proofs.universe.Universe.covered_by.Goals as goal
+
+pub overflow_sub-number : goal.overflow_sub-number
+overflow_sub-number g c =
+    (numbers_with-at c.self.inside.index c.args.c c.covering-numbers.result.now c.covering-numbers.ensures c.loop-i.i c.loop-i-test.true).0
+
+pub index-requires : goal.index-requires
+index-requires g c =
+    let at = numbers_with-at c.self.inside.index c.args.c c.covering-numbers.result.now c.covering-numbers.ensures c.loop-i.i c.loop-i-test.true in
+    let tile_of : Entry g.row.G.Denot → List Cell = λ e. e.place.tile in
+    let long = ap length c.self.invariant.indexed ∙ length-mapped tile_of c.self.inside.entries.items in
+    omega (arith, at.0, at.1, long, c.self.inside.entries.ok.0)
+
+pub returns-then-index-up_to : goal.returns-then-index-up_to
+returns-then-index-up_to g c =
+    let variable : Entry g.row.G.Denot → Variable = λ e. record { level = e.level; tile = e.place.tile } in
+    let entries = c.self.inside.entries.items in
+    let vars = map variable entries in
+    let view : vars ≡ c.args.self.now.vars = ap (λ (u : Levels). u.vars) c.self.view_is in
+    let ns = c.covering-numbers.result.now in
+    let i = c.loop-i.i in
+    let is = c.covering-numbers.ensures ∙ ap (λ sets. numbers_with sets c.args.c) (index_tiles variable entries c.self.inside.index c.self.invariant.indexed) in
+    let low = subst (λ vs. LevelsUpTo vs c.args.up_to (take i ns)) (sym view) c.loop-i.invariant in
+    covering_cut vars c.args.up_to c.args.c ns i c.self.invariant.universe.rising is low c.loop-i-test.true
+    (λ x at. subst (λ (z : Variable). c.args.up_to < z.level) (numbered_entry variable entries (get_or ns i 0) x c.index.result.now at c.index.ensures) c.if-index-up_to.true)
+    ∙ ap (λ vs. covering vs c.args.up_to c.args.c) view
+
+pub loop-i-preserved : goal.loop-i-preserved
+loop-i-preserved g c =
+    let variable : Entry g.row.G.Denot → Variable = λ e. record { level = e.level; tile = e.place.tile } in
+    let entries = c.self.inside.entries.items in
+    let view : map variable entries ≡ c.args.self.now.vars = ap (λ (u : Levels). u.vars) c.self.view_is in
+    let ns = c.covering-numbers.result.now in
+    let i = c.loop-i.i in
+    let low = subst (λ vs. LevelsUpTo vs c.args.up_to (take i ns)) (sym view) c.loop-i.invariant in
+    subst (λ vs. LevelsUpTo vs c.args.up_to (take (i + 1) ns)) view (levels_more variable entries c.args.up_to ns i c.index.result.now c.loop-i-test.true c.index.ensures c.if-index-up_to.false low)
+
+pub returns : goal.returns
+returns g c =
+    let variable : Entry g.row.G.Denot → Variable = λ e. record { level = e.level; tile = e.place.tile } in
+    let entries = c.self.inside.entries.items in
+    let vars = map variable entries in
+    let view : vars ≡ c.args.self.now.vars = ap (λ (u : Levels). u.vars) c.self.view_is in
+    let ns = c.covering-numbers.result.now in
+    let is = c.covering-numbers.ensures ∙ ap (λ sets. numbers_with sets c.args.c) (index_tiles variable entries c.self.inside.index c.self.invariant.indexed) in
+    let low = subst (λ vs. LevelsUpTo vs c.args.up_to (take c.loop-i.i ns)) (sym view) c.loop-i.invariant in
+    covering_all vars c.args.up_to c.args.c ns c.loop-i.i is (omega (arith, c.loop-i-test.false, c.loop-i.auto.i-end)) low
+    ∙ ap (λ vs. covering vs c.args.up_to c.args.c) view

@@ -1,0 +1,91 @@
+//! Isometries of one turn that carry a shape to a tile.
+ghost use Rattle.std.specs.Prelude.{◌≡◌, ◌≢◌, ◌<◌, ◌≤◌, true, false, map, length, IfSome, IfNone};
+ghost use Rattle.heesch_grid.specs.declared.Cell.{Cell};
+ghost use Rattle.heesch_grid.specs.declared.isometries.Iso.{Iso};
+ghost use Rattle.heesch_grid.specs.Cells.{has, IsCellListOf};
+ghost use Rattle.heesch_grid.specs.Geometry.{image};
+ghost use Rattle.heesch_grid.specs.Vectors.{IsWithin, plus};
+ghost use Rattle.heesch_place.specs.Steps.{IsFirstOf};
+
+use crate::steps::{difference, moved, units_of};
+use arrayvec::ArrayVec;
+use heesch_grid::{Cell, Grid, Iso};
+use heesch_shape::{CELLS_MAX, Shape};
+
+/// The cells under turn k, in their order.
+fn turned_cells<G: Grid>(cells: &[Cell], k: u32) -> ArrayVec<Cell, CELLS_MAX>
+    requires few { length cells.now ≤ 32 }
+    requires within { (c : Cell) → has cells.now c ≡ true → IsWithin 1000000 c }
+    requires turn { k < G.geometry.turns }
+    ensures { result.items ≡ map (G.geometry.turn k) cells.now }
+{
+    let mut all = ArrayVec::new();
+    for c in cells {
+        all.push(G::turn(k, *c));
+    }
+    all
+}
+
+/// The cells of the shape under turn k, in cell order.
+fn turned<G: Grid>(shape: &Shape<G>, k: u32) -> ArrayVec<Cell, CELLS_MAX>
+    requires { k < G.geometry.turns }
+    ensures list { IsCellListOf (map (G.geometry.turn k) shape.now) result.items }
+    ensures within { (c : Cell) → has result.items c ≡ true → IsWithin 2000000 c }
+    ensures long { length result.items ≡ length shape.now }
+{
+    let mut cells = turned_cells::<G>(shape.cells(), k);
+    cells.sort_unstable();
+    cells
+}
+
+/// Whether the second list is the first, with each cell moved by the same step.
+fn is_moved(from: &[Cell], step: Cell, to: &[Cell]) -> bool
+    requires within { (c : Cell) → has from.now c ≡ true → IsWithin 2000000 c }
+    requires near { IsWithin 3000000 step }
+    ensures yes { result ≡ true → to.now ≡ map (plus step) from.now }
+    ensures no { result ≡ false → to.now ≢ map (plus step) from.now }
+{
+    if from.len() != to.len() {
+        return false;
+    }
+    for (i, c) in from.iter().enumerate() {
+        if to[i] != moved(*c, step) {
+            return false;
+        }
+    }
+    true
+}
+
+/// The first cell.
+fn first_of(cells: &[Cell]) -> Cell
+    requires { 1 ≤ length cells.now }
+    ensures first { IsFirstOf cells.now result }
+    ensures member { has cells.now result ≡ true }
+{
+    cells[0]
+}
+
+/// The isometry of turn k that carries the shape to the tile, if there is one. It turns each cell of
+/// the shape and sorts them; the first cells then say how far they are to be moved.
+pub(crate) fn leading<G: Grid>(shape: &Shape<G>, k: u32, tile: &Shape<G>) -> Option<Iso>
+    requires { k < G.geometry.turns }
+    ensures turn { IfSome result (λ by. by.turn ≡ k) }
+    ensures some { IfSome result (λ by. IsCellListOf (image G.geometry by shape.now) tile.now) }
+    ensures none { IfNone result ((by : Iso) → by.turn ≡ k → IsCellListOf (image G.geometry by shape.now) tile.now → ⊥) }
+{
+    let _shape = shape.cells();
+    let turned = turned(shape, k);
+    let cells = tile.cells();
+    let step = difference(first_of(turned.as_slice()), first_of(cells));
+    if !is_moved(turned.as_slice(), step, cells) {
+        return None;
+    }
+    let Some(units) = units_of(step, G::UNIT) else {
+        return None;
+    };
+    Some(Iso {
+        turn: k,
+        da: units.a,
+        db: units.b,
+    })
+}

@@ -1,0 +1,215 @@
+//! The variables of a corona formula.
+ghost use Rattle.std.specs.Prelude.{◌≡◌, ◌+◌, ◌≤◌, ◌<◌, ◌^◌, ℕ, List, map, length, All, IfOk, OnOk, MatchOption};
+ghost use Rattle.heesch_grid.specs.declared.Cell.{Cell};
+ghost use Rattle.heesch_grid.specs.Polyform.{IsCanonicalListOf};
+ghost use Rattle.heesch_grid.specs.Placement.{IsPlacement, IsLeastIsometry};
+ghost use Rattle.heesch_grid.specs.CoronaFormula.{Variable, IsUniverse};
+ghost use Rattle.heesch_place.specs.Universes.{IsUniverseOf, IsNumbered, covering, variable_cmp, HaveLeast, AddTiles};
+
+use crate::level::Level;
+use crate::lists::add;
+use crate::placement::Placement;
+use heesch_grid::{Cell, Grid};
+use heesch_index::CellIndex;
+use heesch_io::{NoMemory, Seq};
+use heesch_shape::Shape;
+use std::alloc::Global;
+use std::cmp::Ordering;
+use std::marker::Model;
+
+/// A universe has fewer variables than this.
+const VARIABLES_MAX: usize = 0x8000_0000;
+
+/// A variable: a level and a placement at it.
+#[derive(Drop)]
+struct Entry<G: Grid> {
+    level: u32,
+    place: Placement<G>,
+}
+
+impl<G: Grid> Entry<G> {
+    /// How the variable compares with one of this level and these cells.
+    fn compared(&self, level: u32, tile: &Shape<G>) -> Ordering
+        ensures { result ≡ variable_cmp (record { level = self.now.level; tile = self.now.place.tile }) (record { level = level; tile = tile.now }) }
+    {
+        self.level.cmp(&level).then(self.place.shape().cmp(tile))
+    }
+}
+
+/// The variables of the levels 1 to a level: all placements that the corona formula names, each with
+/// its least isometry, once at each level that it is at.
+///
+/// They are numbered from 1, by level and then by cell list. An index by cell says which variables'
+/// tiles have it.
+#[derive(Drop)]
+pub struct Universe<G: Grid> {
+    shape: Shape<G>,
+    level: u32,
+    entries: Vec<Entry<G>>,
+    index: CellIndex,
+}
+
+impl<G: Grid> Model for Universe<G> {
+    ghost use Rattle.std.specs.Prelude.{map};
+    ghost use Rattle.heesch_place.specs.Universes.{Levels, AreIndexed};
+
+    ghost Value = { Levels };
+
+    ghost view = { λ u. record { shape = u.shape; level = u.level; vars = map (λ e. record { level = e.level; tile = e.place.tile }) u.entries.items } };
+
+    ghost invariant = { λ u. AreIndexed (λ e. record { level = e.level; tile = e.place.tile }) (λ e. e.place.by) G.geometry u.shape u.level u.entries.items u.index };
+}
+
+/// Adds a variable of this level for each of the tiles.
+fn add_entries<G: Grid>(
+    entries: &mut Vec<Entry<G>>,
+    shape: &Shape<G>,
+    level: u32,
+    tiles: &[Shape<G>],
+) -> Result<(), NoMemory>
+    requires { All (IsPlacement G.geometry shape.now) tiles.now }
+    ensures { OnOk result (AddTiles (λ e. record { level = e.level; tile = e.place.tile }) (λ e. e.place.by) G.geometry shape.now level tiles.now entries.old.items entries.new.items) }
+{
+    for tile in tiles {
+        let place = Placement::onto(shape, tile);
+        add(entries, Entry { level, place })?;
+    }
+    Ok(())
+}
+
+/// The variables of the levels 1 to this one.
+fn entries_of<G: Grid>(
+    alloc: Global,
+    shape: &Shape<G>,
+    level: u32,
+) -> Result<Vec<Entry<G>>, NoMemory>
+    requires level { (1 ≤ level) × (level ≤ 6) }
+    requires canonical { IsCanonicalListOf G.geometry shape.now shape.now }
+    ensures universe { IfOk result (λ all. IsUniverse G.geometry shape.now level (map (λ e. record { level = e.level; tile = e.place.tile }) all.items)) }
+    ensures least { IfOk result (λ all. HaveLeast (λ e. record { level = e.level; tile = e.place.tile }) (λ e. e.place.by) G.geometry shape.now all.items) }
+{
+    let _cells = shape.cells();
+    let mut entries = Vec::new(alloc);
+    let mut current = Level::first(alloc, shape)?;
+    add_entries(&mut entries, shape, 1, current.tiles())?;
+    for k in 1..level {
+        let next = current.next(alloc, shape)?;
+        add_entries(&mut entries, shape, k + 1, next.tiles())?;
+        current = next;
+    }
+    Ok(entries)
+}
+
+/// The index of the variables' tiles.
+fn index_of<G: Grid>(alloc: Global, entries: &[Entry<G>]) -> Result<CellIndex, NoMemory>
+    ensures { IfOk result (λ index. index ≡ map (λ e. e.place.tile) entries.now) }
+{
+    let mut index = CellIndex::new(alloc);
+    for entry in entries {
+        index.add(entry.place.shape().cells())?;
+    }
+    Ok(index)
+}
+
+impl<G: Grid> Universe<G> {
+    /// The universe of a canonical shape, at a level from 1 to 6. A universe of 2^31 variables or more
+    /// counts as want of memory.
+    ///
+    /// For each level, each cell that touches a placement of the level below is tried once, with each
+    /// turn and each cell of the shape; so the cost grows with the area that the levels fill and not
+    /// with the square of the number of variables.
+    pub fn of(alloc: Global, shape: &Shape<G>, level: u32) -> Result<Universe<G>, NoMemory>
+        requires level { (1 ≤ level) × (level ≤ 6) }
+        requires canonical { IsCanonicalListOf G.geometry shape.now shape.now }
+        ensures universe { IfOk result (λ u. IsUniverseOf G.geometry u) }
+        ensures shape { IfOk result (λ u. u.shape ≡ shape.now) }
+        ensures level { IfOk result (λ u. u.level ≡ level) }
+        ensures few { IfOk result (λ u. length u.vars < 2 ^ 31) }
+    {
+        let entries = entries_of(alloc, shape, level)?;
+        if entries.len() >= VARIABLES_MAX {
+            return Err(NoMemory);
+        }
+        let index = index_of(alloc, entries.as_slice())?;
+        Ok(Universe {
+            shape: shape.canonical(),
+            level,
+            entries,
+            index,
+        })
+    }
+
+    /// How many variables there are. It takes no memory and a constant time.
+    pub fn count(&self) -> u32
+        ensures count { result ≡ length self.now.vars }
+        ensures universe { IsUniverseOf G.geometry self.now }
+    {
+        self.entries.len() as u32
+    }
+
+    /// The level up to which it has variables, from 1 to 6. It takes no memory and a constant time.
+    pub fn level(&self) -> u32
+        ensures level { result ≡ self.now.level }
+        ensures range { (1 ≤ self.now.level) × (self.now.level ≤ 6) }
+    {
+        self.level
+    }
+
+    /// The level of a variable, by its number from 1 to the count. It takes no memory and a constant
+    /// time.
+    pub fn level_of(&self, var: u32) -> u32
+        requires { (1 ≤ var) × (var ≤ length self.now.vars) }
+        ensures { (x : Variable) → IsNumbered self.now.vars var x → result ≡ x.level }
+    {
+        self.entries[var as usize - 1].level
+    }
+
+    /// The placement of a variable, by its number from 1 to the count. It takes no memory and a
+    /// constant time.
+    pub fn placement_of(&self, var: u32) -> &Placement<G>
+        requires { (1 ≤ var) × (var ≤ length self.now.vars) }
+        ensures tile { (x : Variable) → IsNumbered self.now.vars var x → result.now.tile ≡ x.tile }
+        ensures least { IsLeastIsometry G.geometry self.now.shape result.now.tile result.now.by }
+    {
+        &self.entries[var as usize - 1].place
+    }
+
+    /// The number of the variable of a level and a placement, where there is one. A binary search over
+    /// all variables; it takes no memory.
+    pub fn number_of(&self, level: u32, place: &Placement<G>) -> Option<u32>
+        ensures { MatchOption result
+            ((n : ℕ) (x : Variable) → IsNumbered self.now.vars n x → ¬ ((x.level ≡ level) × (x.tile ≡ place.now.tile)))
+            (λ n. IsNumbered self.now.vars n (record { level = level; tile = place.now.tile })) }
+    {
+        let tile = place.shape();
+        let found = self
+            .entries
+            .binary_search_by(|entry| entry.compared(level, tile));
+        match found {
+            Ok(at) => Some(at as u32 + 1),
+            Err(_) => None,
+        }
+    }
+
+    /// The numbers, rising, of the variables of level at most `up_to` whose tile has the cell. One
+    /// look-up and a walk over the answer; it takes no memory.
+    pub fn covered_by(&self, c: Cell, up_to: u32) -> &[u32]
+        ensures { result.now ≡ covering self.now.vars up_to c }
+    {
+        let numbers = self.index.covering(c);
+        for (i, number) in numbers.iter().enumerate() {
+            if self.entries[*number as usize - 1].level > up_to {
+                return &numbers[..i];
+            }
+        }
+        numbers
+    }
+
+    /// The same numbers as a list of their own.
+    pub fn covering(&self, alloc: Global, c: Cell, up_to: u32) -> Result<Seq<u32>, NoMemory>
+        ensures { IfOk result (λ numbers. numbers ≡ covering self.now.vars up_to c) }
+    {
+        let numbers = Vec::from_slice(alloc, self.covered_by(c, up_to))?;
+        Ok(Seq::from_vec(numbers))
+    }
+}

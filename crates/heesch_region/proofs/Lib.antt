@@ -1,0 +1,7 @@
+pub mod Rows
+pub mod Places
+pub mod Boxes
+pub mod Marking
+pub mod Strips
+pub mod Listings
+pub mod Holes

@@ -1,0 +1,5 @@
+pub mod Spans
+pub mod Bits
+pub mod Windows
+pub mod Marks
+pub mod Floods

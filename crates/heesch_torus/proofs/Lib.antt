@@ -1,0 +1,11 @@
+pub mod Repeating
+pub mod Images
+pub mod Finding
+pub mod Tried
+pub mod Outcomes
+pub mod Numbering
+pub mod Excluding
+pub mod Formulas
+pub mod Choosing
+pub mod Modelled
+pub mod Solving

@@ -1,0 +1,55 @@
+use Rattle.std.proofs.Common.{◌≡◌, List, ◌++◌, map, length, sym, ap, ◌∙◌, subst, arith, All}
+use Rattle.std.specs.Prelude.{ℕ}
+use Rattle.std.proofs.lemmas.List.{length-map}
+use Rattle.heesch_cnf.specs.declared.literal.Lit.{Lit}
+use Rattle.heesch_cert.specs.Literals.{literals}
+use Rattle.heesch_grid.specs.Cells.{meet}
+use Rattle.heesch_grid.specs.CoronaFormula.{exclusion_clauses}
+use Rattle.heesch_tiling.proofs.Spots.{window_small}
+use Rattle.heesch_torus.specs.Covering.{AreCovering, AreNumbers, cell_lists}
+use Rattle.heesch_torus.specs.Variables.{TorusVariable, sets_of}
+use Rattle.heesch_torus.proofs.Numbering.{covering_numbers, list_clauses}
+use Rattle.heesch_torus.proofs.formula.formula_of.Goals as goal
+
+pub add_covering_clauses-requires-clause-numbers : goal.add_covering_clauses-requires-clause-numbers
+add_covering_clauses-requires-clause-numbers g c =
+    let count : length (sets_of c.args.variables.now) ≡ c.new-formula.result.vars = length-map c.args.variables.now (λ (x : TorusVariable). x.cells) ∙ sym c.new-formula.ensures.vars in
+    subst (λ (ls : List (List ℕ)). All (AreNumbers c.new-formula.result.vars) ls) (sym c.as_slice.ensures.value)
+    (subst (λ n. All (AreNumbers n) c.in_ok-lists.lists.items) count (covering_numbers g.G.Grid.geometry c.args.triple (sets_of c.args.variables.now) c.in_ok-lists.lists.items c.in_ok-lists.ensures))
+
+pub add_covering_clauses-requires-clause-small : goal.add_covering_clauses-requires-clause-small
+add_covering_clauses-requires-clause-small g c =
+    let few = window_small g.G.Grid.geometry.unit c.args.triple.p c.args.triple.q g.met.G.Grid.laws.unit_range.1 in
+    let lists : AreCovering g.G.Grid.geometry c.args.triple (sets_of c.args.variables.now) c.in_ok-lists.lists.items = c.in_ok-lists.ensures in
+    let same = ap length c.as_slice.ensures.value in
+    let all = lists.all in
+    omega (arith, few, same, all, c.requires.small)
+
+pub add_pair_clauses-requires-clause-room : goal.add_pair_clauses-requires-clause-room
+add_pair_clauses-requires-clause-room g c =
+    let few = window_small g.G.Grid.geometry.unit c.args.triple.p c.args.triple.q g.met.G.Grid.laws.unit_range.1 in
+    let lists : AreCovering g.G.Grid.geometry c.args.triple (sets_of c.args.variables.now) c.in_ok-lists.lists.items = c.in_ok-lists.ensures in
+    let same = ap length c.as_slice.ensures.value in
+    let all = lists.all in
+    let none = ap length c.new-formula.ensures.clauses in
+    omega (arith, few, same, all, c.requires.small, none, c.in_ok-add_covering_clauses.ensures.few)
+
+pub returns-clause-few : goal.returns-clause-few
+returns-clause-few g c =
+    let few = window_small g.G.Grid.geometry.unit c.args.triple.p c.args.triple.q g.met.G.Grid.laws.unit_range.1 in
+    let lists : AreCovering g.G.Grid.geometry c.args.triple (sets_of c.args.variables.now) c.in_ok-lists.lists.items = c.in_ok-lists.ensures in
+    let same = ap length c.as_slice.ensures.value in
+    let all = lists.all in
+    let none = ap length c.new-formula.ensures.clauses in
+    omega (arith, few, same, all, c.requires.small, none, c.in_ok-add_covering_clauses.ensures.few, c.in_ok-add_pair_clauses.ensures.few)
+
+pub returns-clause-clauses : goal.returns-clause-clauses
+returns-clause-clauses g c =
+    let sets = sets_of c.args.variables.now in
+    let rest = exclusion_clauses literals meet (sets_of c.args.variables.now) in
+    c.in_ok-add_pair_clauses.ensures.adds.clauses
+    ∙ ap (λ (cs : List (List Lit)). cs ++ exclusion_clauses literals meet (sets_of c.args.variables.now))
+    (c.in_ok-add_covering_clauses.ensures.adds.clauses
+    ∙ ap (λ (old : List (List Lit)). old ++ map (map literals.plus) (cell_lists g.G.Grid.geometry c.args.triple c.as_slice.result.now)) c.new-formula.ensures.clauses
+    ∙ ap (λ (ls : List (List ℕ)). map (map literals.plus) (cell_lists g.G.Grid.geometry c.args.triple ls)) c.as_slice.ensures.value
+    ∙ list_clauses g.G.Grid.geometry c.args.triple sets c.in_ok-lists.lists.items c.in_ok-lists.ensures)

@@ -1,0 +1,21 @@
+use Rattle.std.proofs.Common.{sym, subst, ◌∙◌}
+use Rattle.heesch_grid.specs.Geometry.{IsCell, apply}
+use Rattle.heesch_grid.specs.Vectors.{IsWithin}
+use Rattle.heesch_grid.specs.Lattice.{translated}
+use Rattle.heesch_grid.proofs.ReductionFacts.{reduced_once}
+use Rattle.heesch_tiling.proofs.Steps.{image_within}
+use Rattle.heesch_torus.proofs.residues.residue_of.Goals as goal
+
+pub reduce-requires : goal.reduce-requires
+reduce-requires g c =
+    subst (IsWithin 1000000) (sym c.apply.ensures) (image_within g.G.Grid.geometry g.met.G.Grid.laws c.args.by c.args.c c.requires.range c.requires.within)
+
+pub returns : goal.returns
+returns g c =
+    let met = g.met.G.Grid in
+    let geometry = g.G.Grid.geometry in
+    let t = c.args.triple in
+    let kept : IsCell g.G.Grid.geometry (apply g.G.Grid.geometry c.args.by c.args.c) = met.laws.cells_kept c.args.by c.requires.range.turn c.args.c c.requires.cell in
+    let in_grid : IsCell g.G.Grid.geometry c.apply.result = subst (IsCell geometry) (sym c.apply.ensures) kept in
+    let v = c.reduce.ensures.differs in
+    reduced_once geometry met.laws t c.reduce.ensures.triple v.i v.j (apply geometry c.args.by c.args.c) c.reduce.result kept (c.reduce.ensures.reduced in_grid) (v.is ∙ (λ n. translated geometry t v.i v.j (c.apply.ensures n)))

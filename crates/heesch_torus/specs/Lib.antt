@@ -1,0 +1,10 @@
+pub mod Domain
+pub mod Variables
+pub mod Repeats
+pub mod Trying
+pub mod Covering
+pub mod Formula
+pub mod Marks
+pub mod Chosen
+pub mod Answer
+pub mod Outcome

@@ -1,0 +1,89 @@
+//! The variables that have a reduced cell, for each reduced cell.
+ghost use Rattle.std.specs.Prelude.{◌≡◌, ◌<◌, ◌≤◌, ◌++◌, ◌∷◌, [], length, slice_set, slice_index_or, replicate, IfOk, OnOk};
+ghost use Rattle.heesch_grid.specs.Lattice.{IsTriple};
+ghost use Rattle.heesch_tiling.specs.Counting.{window_size};
+ghost use Rattle.heesch_torus.specs.Variables.{sets_of, AreReducedSets, IsReducedSet};
+ghost use Rattle.heesch_torus.specs.Covering.{AreCovering, AddsNumber};
+
+use crate::found::Variable;
+use crate::window::{number_of, window_size};
+use heesch_grid::{Cell, Grid};
+use heesch_io::{NoMemory, Seq};
+use heesch_lattice::Triple;
+use std::alloc::Global;
+
+/// Adds a number to the k-th list.
+fn add_to(lists: &mut [Seq<u32>], k: usize, variable: u32) -> Result<(), NoMemory>
+    requires { k < length lists.old }
+    ensures { OnOk result (lists.new ≡ slice_set lists.old k (slice_index_or lists.old k [] ++ variable ∷ [])) }
+{
+    lists[k].push(variable)
+}
+
+/// Adds the number of a variable to the lists of its cells.
+fn add_variable<G: Grid>(
+    lists: &mut [Seq<u32>],
+    triple: Triple,
+    cells: &[Cell],
+    variable: u32,
+) -> Result<(), NoMemory>
+    requires triple { IsTriple triple }
+    requires all { length lists.old ≡ window_size G.geometry triple }
+    requires cells { IsReducedSet G.geometry triple cells.now }
+    ensures { OnOk result (AddsNumber G.geometry triple cells.now variable lists.old lists.new) }
+{
+    for c in cells {
+        add_to(lists, number_of::<G>(triple, *c), variable)?;
+    }
+    Ok(())
+}
+
+/// An empty list for each number.
+fn empty_lists(alloc: Global, count: usize) -> Result<Vec<Seq<u32>>, NoMemory>
+    ensures { IfOk result (λ v. v.items ≡ replicate count []) }
+{
+    let mut lists = Vec::new(alloc);
+    for _ in 0..count {
+        lists.push(Seq::new(alloc))?;
+    }
+    Ok(lists)
+}
+
+/// Adds the numbers of the variables to the lists of their cells.
+fn add_variables<G: Grid>(
+    lists: &mut [Seq<u32>],
+    triple: Triple,
+    variables: &[Variable],
+) -> Result<(), NoMemory>
+    requires triple { IsTriple triple }
+    requires sets { AreReducedSets G.geometry triple (sets_of variables.now) }
+    requires few { length variables.now ≤ 4608 }
+    requires none { AreCovering G.geometry triple [] lists.old }
+    ensures { OnOk result (AreCovering G.geometry triple (sets_of variables.now) lists.new) }
+{
+    for (before, variable) in variables.iter().enumerate() {
+        add_variable::<G>(
+            lists,
+            triple,
+            variable.residues.as_slice(),
+            before as u32 + 1,
+        )?;
+    }
+    Ok(())
+}
+
+/// For each pair of the window the numbers of the variables that have it, in rising order.
+pub(crate) fn covering_lists<G: Grid>(
+    alloc: Global,
+    triple: Triple,
+    variables: &[Variable],
+) -> Result<Vec<Seq<u32>>, NoMemory>
+    requires triple { IsTriple triple }
+    requires sets { AreReducedSets G.geometry triple (sets_of variables.now) }
+    requires few { length variables.now ≤ 4608 }
+    ensures { IfOk result (λ lists. AreCovering G.geometry triple (sets_of variables.now) lists.items) }
+{
+    let mut lists = empty_lists(alloc, window_size::<G>(triple))?;
+    add_variables::<G>(&mut lists, triple, variables)?;
+    Ok(lists)
+}

@@ -1,0 +1,69 @@
+//! The torus formula.
+ghost use Rattle.std.specs.Prelude.{◌≡◌, ◌≤◌, ◌*◌, true, length, IfOk};
+ghost use Rattle.heesch_grid.specs.declared.Cell.{Cell};
+ghost use Rattle.heesch_grid.specs.Cells.{has};
+ghost use Rattle.heesch_grid.specs.Lattice.{IsTriple};
+ghost use Rattle.heesch_grid.specs.TorusFormula.{torus_clauses};
+ghost use Rattle.heesch_grid.specs.Vectors.{IsWithin};
+ghost use Rattle.heesch_cert.specs.Literals.{literals};
+ghost use Rattle.heesch_torus.specs.Domain.{HasDomain};
+ghost use Rattle.heesch_torus.specs.Formula.{reduced_cells, IsFormulaOf, HasModelWhereCover};
+ghost use Rattle.heesch_torus.specs.Variables.{sets_of, AreReducedSets};
+
+use crate::clauses::add_covering_clauses;
+use crate::covering::covering_lists;
+use crate::found::Variable;
+use crate::pairs::add_pair_clauses;
+use crate::variables::variables_of;
+use heesch_cnf::Formula;
+use heesch_grid::Grid;
+use heesch_io::NoMemory;
+use heesch_lattice::Triple;
+use heesch_shape::Shape;
+use std::alloc::Global;
+
+/// The formula over these variables.
+pub(crate) fn formula_of<G: Grid>(
+    alloc: Global,
+    triple: Triple,
+    variables: &[Variable],
+) -> Result<Formula, NoMemory>
+    requires triple { IsTriple triple }
+    requires small { triple.p * triple.q ≤ 384 }
+    requires sets { AreReducedSets G.geometry triple (sets_of variables.now) }
+    requires few { length variables.now ≤ 4608 }
+    ensures vars { IfOk result (λ f. f.vars ≡ length variables.now) }
+    ensures clauses { IfOk result (λ f. f.clauses ≡ torus_clauses literals (reduced_cells G.geometry triple) (sets_of variables.now)) }
+    ensures few { IfOk result (λ f. length f.clauses ≤ 30000000) }
+{
+    let lists = covering_lists::<G>(alloc, triple, variables)?;
+    let mut formula = Formula::new(alloc, variables.len() as u32);
+    add_covering_clauses::<G>(alloc, &mut formula, triple, lists.as_slice())?;
+    add_pair_clauses::<G>(alloc, &mut formula, triple, variables, lists.as_slice())?;
+    Ok(formula)
+}
+
+/// The torus formula of a shape and a triple. Its variables are the residue sets: the sets of
+/// reduced cells of images of the shape that have as many of them as the shape has cells, numbered
+/// from 1 by their cell lists. Its clauses say, for each reduced cell in cell order, that one of
+/// the variables that have it is true, and then, of each two variables that share a cell, by the
+/// first and then the second, that one is false. It has a model exactly where the triple has a
+/// periodic cover. Condition: the cells lie within 100,000 of 0, and
+/// the triple is one of a domain of 1 to 12 tiles.
+///
+/// Cost: a reduction and a comparison or two for each cell of an image within the triple, of which
+/// there are at most 4,608; then for each variable its cells' lists of variables, which are sought
+/// by number, a pass over the later variables, and the clauses.
+pub fn torus_formula<G: Grid>(
+    alloc: Global,
+    shape: &Shape<G>,
+    triple: Triple,
+) -> Result<Formula, NoMemory>
+    requires near { (c : Cell) → has shape.now c ≡ true → IsWithin 100000 c }
+    requires domain { HasDomain G.geometry (length shape.now) triple }
+    ensures is { IfOk result (λ f. IsFormulaOf G.geometry shape.now triple f.vars f.clauses) }
+    ensures model { IfOk result (λ f. HasModelWhereCover G.geometry shape.now triple f.clauses) }
+{
+    let variables = variables_of::<G>(alloc, shape.cells(), triple)?;
+    formula_of::<G>(alloc, triple, variables.as_slice())
+}

@@ -1,0 +1,138 @@
+//! The clauses that say that of two residue sets that share a cell one isn't chosen.
+ghost use Rattle.std.specs.Prelude.{◌≡◌, ◌<◌, ◌≤◌, ◌+◌, ◌-◌, ◌*◌, ◌^◌, ◌∷◌, [], ◌==◌, length, replicate, All, IfOk, OnOk};
+ghost use Rattle.std.specs.List.{list_any};
+ghost use Rattle.heesch_cert.specs.Literals.{literals};
+ghost use Rattle.heesch_grid.specs.Cells.{meet};
+ghost use Rattle.heesch_grid.specs.CoronaFormula.{exclusion_clauses};
+ghost use Rattle.heesch_grid.specs.Lattice.{IsTriple};
+ghost use Rattle.heesch_torus.specs.Covering.{AreCovering};
+ghost use Rattle.heesch_torus.specs.Formula.{AddsClauses, pair_clause, marked_clauses};
+ghost use Rattle.heesch_torus.specs.Marks.{Marks, set_numbered};
+ghost use Rattle.heesch_torus.specs.Variables.{sets_of, AreReducedSets};
+
+use crate::found::Variable;
+use crate::window::number_of;
+use heesch_cnf::{Formula, Lit, Lits};
+use heesch_grid::Grid;
+use heesch_io::{NoMemory, Seq};
+use heesch_lattice::Triple;
+use std::alloc::Global;
+
+/// Marks the listed variables with a number.
+fn mark(marks: &mut [u32], variables: &[u32], number: u32)
+    requires { All (λ v. v < length marks.old) variables.now }
+    ensures { Marks (λ v. list_any (λ w. w == v) variables.now) number marks.old marks.new }
+{
+    for var in variables {
+        marks[*var as usize] = number;
+    }
+}
+
+/// Marks the variables that share a cell with the variable at this place, by its number.
+fn mark_meeting<G: Grid>(
+    marks: &mut [u32],
+    triple: Triple,
+    variables: &[Variable],
+    lists: &[Seq<u32>],
+    at: usize,
+)
+    requires at { at < length variables.now }
+    requires few { length variables.now ≤ 4608 }
+    requires triple { IsTriple triple }
+    requires sets { AreReducedSets G.geometry triple (sets_of variables.now) }
+    requires covering { AreCovering G.geometry triple (sets_of variables.now) lists.now }
+    requires all { length marks.old ≡ length variables.now + 1 }
+    ensures { Marks (λ v. meet (set_numbered (sets_of variables.now) (at + 1)) (set_numbered (sets_of variables.now) v)) (at + 1) marks.old marks.new }
+{
+    let number = at as u32 + 1;
+    let variable = &variables[at];
+    for c in variable.residues.as_slice() {
+        mark(marks, lists[number_of::<G>(triple, *c)].as_slice(), number);
+    }
+}
+
+/// The clause that says that one of two variables isn't chosen.
+fn pair_clause(alloc: Global, first: u32, second: u32) -> Result<Lits, NoMemory>
+    ensures { IfOk result (λ c. c ≡ pair_clause first second) }
+{
+    let first = Lit {
+        var: first,
+        positive: false,
+    };
+    let second = Lit {
+        var: second,
+        positive: false,
+    };
+    Ok(Lits::from_vec(vec![in alloc; first, second]?))
+}
+
+/// Adds the clauses of a variable with each later one that is marked with its number.
+fn add_marked(
+    alloc: Global,
+    formula: &mut Formula,
+    marks: &[u32],
+    number: u32,
+) -> Result<(), NoMemory>
+    requires some { 1 ≤ number }
+    requires below { number < length marks.now }
+    requires few { length marks.now ≤ 4609 }
+    requires all { length marks.now ≡ formula.old.vars + 1 }
+    requires room { length formula.old.clauses ≤ 2 ^ 30 }
+    ensures adds { OnOk result (AddsClauses (marked_clauses marks.now number) formula.old.vars formula.old.clauses formula.new.vars formula.new.clauses) }
+    ensures few { OnOk result (length formula.new.clauses ≤ length formula.old.clauses + 4608) }
+{
+    for other in number + 1..marks.len() as u32 {
+        if marks[other as usize] == number {
+            let clause = pair_clause(alloc, number, other)?;
+            formula.add(clause)?;
+        }
+    }
+    Ok(())
+}
+
+/// Adds the clauses of all pairs, where no variable is marked yet.
+fn add_all_marked<G: Grid>(
+    alloc: Global,
+    formula: &mut Formula,
+    marks: &mut [u32],
+    triple: Triple,
+    variables: &[Variable],
+    lists: &[Seq<u32>],
+) -> Result<(), NoMemory>
+    requires few { length variables.now ≤ 4608 }
+    requires triple { IsTriple triple }
+    requires sets { AreReducedSets G.geometry triple (sets_of variables.now) }
+    requires covering { AreCovering G.geometry triple (sets_of variables.now) lists.now }
+    requires none { marks.old ≡ replicate (length variables.now + 1) 0 }
+    requires vars { formula.old.vars ≡ length variables.now }
+    requires room { length formula.old.clauses ≤ 2000000 }
+    ensures adds { OnOk result (AddsClauses (exclusion_clauses literals meet (sets_of variables.now)) formula.old.vars formula.old.clauses formula.new.vars formula.new.clauses) }
+    ensures few { OnOk result (length formula.new.clauses ≤ length formula.old.clauses + 4608 * 4608) }
+{
+    for at in 0..variables.len() {
+        mark_meeting::<G>(marks, triple, variables, lists, at);
+        add_marked(alloc, formula, marks, at as u32 + 1)?;
+    }
+    Ok(())
+}
+
+/// Adds the clause of each pair of variables that share a cell, by the first and then the second.
+pub(crate) fn add_pair_clauses<G: Grid>(
+    alloc: Global,
+    formula: &mut Formula,
+    triple: Triple,
+    variables: &[Variable],
+    lists: &[Seq<u32>],
+) -> Result<(), NoMemory>
+    requires few { length variables.now ≤ 4608 }
+    requires triple { IsTriple triple }
+    requires sets { AreReducedSets G.geometry triple (sets_of variables.now) }
+    requires covering { AreCovering G.geometry triple (sets_of variables.now) lists.now }
+    requires vars { formula.old.vars ≡ length variables.now }
+    requires room { length formula.old.clauses ≤ 2000000 }
+    ensures adds { OnOk result (AddsClauses (exclusion_clauses literals meet (sets_of variables.now)) formula.old.vars formula.old.clauses formula.new.vars formula.new.clauses) }
+    ensures few { OnOk result (length formula.new.clauses ≤ length formula.old.clauses + 4608 * 4608) }
+{
+    let mut marks = vec![in alloc; 0; variables.len() + 1]?;
+    add_all_marked::<G>(alloc, formula, &mut marks, triple, variables, lists)
+}

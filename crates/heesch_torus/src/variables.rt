@@ -1,0 +1,102 @@
+//! The variables of the torus formula.
+ghost use Rattle.std.specs.Prelude.{◌≡◌, ◌<◌, ◌≤◌, ◌+◌, ◌*◌, true, length, IfOk, OnOk};
+ghost use Rattle.heesch_grid.specs.declared.Cell.{Cell};
+ghost use Rattle.heesch_grid.specs.Cells.{has};
+ghost use Rattle.heesch_grid.specs.Lattice.{IsTriple};
+ghost use Rattle.heesch_grid.specs.Polyform.{IsPolyform};
+ghost use Rattle.heesch_grid.specs.Vectors.{IsWithin};
+ghost use Rattle.heesch_tiling.specs.Counting.{IsInRange};
+ghost use Rattle.heesch_torus.specs.Variables.{AreVariables};
+ghost use Rattle.heesch_torus.specs.Trying.{tried, Tries, HasTried};
+
+use crate::found::{Found, Variable};
+use crate::residues::residues_of;
+use heesch_grid::{Cell, Grid, Iso};
+use heesch_io::NoMemory;
+use heesch_lattice::Triple;
+use std::alloc::Global;
+
+/// How many translations lie within the triple.
+fn translation_count(triple: Triple) -> u32
+    ensures { result ≡ triple.p * triple.q }
+{
+    triple.p * triple.q
+}
+
+/// The k-th isometry of a turn within the triple, by db and then by da.
+fn isometry_at(triple: Triple, turn: u32, k: u32) -> Iso
+    requires { k ≤ 1000 }
+    ensures { result ≡ tried triple turn k }
+{
+    Iso {
+        turn,
+        da: (k % triple.p) as i32,
+        db: (k / triple.p) as i32,
+    }
+}
+
+/// Adds the residue set of an isometry, where it has one that wasn't found before.
+fn try_isometry<G: Grid>(
+    found: &mut Found,
+    cells: &[Cell],
+    triple: Triple,
+    by: Iso,
+) -> Result<(), NoMemory>
+    requires triple { IsTriple triple }
+    requires form { IsPolyform G.geometry cells.now }
+    requires few { length cells.now ≤ 32 }
+    requires near { (c : Cell) → has cells.now c ≡ true → IsWithin 100000 c }
+    requires range { IsInRange G.geometry by }
+    ensures { OnOk result (Tries G.geometry cells.now triple by found.old found.new) }
+{
+    let Some(residues) = residues_of::<G>(cells, triple, by) else {
+        return Ok(());
+    };
+    if found.has(&residues) {
+        return Ok(());
+    }
+    found.insert(residues, by)
+}
+
+/// Adds the residue sets of the isometries of a turn.
+fn try_turn<G: Grid>(
+    found: &mut Found,
+    cells: &[Cell],
+    triple: Triple,
+    turn: u32,
+) -> Result<(), NoMemory>
+    requires triple { IsTriple triple }
+    requires small { triple.p * triple.q ≤ 384 }
+    requires form { IsPolyform G.geometry cells.now }
+    requires few { length cells.now ≤ 32 }
+    requires near { (c : Cell) → has cells.now c ≡ true → IsWithin 100000 c }
+    requires turn { turn < G.geometry.turns }
+    requires before { HasTried G.geometry cells.now triple turn 0 found.old }
+    ensures { OnOk result (HasTried G.geometry cells.now triple (turn + 1) 0 found.new) }
+{
+    for k in 0..translation_count(triple) {
+        try_isometry::<G>(found, cells, triple, isometry_at(triple, turn, k))?;
+    }
+    Ok(())
+}
+
+/// The residue sets in number order, each with its isometry: the first within the triple that gives
+/// it.
+pub(crate) fn variables_of<G: Grid>(
+    alloc: Global,
+    cells: &[Cell],
+    triple: Triple,
+) -> Result<Vec<Variable>, NoMemory>
+    requires triple { IsTriple triple }
+    requires small { triple.p * triple.q ≤ 384 }
+    requires form { IsPolyform G.geometry cells.now }
+    requires few { length cells.now ≤ 32 }
+    requires near { (c : Cell) → has cells.now c ≡ true → IsWithin 100000 c }
+    ensures { IfOk result (λ v. AreVariables G.geometry cells.now triple v.items) }
+{
+    let mut found = Found::new(alloc);
+    for turn in 0..G::TURNS {
+        try_turn::<G>(&mut found, cells, triple, turn)?;
+    }
+    found.into_variables(alloc)
+}
