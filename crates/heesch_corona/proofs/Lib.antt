@@ -1,0 +1,10 @@
+pub mod Members
+pub mod Meeting
+pub mod Leasts
+pub mod Added
+pub mod Numbered
+pub mod Bridge
+pub mod Nearness
+pub mod Coronas
+pub mod Unique
+pub mod Answering

@@ -1,0 +1,112 @@
+-- The search for two sets that meet.
+use Rattle.std.proofs.Common.{◌≡◌, refl, sym, ap, subst, ◌∙◌, ℕ, suc, ◌+◌, ◌<◌, ◌≤◌, Bool, true, false, ◌||◌, min, Some, None, List, [], ◌∷◌, length, get_or, take, inl, inr, arith, true≢false, Contains}
+use Rattle.std.specs.Prelude.{nat_lt, Option}
+use Rattle.std.proofs.lemmas.Bool.{cases_Bool}
+use Rattle.std.proofs.lemmas.List.Folds.{list_any_more}
+use Rattle.std.proofs.lemmas.List.Elements.{Contains-get_or}
+use Rattle.heesch_grid.specs.declared.Cell.{Cell}
+use Rattle.heesch_grid.specs.Listing.{IsRising}
+use Rattle.heesch_grid.specs.Cells.{has, meet}
+use Rattle.heesch_index.specs.Covering.{numbers_with}
+use Rattle.heesch_index.proofs.NumberFacts.{IsRising-numbers_with, numbers_with-range, has-numbers_with, Contains-numbers_with}
+use Rattle.heesch_corona.specs.Searches.{set_of, lesser_of, IsNextMeeting}
+use Rattle.heesch_corona.proofs.Members.{rising_at, number_at}
+
+or_false : (a b : Bool) → (a || b) ≡ false → (a ≡ false) × (b ≡ false)
+or_false true b h = absurd (true≢false h)
+or_false false true h = absurd (true≢false h)
+or_false false false h = (refl, refl)
+
+or_of : (a b : Bool) → a ≡ false → b ≡ false → (a || b) ≡ false
+or_of a b p q = ap (λ x. x || b) p ∙ q
+
+or_first : (a b : Bool) → a ≡ true → (a || b) ≡ true
+or_first a b p = ap (λ x. x || b) p
+
+or_second : (a b : Bool) → b ≡ true → (a || b) ≡ true
+or_second true b p = refl
+or_second false b p = p
+
+one_cell : (c : Cell) (ys : List Cell) → meet (c ∷ []) ys ≡ has ys c
+one_cell c ys = go (has ys c)
+  where
+    go : (b : Bool) → (b || false) ≡ b
+    go true = refl
+    go false = refl
+
+-- the numbers of one cell, of which the first are not above
+module _ (sets : List (List Cell)) (c : Cell) (number : ℕ) (ns : List ℕ) (e : ns ≡ numbers_with sets c) where
+  not_before : (i : ℕ) → ((k : ℕ) → k < i → k < length ns → get_or ns k 0 ≤ number) → (bound : ℕ) → ((k : ℕ) → i ≤ k → k < length ns → bound ≤ get_or ns k 0) → (m : ℕ) → number < m → m < bound → meet (c ∷ []) (set_of sets m) ≡ false
+  not_before i low bound high m l less = elim (cases_Bool (has (set_of sets m) c)) [
+    | inl t ↦
+        let k = number_at ns m (subst (λ xs. Contains xs m) (sym e) (Contains-numbers_with sets c m (omega (arith, l)) t)) in
+        elim (cases_Bool (nat_lt k.0 i)) [
+          | inl b ↦ absurd (let h = low k.0 (below k.0 i b) k.1 in let q = k.2 in omega (arith, h, q, l))
+          | inr b ↦ absurd (let h = high k.0 (above k.0 i b) k.1 in let q = k.2 in omega (arith, h, q, less))
+        ]
+    | inr f ↦ one_cell c (set_of sets m) ∙ f
+  ]
+    where
+      below : (m n : ℕ) → nat_lt m n ≡ true → m < n
+      below m n h = grind arith
+
+      above : (m n : ℕ) → nat_lt m n ≡ false → n ≤ m
+      above m n h = grind arith
+
+  pub next_found : (i : ℕ) → i < length ns → number < get_or ns i 0 → ((k : ℕ) → k < i → get_or ns k 0 ≤ number) → IsNextMeeting sets (c ∷ []) number (Some (get_or ns i 0))
+  next_found i within above low =
+      let n = get_or ns i 0 in
+      let m = subst (λ xs. Contains xs (get_or ns i 0)) e (Contains-get_or ns i 0 within) in
+      (above, (numbers_with-range sets c n m).1, one_cell c (set_of sets n) ∙ has-numbers_with sets c n m, not_before i (λ k l _. low k l) n (λ k l less. rest k l less))
+    where
+      rises : IsRising nat_lt ns
+      rises = subst (IsRising nat_lt) (sym e) (IsRising-numbers_with sets c)
+
+      rest : (k : ℕ) → i ≤ k → k < length ns → get_or ns i 0 ≤ get_or ns k 0
+      rest k l less = elim (cases_Bool (nat_lt i k)) [
+        | inl t ↦ let h = rising_at ns rises i k (below i k t) less in omega (arith, h)
+        | inr f ↦ let h : i ≡ k = same i k l f in subst (λ j. get_or ns i 0 ≤ get_or ns j 0) h (omega arith)
+      ]
+        where
+          below : (m n : ℕ) → nat_lt m n ≡ true → m < n
+          below m n h = grind arith
+
+          same : (m n : ℕ) → m ≤ n → nat_lt m n ≡ false → m ≡ n
+          same m n l h = grind arith
+
+  pub next_none : ((k : ℕ) → k < length ns → get_or ns k 0 ≤ number) → IsNextMeeting sets (c ∷ []) number None
+  next_none low m l within = not_before (length ns) (λ k a b. low k b) (suc m) (λ k a b. absurd (omega (arith, a, b))) m l (omega arith)
+
+-- one more cell of a set
+module _ (sets : List (List Cell)) (xs ys : List Cell) (c : Cell) (number : ℕ) (more : (t : List Cell) → meet ys t ≡ (meet xs t || meet (c ∷ []) t)) where
+  pub next_more : (a b : Option ℕ) → IsNextMeeting sets xs number a → IsNextMeeting sets (c ∷ []) number b → IsNextMeeting sets ys number (lesser_of a b)
+  next_more (Some m) (Some n) p q = by (nat_lt m n) refl
+    where
+      below : (m n : ℕ) → nat_lt m n ≡ true → m < n
+      below m n h = grind arith
+
+      above : (m n : ℕ) → nat_lt m n ≡ false → n ≤ m
+      above m n h = grind arith
+
+      set : ℕ → List Cell
+      set k = set_of sets k
+
+      by : (b : Bool) → nat_lt m n ≡ b → IsNextMeeting sets ys number (Some (min m n))
+      by true t =
+          let l = below m n t in
+          let e : min m n ≡ m = omega (arith, l) in
+          subst (λ k. IsNextMeeting sets ys number (Some k)) (sym e)
+          (p.0, p.1, more (set_of sets m) ∙ or_first (meet xs (set_of sets m)) (meet (c ∷ []) (set_of sets m)) p.2, λ k a b. more (set_of sets k) ∙ or_of (meet xs (set_of sets k)) (meet (c ∷ []) (set_of sets k)) (p.3 k a b) (q.3 k a (omega (arith, b, l))))
+      by false f =
+          let l = above m n f in
+          let e : min m n ≡ n = omega (arith, l) in
+          subst (λ k. IsNextMeeting sets ys number (Some k)) (sym e)
+          (q.0, q.1, more (set_of sets n) ∙ or_second (meet xs (set_of sets n)) (meet (c ∷ []) (set_of sets n)) q.2, λ k a b. more (set_of sets k) ∙ or_of (meet xs (set_of sets k)) (meet (c ∷ []) (set_of sets k)) (p.3 k a (omega (arith, b, l))) (q.3 k a b))
+  next_more (Some m) None p q =
+      (p.0, p.1, more (set_of sets m) ∙ or_first (meet xs (set_of sets m)) (meet (c ∷ []) (set_of sets m)) p.2, λ k a b. more (set_of sets k) ∙ or_of (meet xs (set_of sets k)) (meet (c ∷ []) (set_of sets k)) (p.3 k a b) (q k a (let l = p.1 in omega (arith, l, b))))
+  next_more None (Some n) p q =
+      (q.0, q.1, more (set_of sets n) ∙ or_second (meet xs (set_of sets n)) (meet (c ∷ []) (set_of sets n)) q.2, λ k a b. more (set_of sets k) ∙ or_of (meet xs (set_of sets k)) (meet (c ∷ []) (set_of sets k)) (p k a (let l = q.1 in omega (arith, l, b))) (q.3 k a b))
+  next_more None None p q = λ k a b. more (set_of sets k) ∙ or_of (meet xs (set_of sets k)) (meet (c ∷ []) (set_of sets k)) (p k a b) (q k a b)
+
+pub meet_more : (xs : List Cell) (i : ℕ) (d : Cell) → i < length xs → (t : List Cell) → meet (take (i + 1) xs) t ≡ (meet (take i xs) t || meet (get_or xs i d ∷ []) t)
+meet_more xs i d l t = list_any_more (has t) xs i d l ∙ ap (λ b. meet (take i xs) t || b) (sym (one_cell (get_or xs i d) t))

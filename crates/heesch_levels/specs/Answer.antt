@@ -1,0 +1,38 @@
+-- What the search at one level answers.
+use Rattle.std.specs.Prelude.{◌≡◌, ℕ, Bool, List, length, IsTrue, IsFalse}
+use Rattle.heesch_grid.specs.declared.Cell.{Cell}
+use Rattle.heesch_grid.specs.Geometry.{Geometry}
+use Rattle.heesch_grid.specs.Corona.{AreCoronas, AreHoleFreeCoronas, HasCoronas, HasHoleFreeCoronas}
+use Rattle.heesch_cert.specs.declared.entry.Layers.{Layers}
+use Rattle.heesch_cert.specs.declared.proof.Proof.{Proof}
+use Rattle.heesch_cert.specs.Proofs.{HasNoCut, RefutesCoronas, IsSpentOnCoronas, IsTooLarge}
+use Rattle.heesch_cert.specs.TrueEntry.{Spells}
+use Rattle.heesch_levels.specs.declared.answer.LevelAnswer.{LevelAnswer}
+use Rattle.heesch_levels.specs.declared.answer.LevelAnswer.TheVariants.{Coronas, Refuted, Spent, TooLarge}
+
+-- the layers spell j coronas of the shape, hole-free where that is asked
+pub record SpellsCoronas (g : Geometry) (shape : List Cell) (j : ℕ) (hole_free : Bool) (layers : Layers) : Type 0 where
+  pub count : length layers.layers ≡ j
+  pub tiles : List (List (List Cell))
+  pub spelled : Spells g shape layers.layers tiles
+  pub coronas : AreCoronas g shape tiles
+  pub free : IsTrue hole_free → AreHoleFreeCoronas g shape tiles
+
+-- the proof refutes E(S, j), and so no j coronas exist: no hole-free ones, and none at all where it has no cut, as where holes are allowed
+pub record RefutesLevel (g : Geometry) (shape : List Cell) (j : ℕ) (hole_free : Bool) (size : ℕ) (proof : Proof) : Type 0 where
+  pub refutes : RefutesCoronas g shape j size proof
+  pub none_free : ¬ HasHoleFreeCoronas g shape j
+  pub none : HasNoCut proof → ¬ HasCoronas g shape j
+  pub no_cut : IsFalse hole_free → HasNoCut proof
+
+-- the proof is spent for this number of turns over E(S, j), without cuts where holes are allowed
+pub record IsSpentLevel (g : Geometry) (shape : List Cell) (j : ℕ) (hole_free : Bool) (turns size : ℕ) (proof : Proof) : Type 0 where
+  pub is_spent : IsSpentOnCoronas g shape j turns size proof
+  pub no_cut : IsFalse hole_free → HasNoCut proof
+
+-- what each answer says
+abbrev pub IsLevelAnswer : Geometry → List Cell → ℕ → Bool → ℕ → ℕ → LevelAnswer → Type 0
+IsLevelAnswer g shape j hole_free turns size (Coronas layers) = SpellsCoronas g shape j hole_free layers
+IsLevelAnswer g shape j hole_free turns size (Refuted proof) = RefutesLevel g shape j hole_free size proof
+IsLevelAnswer g shape j hole_free turns size (Spent proof) = IsSpentLevel g shape j hole_free turns size proof
+IsLevelAnswer g shape j hole_free turns size TooLarge = IsTooLarge g shape j size

@@ -1,0 +1,51 @@
+//! The layers of a model.
+ghost use Rattle.std.specs.Prelude.{◌≡◌, ◌≤◌, ℕ, IfOk, length};
+ghost use Rattle.std.specs.List.{AllZip};
+ghost use Rattle.heesch_cnf.specs.Clauses.{assignment_of};
+ghost use Rattle.heesch_grid.specs.Placement.{IsLeastIsometry};
+ghost use Rattle.heesch_grid.specs.Statements.{chosen_layer, chosen_layers};
+ghost use Rattle.heesch_place.specs.Universes.{IsUniverseOf};
+
+use heesch_cert::{Isos, Layers};
+use heesch_grid::Grid;
+use heesch_io::{NoMemory, Seq};
+use heesch_place::Universe;
+use std::alloc::Global;
+
+/// The least isometries of the tiles of the true variables of one level, in number order.
+fn layer_of<G: Grid>(
+    alloc: Global,
+    universe: &Universe<G>,
+    values: &[bool],
+    level: u32,
+) -> Result<Isos, NoMemory>
+    requires { length values.now ≡ length universe.now.vars }
+    ensures { IfOk result (λ layer. AllZip (λ by tile. IsLeastIsometry G.geometry universe.now.shape tile by) layer (chosen_layer (assignment_of values.now) universe.now.vars level)) }
+{
+    let mut layer = Seq::new(alloc);
+    for before in 0..universe.count() {
+        let var = before + 1;
+        if universe.level_of(var) == level && values[before as usize] {
+            layer.push(universe.placement_of(var).iso())?;
+        }
+    }
+    Ok(layer)
+}
+
+/// The layers of the levels 1 to `level`: of each the least isometries of the tiles of its true variables, in number
+/// order. The cost is a look at each variable for each level.
+pub fn layers_of<G: Grid>(
+    alloc: Global,
+    universe: &Universe<G>,
+    values: &[bool],
+    level: u32,
+) -> Result<Layers, NoMemory>
+    requires { length values.now ≡ length universe.now.vars }
+    ensures { IfOk result (λ layers. AllZip (λ layer placed. AllZip (λ by tile. IsLeastIsometry G.geometry universe.now.shape tile by) layer placed) layers.layers (chosen_layers (assignment_of values.now) universe.now.vars level)) }
+{
+    let mut layers = Seq::new(alloc);
+    for below in 0..level {
+        layers.push(layer_of(alloc, universe, values, below + 1)?)?;
+    }
+    Ok(Layers { layers })
+}

@@ -1,0 +1,4 @@
+pub mod Shapes
+pub mod Tilings
+pub mod Domains
+pub mod Ends
