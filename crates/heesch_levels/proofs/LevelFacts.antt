@@ -17,7 +17,8 @@ use Rattle.heesch_grid.specs.Statements.{chosen_layer, chosen_layers}
 use Rattle.heesch_grid.proofs.ListFacts.{All-from_members}
 use Rattle.heesch_cnf.specs.declared.literal.Lit.{Lit}
 use Rattle.heesch_cnf.specs.Clauses.{Satisfies, IsSatisfied, assignment_of}
-use Rattle.heesch_cnf.specs.Lines.{clauses_with, clauses_of, Refutes, IsSpent}
+use Rattle.heesch_cnf.specs.declared.log.Log.{Log}
+use Rattle.heesch_cnf.specs.Lines.{clauses_with, clauses_of, Refutes, IsSpent, LinesAreNew}
 use Rattle.heesch_cdcl.specs.Problem.{Problem, IsModel}
 use Rattle.heesch_cert.specs.declared.proof.Proof.{Proof}
 use Rattle.heesch_cert.specs.declared.proof.Cut.{Cut}
@@ -30,7 +31,7 @@ use Rattle.heesch_cert.proofs.Exactly.{too_large_exactly}
 use Rattle.heesch_place.specs.Universes.{Levels}
 use Rattle.heesch_cuts.specs.Chosen.{IsOpen}
 use Rattle.heesch_levels.specs.Searching.{IsSearch}
-use Rattle.heesch_levels.specs.Answer.{SpellsCoronas, RefutesLevel, IsSpentLevel}
+use Rattle.heesch_levels.specs.Answer.{HasNewSteps, SpellsCoronas, RefutesLevel, IsSpentLevel}
 use Rattle.heesch_levels.proofs.LayerLists.{layers_rise}
 
 satisfies_first : (values : ℕ → Bool) (xs ys : List (List Lit)) → Satisfies values (xs ++ ys) → Satisfies values xs
@@ -65,8 +66,15 @@ module _ (g : Geometry) (law : IsGrid g) (hole_free : Bool) (turns size : ℕ) (
           lawful = lawful;
           refutes = subst (Refutes p.vars p.clauses) (sym same) r;
         } in
+        let new_steps : HasNewSteps g u.shape u.level proof = record {
+          vars = u.vars;
+          count = p.vars;
+          clauses = p.clauses;
+          formula = search.formula;
+          new_lines = subst (λ (log : Log). LinesAreNew p.clauses log.lines) (sym same) search.valid.fresh;
+        } in
         let none = refuted_means_none g u.shape u.level size proof law form some refutes in
-        record { refutes = refutes; none_free = none.0; none = none.1; no_cut = λ f. no_cut (search.no_cut f) }
+        record { refutes = refutes; new_steps = new_steps; none_free = none.0; none = none.1; no_cut = λ f. no_cut (search.no_cut f) }
 
     -- a log that is spent, as a proof
     spent_level : IsSpent p.vars p.clauses p.turns p.log → IsSpentLevel g u.shape u.level hole_free turns size proof

@@ -5,7 +5,11 @@ use Rattle.heesch_grid.specs.Geometry.{Geometry}
 use Rattle.heesch_grid.specs.Corona.{AreCoronas, AreHoleFreeCoronas, HasCoronas, HasHoleFreeCoronas}
 use Rattle.heesch_cert.specs.declared.entry.Layers.{Layers}
 use Rattle.heesch_cert.specs.declared.proof.Proof.{Proof}
-use Rattle.heesch_cert.specs.Proofs.{HasNoCut, RefutesCoronas, IsSpentOnCoronas, IsTooLarge}
+use Rattle.heesch_cert.specs.Proofs.{log_of, HasNoCut, RefutesCoronas, IsSpentOnCoronas, IsTooLarge}
+use Rattle.heesch_cert.specs.Formulas.{IsCountedFormula}
+use Rattle.heesch_cnf.specs.declared.literal.Lit.{Lit}
+use Rattle.heesch_cnf.specs.Lines.{LinesAreNew}
+use Rattle.heesch_grid.specs.CoronaFormula.{Variable}
 use Rattle.heesch_cert.specs.TrueEntry.{Spells}
 use Rattle.heesch_levels.specs.declared.answer.LevelAnswer.{LevelAnswer}
 use Rattle.heesch_levels.specs.declared.answer.LevelAnswer.TheVariants.{Coronas, Refuted, Spent, TooLarge}
@@ -18,9 +22,18 @@ pub record SpellsCoronas (g : Geometry) (shape : List Cell) (j : ℕ) (hole_free
   pub coronas : AreCoronas g shape tiles
   pub free : IsTrue hole_free → AreHoleFreeCoronas g shape tiles
 
--- the proof refutes E(S, j), and so no j coronas exist: no hole-free ones, and none at all where it has no cut, as where holes are allowed
+-- no step of the proof, as a line, contains a clause of E(S, j) or of a step before it
+pub record HasNewSteps (g : Geometry) (shape : List Cell) (j : ℕ) (proof : Proof) : Type 0 where
+  pub vars : List Variable
+  pub count : ℕ
+  pub clauses : List (List Lit)
+  pub formula : IsCountedFormula g shape j vars count clauses
+  pub new_lines : LinesAreNew clauses (log_of vars proof).lines
+
+-- the proof refutes E(S, j) by new steps, and so no j coronas exist: no hole-free ones, and none at all where it has no cut, as where holes are allowed
 pub record RefutesLevel (g : Geometry) (shape : List Cell) (j : ℕ) (hole_free : Bool) (size : ℕ) (proof : Proof) : Type 0 where
   pub refutes : RefutesCoronas g shape j size proof
+  pub new_steps : HasNewSteps g shape j proof
   pub none_free : ¬ HasHoleFreeCoronas g shape j
   pub none : HasNoCut proof → ¬ HasCoronas g shape j
   pub no_cut : IsFalse hole_free → HasNoCut proof
