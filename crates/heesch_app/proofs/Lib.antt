@@ -1,3 +1,7 @@
+mod Beginnings
+mod EntryLists
+mod Headline
+mod LimitTests
 mod PlainAnswers
 mod PlainLines
 mod Ranges

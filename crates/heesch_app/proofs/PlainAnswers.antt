@@ -1,5 +1,5 @@
 -- The answers of a job on each shape, as the plain tilings of a list.
-use Rattle.std.proofs.Common.{◌≡◌, ℕ, ◌<◌, ◌≤◌, List, length, get_or, Option, Result, Ok, Err, IfOk, sym, ap, ◌∙◌, subst, arith, inl, inr}
+use Rattle.std.proofs.Common.{◌≡◌, ℕ, List, length, get_or, Option, Result, Ok, Err, IfOk, sym, subst, arith, inl, inr}
 use Rattle.std.specs.Prelude.{Some, slice_get}
 use Rattle.std.proofs.lemmas.Option.{slice_get_cases, get_or_from_slice_get}
 use Rattle.heesch_grid.specs.declared.Cell.{Cell}

@@ -1,3 +1,5 @@
-pub mod Tilings
+pub mod Catalogues
+pub mod Entries
 pub mod Outputs
 pub mod Ranges
+pub mod Tilings

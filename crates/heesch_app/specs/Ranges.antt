@@ -1,9 +1,18 @@
 -- The ranges of a request's numbers.
 use Rattle.std.specs.Prelude.{◌≤◌}
+use Rattle.heesch_cert.specs.declared.header.Subject.{Subject}
+use Rattle.heesch_cert.specs.declared.header.Subject.TheVariants.{Size, Given}
+use Rattle.heesch_cert.specs.Limits.{AreLimits}
 use Rattle.heesch_words.specs.declared.requests.Request.{Request}
-use Rattle.heesch_words.specs.declared.requests.Request.TheVariants.{List as ListRequest, Plain as PlainRequest}
+use Rattle.heesch_words.specs.declared.requests.Request.TheVariants.{List as ListRequest, Plain as PlainRequest, Classify as ClassifyRequest}
 
--- its size is 1 to 31 cells, and its workers are 1 to 64
+-- a size of 1 to 31 cells
+abbrev pub IsSubjectInRange : Subject → Type 0
+IsSubjectInRange (Size n) = (1 ≤ n) × (n ≤ 31)
+IsSubjectInRange Given = ⊥
+
+-- its size is 1 to 31 cells, its workers are 1 to 64, and its limits lie in their ranges
 abbrev pub IsInRange : Request → Type 0
 IsInRange (ListRequest grid n workers) = (1 ≤ n) × (n ≤ 31) × (1 ≤ workers) × (workers ≤ 64)
 IsInRange (PlainRequest grid n workers) = (1 ≤ n) × (n ≤ 31) × (1 ≤ workers) × (workers ≤ 64)
+IsInRange (ClassifyRequest grid subject limits workers brief) = IsSubjectInRange subject × AreLimits limits × (1 ≤ workers) × (workers ≤ 64)

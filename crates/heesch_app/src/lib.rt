@@ -1,6 +1,8 @@
 //! What the program `heesch` does, over any source and any sink.
 #![tactic(auto)]
 
+mod catalogue;
+mod entries;
 mod listing;
 mod program;
 mod status;

@@ -1,12 +1,17 @@
-ghost use Rattle.std.specs.Prelude.{◌≡◌, ◌≢◌, ◌≤◌, ◌⊎◌, map, string_bytes, IfOk};
+ghost use Rattle.std.specs.Prelude.{◌≡◌, ◌≢◌, ◌≤◌, ◌⊎◌, ℕ, map, string_bytes, IfOk};
 ghost use Rattle.heesch_io.specs.Causes.{Rose};
 ghost use Rattle.heesch_words.specs.Requests.{Asks};
-ghost use Rattle.heesch_app.specs.Outputs.{IsAccepted, IsOutput, Writes, WritesPrefix};
-ghost use Rattle.heesch_app.specs.Ranges.{IsInRange};
+ghost use Rattle.heesch_cert.specs.Limits.{AreLimits};
+ghost use Rattle.heesch_cert.specs.declared.limits.Limits.{Limits};
+ghost use Rattle.heesch_grid.specs.declared.GridName.{GridName};
+ghost use Rattle.heesch_app.specs.Outputs.{IsAccepted, IsOutput, IsCatalogueOf, Writes, WritesPrefix, AsksForCatalogue, IsCatalogued};
+ghost use Rattle.heesch_app.specs.Ranges.{IsInRange, IsSubjectInRange};
 
 use crate::Status;
+use crate::catalogue::catalogue;
 use crate::listing::listing;
 use crate::tilings::plain_listing;
+use heesch_cert::{Header, Subject};
 use heesch_io::{Failed, NoMemory, Sink, Source, put};
 use heesch_pool::Gate;
 use heesch_words::{Request, Usage, parse};
@@ -33,6 +38,11 @@ pub fn run<T: Threads + Sync, R: Source, W: Sink, H: Gate + Sync>(
 
     ensures done { result ≡ Status.Done →
         Writes (map string_bytes words.now) (W.held sink.old) (W.held sink.new) }
+    // The headline: whatever the grid, the size, the limits, the workers and the order of their steps, a full catalogue
+    // that ends Done has every free polyform of the size once and in order, each with a true entry and a right verdict.
+    ensures headline { result ≡ Status.Done → (grid : GridName) (n workers : ℕ) (limits : Limits)
+        → AsksForCatalogue (map string_bytes words.now) grid n limits workers
+        → IsCatalogued grid n limits (W.held sink.old) (W.held sink.new) }
     ensures write_fault { result ≡ Status.WriteFault →
         WritesPrefix (map string_bytes words.now) (W.held sink.old) (W.held sink.new) }
     ensures write_cause { result ≡ Status.WriteFault → Rose (W.faults sink.old) (W.faults sink.new) }
@@ -75,5 +85,39 @@ fn answer<T: Threads + Sync, H: Gate + Sync>(
     match request {
         Request::List { grid, n, workers } => listing(rt, alloc, grid, n, workers, gate),
         Request::Plain { grid, n, workers } => plain_listing(rt, alloc, grid, n, workers, gate),
+        Request::Classify {
+            grid,
+            subject,
+            limits,
+            workers,
+            brief,
+        } => {
+            let header = Header {
+                brief,
+                grid,
+                subject,
+                limits,
+            };
+            classified(rt, alloc, &header, workers, gate)
+        }
+    }
+}
+
+/// The catalogue text that a header asks for.
+fn classified<T: Threads + Sync, H: Gate + Sync>(
+    rt: &T,
+    alloc: Global,
+    header: &Header,
+    workers: u32,
+    gate: &H,
+) -> Result<Vec<u8>, NoMemory>
+    requires subject { IsSubjectInRange header.now.subject }
+    requires limits { AreLimits header.now.limits }
+    requires workers { (1 ≤ workers) × (workers ≤ 64) }
+    ensures { IfOk result (λ text. IsCatalogueOf header.now.grid header.now.subject header.now.limits header.now.brief text.items) }
+{
+    match header.subject {
+        Subject::Size { n } => catalogue(rt, alloc, header, n, workers, gate),
+        Subject::Given => unreachable!(),
     }
 }

@@ -90,9 +90,10 @@ impl Solver {
     /// formula refutes at once, and the final line has the least number of one. With more turns than 3 to the power of the
     /// number of variables the search is never spent. The same formula, turns and given clauses give the same log.
     ///
-    /// The cost is a look at each clause of the formula, and then that of the search: a pass over all literals for each
-    /// assignment; for a decision the variables passed over in a queue; for a conflict the clauses resolved, the
-    /// assignments taken back, and the sorting of the learnt clause. All variables are looked at once, for a model.
+    /// The cost is a look at each clause of the formula, and then that of the search: for an assignment the clauses
+    /// watched by the literal made false; for a decision the variables passed over in a queue; for a conflict the clauses
+    /// resolved, the assignments taken back, the sorting of the learnt clause, and a look at each clause learnt since the
+    /// level gone back to was left. All variables are looked at once, for a model.
     pub fn next(&mut self) -> Result<Found, NoMemory>
         ensures found { IfOk result (IsFound self.new) }
         ensures ends { 3 ^ self.old.vars < self.old.turns → IfOk result (λ found. found ≢ Found.Spent) }

@@ -1,4 +1,5 @@
 -- The grids by their names.
+use Rattle.std.specs.Prelude.{ℕ, List, codes}
 use Rattle.heesch_grid.specs.declared.GridName.{GridName}
 use Rattle.heesch_grid.specs.declared.GridName.TheVariants.{Square, Hex, Iamond}
 use Rattle.heesch_grid.specs.Geometry.{Geometry}
@@ -10,3 +11,9 @@ abbrev pub geometry_of : GridName → Geometry
 geometry_of Square = grid_of square
 geometry_of Hex = grid_of hex
 geometry_of Iamond = grid_of iamond
+
+-- the word of a name
+abbrev pub grid_word : GridName → List ℕ
+grid_word Square = codes "square"
+grid_word Hex = codes "hex"
+grid_word Iamond = codes "iamond"

@@ -22,7 +22,7 @@ use Rattle.heesch_shape.proofs.Loops.{has_more}
 use Rattle.std.proofs.Math.Seq.{take-length}
 
 -- a member has a place
-place_in : (xs : List Cell) (x : Cell) → Contains xs x → (k : ℕ) × (k < length xs) × (slice_get xs k ≡ Some x)
+pub place_in : (xs : List Cell) (x : Cell) → Contains xs x → (k : ℕ) × (k < length xs) × (slice_get xs k ≡ Some x)
 place_in [] x m = absurd (no_member x m)
 place_in (y ∷ xs) x m =
     elim (member_cases y xs x m) [

@@ -1,3 +1,5 @@
 pub mod Adds
+pub mod Collects
 pub mod First
+pub mod Generator
 pub mod Parents

@@ -2,6 +2,8 @@
 #![tactic(auto)]
 
 #[cfg(test)]
+mod catalogues;
+#[cfg(test)]
 mod lists;
 #[cfg(test)]
 mod plains;

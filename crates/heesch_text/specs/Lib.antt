@@ -1,3 +1,6 @@
+pub mod Catalogue
 pub mod Fields
+pub mod Lines
+pub mod Names
 pub mod Plains
 pub mod Shapes

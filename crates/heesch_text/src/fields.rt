@@ -1,9 +1,10 @@
 //! The fields of a line, added at the end of a text. Where memory runs out, the text keeps what it had.
-ghost use Rattle.std.specs.Prelude.{◌≡◌, ◌++◌, ◌∷◌, [], length, take, OnOk, codes, decimal};
+ghost use Rattle.std.specs.Prelude.{◌≡◌, ◌++◌, ◌∷◌, [], ℕ, List, length, take, OnOk, codes, decimal};
 ghost use Rattle.std.specs.Fmt.{signed_decimal};
-ghost use Rattle.heesch_text.specs.Fields.{spaced, cell_text, cells_text, triple_text};
+ghost use Rattle.heesch_text.specs.Fields.{spaced, cell_text, cells_text, triple_text, iso_text, place_text, lit_text};
 
-use heesch_grid::Cell;
+use heesch_cnf::Lit;
+use heesch_grid::{Cell, Iso};
 use heesch_io::NoMemory;
 use heesch_lattice::Triple;
 use itoa::Buffer;
@@ -27,7 +28,7 @@ pub fn append_byte(byte: u8, out: &mut Vec<u8>) -> Result<(), NoMemory>
 }
 
 /// A natural number in decimal digits.
-fn append_number(number: u32, out: &mut Vec<u8>) -> Result<(), NoMemory>
+pub fn append_number(number: u32, out: &mut Vec<u8>) -> Result<(), NoMemory>
     ensures ok { OnOk result (out.new.items ≡ out.old.items ++ decimal number) }
     ensures kept { take (length out.old.items) out.new.items ≡ out.old.items }
 {
@@ -42,25 +43,99 @@ pub fn append_integer(number: i32, out: &mut Vec<u8>) -> Result<(), NoMemory>
     append_bytes(Buffer::new().format(number).as_bytes(), out)
 }
 
-/// A cell as `A,B`.
-fn append_cell(cell: Cell, out: &mut Vec<u8>) -> Result<(), NoMemory>
-    ensures ok { OnOk result (out.new.items ≡ out.old.items ++ cell_text cell) }
+/// The bytes, and a number behind them.
+pub fn append_labelled(label: &[u8], number: u32, out: &mut Vec<u8>) -> Result<(), NoMemory>
+    ensures ok { OnOk result (out.new.items ≡ out.old.items ++ (label.now ++ decimal number)) }
     ensures kept { take (length out.old.items) out.new.items ≡ out.old.items }
 {
-    append_integer(cell.a, out)?;
-    append_byte(b',', out)?;
-    append_integer(cell.b, out)
+    append_bytes(label, out)?;
+    append_number(number, out)
 }
 
-/// Each cell behind a space.
-#[tactic(auto, using(crate::proofs::Kept::kept_through))]
-fn append_spaced(cells: &[Cell], out: &mut Vec<u8>) -> Result<(), NoMemory>
-    ensures ok { OnOk result (out.new.items ≡ out.old.items ++ spaced cell_text cells.now) }
+/// The bytes, and a count behind them.
+pub fn append_count(label: &[u8], count: usize, out: &mut Vec<u8>) -> Result<(), NoMemory>
+    ensures ok { OnOk result (out.new.items ≡ out.old.items ++ (label.now ++ decimal count)) }
     ensures kept { take (length out.old.items) out.new.items ≡ out.old.items }
 {
-    for cell in cells {
+    append_bytes(label, out)?;
+    append_bytes(Buffer::new().format(count).as_bytes(), out)
+}
+
+/// An isometry as `TURN DA DB`.
+pub fn append_iso(iso: Iso, out: &mut Vec<u8>) -> Result<(), NoMemory>
+    ensures ok { OnOk result (out.new.items ≡ out.old.items ++ iso_text iso) }
+    ensures kept { take (length out.old.items) out.new.items ≡ out.old.items }
+{
+    append_number(iso.turn, out)?;
+    append_byte(b' ', out)?;
+    append_integer(iso.da, out)?;
+    append_byte(b' ', out)?;
+    append_integer(iso.db, out)
+}
+
+/// A word of a list within a line.
+pub trait Word: Copy {
+    ghost text: { Self → List ℕ };
+
+    fn append_word(self, out: &mut Vec<u8>) -> Result<(), NoMemory>
+        ensures ok { OnOk result (out.new.items ≡ out.old.items ++ text self) }
+        ensures kept { take (length out.old.items) out.new.items ≡ out.old.items };
+}
+
+/// A natural number.
+impl Word for u32 {
+    ghost text = { decimal };
+
+    fn append_word(self, out: &mut Vec<u8>) -> Result<(), NoMemory> {
+        append_number(self, out)
+    }
+}
+
+/// A cell as `A,B`.
+impl Word for Cell {
+    ghost text = { cell_text };
+
+    fn append_word(self, out: &mut Vec<u8>) -> Result<(), NoMemory> {
+        append_integer(self.a, out)?;
+        append_byte(b',', out)?;
+        append_integer(self.b, out)
+    }
+}
+
+/// A literal as the number of its variable, with `-` before it where it is negative.
+impl Word for Lit {
+    ghost text = { lit_text };
+
+    fn append_word(self, out: &mut Vec<u8>) -> Result<(), NoMemory> {
+        if !self.positive {
+            append_byte(b'-', out)?;
+        }
+        append_number(self.var, out)
+    }
+}
+
+/// A place as `TURN,DA,DB`.
+impl Word for Iso {
+    ghost text = { place_text };
+
+    fn append_word(self, out: &mut Vec<u8>) -> Result<(), NoMemory> {
+        append_number(self.turn, out)?;
+        append_byte(b',', out)?;
+        append_integer(self.da, out)?;
+        append_byte(b',', out)?;
+        append_integer(self.db, out)
+    }
+}
+
+/// Each item behind a space.
+#[tactic(auto, using(crate::proofs::Kept::kept_through))]
+pub fn append_spaced<W: Word>(items: &[W], out: &mut Vec<u8>) -> Result<(), NoMemory>
+    ensures ok { OnOk result (out.new.items ≡ out.old.items ++ spaced W.text items.now) }
+    ensures kept { take (length out.old.items) out.new.items ≡ out.old.items }
+{
+    for item in items {
         append_byte(b' ', out)?;
-        append_cell(*cell, out)?;
+        item.append_word(out)?;
     }
     Ok(())
 }
@@ -71,7 +146,7 @@ pub fn append_cells(cells: &[Cell], out: &mut Vec<u8>) -> Result<(), NoMemory>
     ensures kept { take (length out.old.items) out.new.items ≡ out.old.items }
 {
     if let [first, others @ ..] = cells {
-        append_cell(*first, out)?;
+        first.append_word(out)?;
         append_spaced(others, out)?;
     }
     Ok(())

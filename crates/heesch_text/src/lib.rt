@@ -1,9 +1,18 @@
 //! The texts that the program writes, each a function of the value written.
 #![tactic(auto)]
 
+mod catalogue;
+mod evidence;
 mod fields;
+mod line;
+mod lines;
+mod names;
 mod plains;
 mod shapes;
+#[cfg(test)]
+mod tests;
 
+pub use catalogue::{write_brief, write_end, write_entry, write_header};
+pub use line::{BareOutcome, Line, Outcome};
 pub use plains::write_plain;
 pub use shapes::write_shape;

@@ -1,6 +1,10 @@
 pub mod FlatLemmas
 pub mod Settled
-pub mod Items
 pub mod Inner
 pub mod Levels
 pub mod Undo
+pub mod Visits
+pub mod Guards
+pub mod Passed
+pub mod Rounds
+pub mod Marks

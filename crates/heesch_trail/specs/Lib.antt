@@ -2,4 +2,6 @@ pub mod Fixpoint
 pub mod Flat
 pub mod Inner
 pub mod Readings
+pub mod Seen
 pub mod State
+pub mod Watches

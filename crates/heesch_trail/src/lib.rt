@@ -1,10 +1,15 @@
 //! Assignments to the variables of clauses, in order, with the clause that each follows from.
 #![tactic(auto)]
 
+mod assigned;
+mod pair;
+mod propagation;
 mod scan;
 mod step;
 mod store;
 mod trail;
+mod watch_list;
+mod watches;
 
 pub use step::Step;
 pub use trail::Trail;

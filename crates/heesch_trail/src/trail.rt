@@ -1,11 +1,11 @@
 ghost use Rattle.std.specs.Prelude.{◌≡◌, ℕ, ◌+◌, ◌<◌, ◌≤◌, ◌^◌, [], ◌∷◌, ◌++◌, length, Some, None, All, IfOk, IfErr, OnOk, OnErr, option_map, option_and_then, replicate, take, ◌-◌};
 ghost use Rattle.heesch_cnf.specs.Clauses.{IsClause};
-ghost use Rattle.heesch_trail.specs.Readings.{IsFinding};
-ghost use Rattle.heesch_trail.specs.State.{State, IsTrail, StepHolds, fact_of, values_of, made_by, level_of, up_to, Continues, IsPropagated, decision};
+ghost use Rattle.heesch_trail.specs.Fixpoint.{IsFixpoint};
+ghost use Rattle.heesch_trail.specs.State.{State, IsTrail, fact_of, values_of, made_by, level_of, up_to, Continues, IsPropagated, decision};
 
-use crate::Step;
-use crate::scan::{Finding, read_clauses};
-use crate::store::ClauseStore;
+use crate::assigned::Assigned;
+use crate::propagation::{drain, guarded, read_fresh};
+use crate::watches::Watches;
 use heesch_cnf::{Formula, Lit, Lits};
 use heesch_io::NoMemory;
 use std::alloc::Global;
@@ -14,12 +14,11 @@ use std::marker::Model;
 /// Clauses, and assignments to their variables in the order in which they were made.
 #[derive(Drop)]
 pub struct Trail {
-    vars: u32,
-    clauses: ClauseStore,
-    values: Vec<Option<bool>>,
-    facts: Vec<Option<Step>>,
-    steps: Vec<Step>,
-    made: Vec<Lit>,
+    assigned: Assigned,
+    watches: Watches,
+    head: usize,
+    fresh: usize,
+    marks: Vec<usize>,
 }
 
 impl Model for Trail {
@@ -27,24 +26,11 @@ impl Model for Trail {
 
     ghost Value = { State };
 
-    ghost use Rattle.heesch_trail.specs.Inner.{IsInner};
+    ghost use Rattle.heesch_trail.specs.Seen.{IsWatched};
 
-    ghost view = { λ t. record { vars = t.vars; clauses = t.clauses; steps = t.steps.items } };
+    ghost view = { λ t. t.assigned };
 
-    ghost invariant = { λ t. IsInner t.vars t.clauses t.values.items t.facts.items t.steps.items t.made.items };
-}
-
-/// `count` places with nothing in them.
-fn nones<T: Drop>(alloc: Global, count: usize) -> Result<Vec<Option<T>>, NoMemory>
-    ensures { IfOk result (λ v. v.items ≡ replicate count None) }
-{
-    let mut places = Vec::new(alloc);
-    for _ in 0..count {
-        if places.push(None).is_err() {
-            return Err(NoMemory);
-        }
-    }
-    Ok(places)
+    ghost invariant = { λ t. IsWatched t.assigned t.watches t.head t.fresh t.marks.items };
 }
 
 impl Trail {
@@ -54,14 +40,12 @@ impl Trail {
         ensures opened { IfOk result (λ t. t ≡ record { vars = formula.now.vars; clauses = formula.now.clauses; steps = [] }) }
         ensures valid { IfOk result IsTrail }
     {
-        let places = formula.vars as usize + 1;
         Ok(Trail {
-            vars: formula.vars,
-            clauses: ClauseStore::copy_of(alloc, formula.clauses.as_slice())?,
-            values: nones(alloc, places)?,
-            facts: nones(alloc, places)?,
-            steps: Vec::new(alloc),
-            made: Vec::new(alloc),
+            assigned: Assigned::open(alloc, formula)?,
+            watches: Watches::open(alloc, formula.vars, formula.clauses.len())?,
+            head: 0,
+            fresh: 0,
+            marks: Vec::new(alloc),
         })
     }
 
@@ -70,7 +54,7 @@ impl Trail {
         ensures vars { result ≡ self.now.vars }
         ensures valid { IsTrail self.now }
     {
-        self.vars
+        self.assigned.vars()
     }
 
     /// The true literals, in the order in which they were made. The other literals of a reason are false, and their
@@ -79,7 +63,7 @@ impl Trail {
         ensures made { result.now ≡ made_by self.now.steps }
         ensures valid { IsTrail self.now }
     {
-        self.made.as_slice()
+        self.assigned.made()
     }
 
     /// The value of a variable, or None where it is open. The cost is one look-up.
@@ -87,14 +71,7 @@ impl Trail {
         requires { var ≤ self.now.vars }
         ensures { result ≡ values_of self.now.steps var }
     {
-        self.values[var as usize]
-    }
-
-    fn fact(&self, var: u32) -> Option<Step>
-        requires { var ≤ self.now.vars }
-        ensures { result ≡ fact_of self.now.steps var }
-    {
-        self.facts[var as usize]
+        self.assigned.value(var)
     }
 
     /// The level at which a variable was assigned, or None where it is open. The cost is one look-up.
@@ -102,10 +79,7 @@ impl Trail {
         requires { var ≤ self.now.vars }
         ensures { result ≡ option_map (λ s. s.level) (fact_of self.now.steps var) }
     {
-        match self.fact(var) {
-            None => None,
-            Some(step) => Some(step.level),
-        }
+        self.assigned.level_of(var)
     }
 
     /// The number of the clause that a variable's value follows from, or None where it is open or was decided. The cost is
@@ -114,10 +88,7 @@ impl Trail {
         requires { var ≤ self.now.vars }
         ensures { result ≡ option_and_then (λ s. s.reason) (fact_of self.now.steps var) }
     {
-        match self.fact(var) {
-            None => None,
-            Some(step) => step.reason,
-        }
+        self.assigned.reason_of(var)
     }
 
     /// The present level: 0 before any decision, and one more with each. It takes no memory.
@@ -125,10 +96,7 @@ impl Trail {
         ensures level { result ≡ level_of self.now.steps }
         ensures few { result ≤ length self.now.steps }
     {
-        match self.steps.last() {
-            None => 0,
-            Some(step) => step.level,
-        }
+        self.assigned.level()
     }
 
     /// The clause stands last, and its number, from 1, is answered; the assignments stay. At want of memory nothing has
@@ -141,37 +109,9 @@ impl Trail {
         ensures err { OnErr result (self.new ≡ self.old) }
         ensures valid { IsTrail self.new }
     {
-        self.clauses.push(clause.as_slice())?;
-        Ok(self.clauses.len() as u32)
-    }
-
-    fn assign(&mut self, step: Step) -> Result<(), NoMemory>
-        requires { StepHolds self.old.vars self.old.clauses self.old.steps step }
-        ensures ok { OnOk result (self.new ≡ record self.old { steps = self.old.steps ++ step ∷ [] }) }
-        ensures err { OnErr result (self.new ≡ self.old) }
-        ensures valid { IsTrail self.new }
-    {
-        if self.steps.push(step).is_err() {
-            return Err(NoMemory);
-        }
-        if self.made.push(step.lit).is_err() {
-            let _ = self.steps.pop();
-            return Err(NoMemory);
-        }
-        let var = step.lit.var as usize;
-        self.values[var] = Some(step.lit.positive);
-        self.facts[var] = Some(step);
-        Ok(())
-    }
-
-    fn next_level(&self, lit: Lit) -> u32
-        requires low { 1 ≤ lit.var }
-        requires high { lit.var ≤ self.now.vars }
-        requires is_open { values_of self.now.steps lit.var ≡ None }
-        ensures { result ≡ level_of self.now.steps + 1 }
-    {
-        let _vars = self.vars;
-        self.level() + 1
+        // Where the clause finds no room after this, its place stays, and nothing is watched there.
+        self.watches.add()?;
+        self.assigned.add(clause)
     }
 
     /// A new level begins with this literal, whose variable is open, after the earlier assignments. At want of memory
@@ -184,57 +124,32 @@ impl Trail {
         ensures err { OnErr result (self.new ≡ self.old) }
         ensures valid { IsTrail self.new }
     {
-        let level = self.next_level(lit);
-        self.assign(Step {
-            lit,
-            level,
-            reason: None,
-        })
-    }
-
-    fn find(&self) -> Finding
-        ensures { IsFinding (values_of self.now.steps) self.now.clauses result }
-    {
-        read_clauses(&self.values, self.vars, &self.clauses)
+        let mark = guarded(&self.assigned, self.head, self.fresh);
+        if self.marks.push(mark).is_err() {
+            return Err(NoMemory);
+        }
+        if self.assigned.decide(lit).is_err() {
+            let _ = self.marks.pop();
+            return Err(NoMemory);
+        }
+        Ok(())
     }
 
     /// Makes assignments at the present level, each with the clause that it follows from, until every clause has a true
     /// literal or two open ones (None), or until all literals of a clause are false (its number). After want of memory the
-    /// assignments made are consequences, and the call may be made again. The cost is a pass over all literals for each
-    /// assignment.
+    /// assignments made are consequences, and the call may be made again. The cost is that of reading the clauses of whose
+    /// two watched literals one was made false, and those that were added; after going back to a level, also a look at each
+    /// clause that was added since that level was left.
     pub fn propagate(&mut self) -> Result<Option<u32>, NoMemory>
         ensures goes_on { Continues self.old self.new }
         ensures found { IfOk result (IsPropagated self.new) }
         ensures valid { IsTrail self.new }
     {
-        let _ = &self.vars;
-        loop {
-            let (number, lit) = match self.find() {
-                Finding::Fixpoint => return Ok(None),
-                Finding::Conflict { number } => return Ok(Some(number)),
-                Finding::Unit { number, lit } => (number, lit),
-            };
-            let level = self.level();
-            self.assign(Step {
-                lit,
-                level,
-                reason: Some(number),
-            })?;
+        let found = read_fresh(&mut self.assigned, &mut self.watches, &mut self.fresh)?;
+        if found.is_some() {
+            return Ok(found);
         }
-    }
-
-    /// The last assignment is gone.
-    fn undo(&mut self)
-        requires { 0 < length self.old.steps }
-        ensures undone { self.new ≡ record self.old { steps = take (length self.old.steps - 1) self.old.steps } }
-        ensures valid { IsTrail self.new }
-    {
-        if let Some(step) = self.steps.pop() {
-            let _ = self.made.pop();
-            let var = step.lit.var as usize;
-            self.values[var] = None;
-            self.facts[var] = None;
-        }
+        drain(&mut self.assigned, &mut self.watches, &mut self.head)
     }
 
     /// The assignments above the level are gone, and the others stay, with their order, levels and reasons. The cost is the
@@ -245,9 +160,11 @@ impl Trail {
         ensures level { level_of self.new.steps ≡ level }
         ensures valid { IsTrail self.new }
     {
-        let _ = &self.vars;
-        while self.level() > level {
-            self.undo();
+        if level < self.assigned.level() {
+            self.assigned.back_to(level);
+            self.head = self.assigned.made().len();
+            self.fresh = self.marks[level as usize];
+            self.marks.truncate(level as usize);
         }
     }
 }

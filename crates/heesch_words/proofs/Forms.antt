@@ -1,51 +1,66 @@
 -- The words of the forms.
-use Rattle.std.proofs.Common.{◌≡◌, ◌≢◌, ◌<◌, ◌^◌, ℕ, List, [], ◌∷◌, refl, sym, ap, ◌∙◌, ◌-◌, subst, length, take, drop, map, codes, decimal, arith}
-use Rattle.std.specs.Prelude.{unwrap_or}
-use Rattle.std.proofs.lemmas.Fmt.{decimal_injective}
-use Rattle.std.proofs.lemmas.List.{take_rest}
+use Rattle.std.proofs.Common.{◌≡◌, ◌≢◌, ◌<◌, ◌^◌, ◌-◌, ℕ, List, [], ◌∷◌, ◌++◌, refl, sym, ap, ◌∙◌, subst, length, take, drop, map, codes, decimal, true, false, arith}
+use Rattle.std.proofs.Math.Seq.{drop-append_seam}
+use Rattle.std.proofs.lemmas.Fmt.{decimal_injective, decimal_is_IsNumeral}
+use Rattle.std.proofs.lemmas.List.{take_rest, drop-map}
+use Rattle.std.specs.Str.Parse.{AllDigits}
+use Rattle.heesch_cert.specs.declared.header.Subject.{Subject}
+use Rattle.heesch_cert.specs.declared.header.Subject.TheVariants.{Size, Given}
+use Rattle.heesch_cert.specs.declared.limits.Limits.{Limits}
 use Rattle.heesch_grid.specs.declared.GridName.{GridName}
 use Rattle.heesch_grid.specs.declared.GridName.TheVariants.{Square, Hex, Iamond}
+use Rattle.heesch_grid.specs.Names.{grid_word}
 use Rattle.heesch_words.specs.declared.options.Options.{Options}
 use Rattle.heesch_words.specs.declared.requests.Request.{Request}
-use Rattle.heesch_words.specs.declared.requests.Request.TheVariants.{List as ListRequest, Plain as PlainRequest}
-use Rattle.heesch_words.specs.Options.{AreOptions}
-use Rattle.heesch_words.specs.Requests.{Asks, HasListForm, HasSizeForm, grid_word, most_cells}
+use Rattle.heesch_words.specs.declared.requests.Request.TheVariants.{List as ListRequest, Plain as PlainRequest, Classify as ClassifyRequest}
+use Rattle.heesch_words.specs.Options.{AreOptions, HasWorkersAlone, workers_of, limits_of}
+use Rattle.heesch_words.specs.Requests.{Asks, HasForm, HaveOptions, HasListForm, IsSize, IsSubject, form_word, most_cells, subject_word}
 use Rattle.heesch_words.proofs.Settings.{one_reading}
 
--- where the words after the size are not options, the words have no form of a size
-no_size_form : {X : Type 0} (text_of : X → List ℕ) (form : List ℕ) (words : List X) → ((options : Options) → ¬ AreOptions (map text_of (take (length words - 2) (drop 2 words))) options)
-    → (grid : GridName) (n : ℕ) (options : Options) → ¬ HasSizeForm form (form ∷ map text_of words) grid n options
-no_size_form text_of form [] refused grid n options has = let spelled = has.spelled in cc
-no_size_form text_of form (x ∷ []) refused grid n options has = let spelled = has.spelled in cc
-no_size_form text_of form (x ∷ y ∷ words) refused grid n options has =
-    let spelled : form ∷ map text_of (x ∷ y ∷ words) ≡ form ∷ grid_word grid ∷ decimal n ∷ has.others = has.spelled in
-    let same : map text_of words ≡ has.others = cc in
-    refused options (rw (take_rest (x ∷ y ∷ words) 2, same) has.given)
+-- Words before options.
 
--- the same with the number of workers
-pub no_list_form : {X : Type 0} (text_of : X → List ℕ) (words : List X) → ((options : Options) → ¬ AreOptions (map text_of (take (length words - 2) (drop 2 words))) options)
-    → (form : List ℕ) (grid : GridName) (n workers : ℕ) → ¬ HasListForm form (form ∷ map text_of words) grid n workers
-no_list_form text_of words refused form grid n workers (options, has, _) = no_size_form text_of form words refused grid n options has
+-- what follows the first words, as a slice of the words
+others_are : {X : Type 0} (text_of : X → List ℕ) (words : List X) (k : ℕ) (first others : List (List ℕ))
+    → length first ≡ k → map text_of words ≡ first ++ others → map text_of (take (length words - k) (drop k words)) ≡ others
+others_are text_of words k first others long spelled =
+    let seam : drop k (first ++ others) ≡ others = subst (λ (n : ℕ). drop n (first ++ others) ≡ others) long (drop-append_seam first others) in
+    ap (map text_of) (take_rest words k) ∙ sym (drop-map text_of k words) ∙ ap (drop k) spelled ∙ seam
 
--- words that begin with one form's word have no other form
-other_form : (form other : List ℕ) (words : List (List ℕ)) (grid : GridName) (n workers : ℕ) → form ≢ other → ¬ HasListForm other (form ∷ words) grid n workers
-other_form form other words grid n workers differ (options, has, _) =
-    let spelled : form ∷ words ≡ other ∷ grid_word grid ∷ decimal n ∷ has.others = has.spelled in
-    let same : form ≡ other = cc in
-    differ same
+-- where the words after the first ones are not options, the words are not those with options
+pub no_options : {X : Type 0} (text_of : X → List ℕ) (words : List X) (k : ℕ) (first : List (List ℕ)) (options : Options)
+    → length first ≡ k → ((options : Options) → ¬ AreOptions (map text_of (take (length words - k) (drop k words))) options)
+    → ¬ HaveOptions first (map text_of words) options
+no_options text_of words k first options long refused have =
+    let same = others_are text_of words k first have.others long have.spelled in
+    refused options (subst (λ (w : List (List ℕ)). AreOptions w options) (sym same) have.given)
 
-abbrev NoListForm : List (List ℕ) → Type 0
-NoListForm words = (form : List ℕ) (grid : GridName) (n workers : ℕ) → ¬ HasListForm form (form ∷ words) grid n workers
+-- the options that were read are those of the words
+read_options : {X : Type 0} (text_of : X → List ℕ) (words : List X) (k : ℕ) (first : List (List ℕ)) (options read : Options)
+    → length first ≡ k → AreOptions (map text_of (take (length words - k) (drop k words))) read
+    → HaveOptions first (map text_of words) options → options ≡ read
+read_options text_of words k first options read long given have =
+    let same = others_are text_of words k first have.others long have.spelled in
+    one_reading have.others options read have.given (subst (λ (w : List (List ℕ)). AreOptions w read) same given)
 
--- where the words after `list` have no form of a size, nothing is asked for
-pub no_list : (words : List (List ℕ)) → NoListForm words → (request : Request) → ¬ Asks (codes "list" ∷ words) request
-no_list words none (ListRequest grid n workers) has = none (codes "list") grid n workers has
-no_list words none (PlainRequest grid n workers) has = other_form (codes "list") (codes "plain") words grid n workers (λ e. grind arith) has
+-- texts that are the same with others behind them, and as long, are the same
+same_parts : (xs ys us vs : List (List ℕ)) → length xs ≡ length ys → xs ++ us ≡ ys ++ vs → (xs ≡ ys) × (us ≡ vs)
+same_parts [] [] us vs long is = (refl, is)
+same_parts [] (y ∷ ys) us vs long is = absurd (omega arith)
+same_parts (x ∷ xs) [] us vs long is = absurd (omega arith)
+same_parts (x ∷ xs) (y ∷ ys) us vs long is =
+    let heads : x ≡ y = cc in
+    let tails : xs ++ us ≡ ys ++ vs = cc in
+    let (parts, others) = same_parts xs ys us vs (omega arith) tails in
+    (cc, others)
 
--- the same after `plain`
-pub no_plain : (words : List (List ℕ)) → NoListForm words → (request : Request) → ¬ Asks (codes "plain" ∷ words) request
-no_plain words none (ListRequest grid n workers) has = other_form (codes "plain") (codes "list") words grid n workers (λ e. grind arith) has
-no_plain words none (PlainRequest grid n workers) has = none (codes "plain") grid n workers has
+-- words have one choice of so many first words and of options
+one_choice : (words first first' : List (List ℕ)) (options options' : Options) → length first ≡ length first'
+    → HaveOptions first words options → HaveOptions first' words options' → (first ≡ first') × (options ≡ options')
+one_choice words first first' options options' long have have' =
+    let (same, others) = same_parts first first' have.others have'.others long (sym have.spelled ∙ have'.spelled) in
+    (same, one_reading have'.others options options' (subst (λ (w : List (List ℕ)). AreOptions w options) others have.given) have'.given)
+
+-- The words of grids, numbers and subjects.
 
 -- the words of the grids differ
 same_grid : (x y : GridName) → grid_word x ≡ grid_word y → x ≡ y
@@ -64,42 +79,69 @@ few_cells Square = omega arith
 few_cells Hex = omega arith
 few_cells Iamond = omega arith
 
--- words of the form have one grid, one size and one choice of options
-one_size_form : (form : List ℕ) (words : List (List ℕ)) (grid grid' : GridName) (n n' : ℕ) (options options' : Options)
-    → HasSizeForm form words grid n options → HasSizeForm form words grid' n' options' → (grid ≡ grid') × (n ≡ n') × (options ≡ options')
-one_size_form form words grid grid' n n' options options' first second =
-    let spelled : form ∷ grid_word grid ∷ decimal n ∷ first.others ≡ form ∷ grid_word grid' ∷ decimal n' ∷ second.others = sym first.spelled ∙ second.spelled in
-    let texts : decimal n ≡ decimal n' = cc in
+one_size : (grid grid' : GridName) (n n' : ℕ) → IsSize grid n → IsSize grid' n' → decimal n ≡ decimal n' → n ≡ n'
+one_size grid grid' n n' first second is =
     let few = few_cells grid in
     let few' = few_cells grid' in
-    let others : second.others ≡ first.others = cc in
-    let given : AreOptions first.others options' = subst (λ (w : List (List ℕ)). AreOptions w options') others second.given in
-    (same_grid grid grid' cc, decimal_injective n n' (omega (arith, first.most)) (omega (arith, second.most)) texts, one_reading first.others options options' first.given given)
+    decimal_injective n n' (omega (arith, first.1)) (omega (arith, second.1)) is
 
--- words of the form have one number of workers too
-one_list_form : (form : List ℕ) (words : List (List ℕ)) (grid grid' : GridName) (n n' workers workers' : ℕ)
-    → HasListForm form words grid n workers → HasListForm form words grid' n' workers' → (grid ≡ grid') × (n ≡ n') × (workers ≡ workers')
-one_list_form form words grid grid' n n' workers workers' (options, first, is) (options', second, is') =
-    let (grids, sizes, same) = one_size_form form words grid grid' n n' options options' first second in
-    (grids, sizes, is ∙ ap (λ (o : Options). unwrap_or o.workers 1) same ∙ sym is')
+-- `given` is no number
+not_given : (n : ℕ) → n < 2 ^ 64 → decimal n ≢ codes "given"
+not_given n fits is =
+    let digits : AllDigits 10 (codes "given") = subst (AllDigits 10) is (decimal_is_IsNumeral n fits).0.1 in
+    absurd (omega (arith, digits.0))
 
--- words begin with the word of one form
-two_forms : (words : List (List ℕ)) (grid grid' : GridName) (n n' workers workers' : ℕ)
-    → HasListForm (codes "list") words grid n workers → HasListForm (codes "plain") words grid' n' workers' → ⊥
-two_forms words grid grid' n n' workers workers' (options, first, _) (options', second, _) =
-    let spelled : codes "list" ∷ grid_word grid ∷ decimal n ∷ first.others ≡ codes "plain" ∷ grid_word grid' ∷ decimal n' ∷ second.others = sym first.spelled ∙ second.spelled in
-    let same : codes "list" ≡ codes "plain" = cc in
-    grind arith
+one_subject : (grid grid' : GridName) (x y : Subject) → IsSubject grid x → IsSubject grid' y → subject_word x ≡ subject_word y → x ≡ y
+one_subject grid grid' (Size n) (Size n') first second is = ap Size (one_size grid grid' n n' first second is)
+one_subject grid grid' (Size n) Given first second is = let few = few_cells grid in absurd (not_given n (omega (arith, first.1)) is)
+one_subject grid grid' Given (Size n) first second is = let few = few_cells grid' in absurd (not_given n (omega (arith, second.1)) (sym is))
+one_subject grid grid' Given Given first second is = refl
+
+-- Words that are refused.
+
+-- words whose options are others than the workers' have no form that takes these alone
+pub list_not_alone : {X : Type 0} (text_of : X → List ℕ) (words : List X) (read : Options)
+    → AreOptions (map text_of (take (length words - 2) (drop 2 words))) read → ¬ HasWorkersAlone read
+    → (grid : GridName) (n workers : ℕ) → ¬ HasListForm (map text_of words) grid n workers
+list_not_alone text_of words read given others grid n workers has =
+    let same : has.options ≡ read = read_options text_of words 2 _ has.options read refl given has.have in
+    others (subst HasWorkersAlone same has.alone)
+
+-- Words ask for one thing at most.
+
+-- words have one form of a list
+one_list : (words : List (List ℕ)) (grid grid' : GridName) (n n' workers workers' : ℕ)
+    → HasListForm words grid n workers → HasListForm words grid' n' workers' → (grid ≡ grid') × (n ≡ n') × (workers ≡ workers')
+one_list words grid grid' n n' workers workers' first second =
+    let (parts, same) = one_choice words _ _ first.options second.options refl first.have second.have in
+    let grids : grid_word grid ≡ grid_word grid' = cc in
+    let sizes : decimal n ≡ decimal n' = cc in
+    (same_grid grid grid' grids, one_size grid grid' n n' first.size second.size sizes, first.workers_is ∙ ap workers_of same ∙ sym second.workers_is)
+
+-- words have one form of each kind
+one_of_form : (words : List (List ℕ)) (x y : Request) → form_word x ≡ form_word y → HasForm words x → HasForm words y → x ≡ y
+one_of_form words (ListRequest grid n workers) (ListRequest grid' n' workers') is first second =
+    let (grids, sizes, counts) = one_list words grid grid' n n' workers workers' first second in
+    cc
+one_of_form words (PlainRequest grid n workers) (PlainRequest grid' n' workers') is first second =
+    let (grids, sizes, counts) = one_list words grid grid' n n' workers workers' first second in
+    cc
+one_of_form words (ClassifyRequest grid subject limits workers brief) (ClassifyRequest grid' subject' limits' workers' brief') is first second =
+    let (parts, same) = one_choice words _ _ first.options second.options refl first.have second.have in
+    let grids : grid_word grid ≡ grid_word grid' = cc in
+    let subjects : subject_word subject ≡ subject_word subject' = cc in
+    let same_grids : grid ≡ grid' = same_grid grid grid' grids in
+    let same_subjects : subject ≡ subject' = one_subject grid grid' subject subject' first.in_range second.in_range subjects in
+    let same_limits : limits ≡ limits' = first.limits_is ∙ ap limits_of same ∙ sym second.limits_is in
+    let same_workers : workers ≡ workers' = first.workers_is ∙ ap workers_of same ∙ sym second.workers_is in
+    let same_brief : brief ≡ brief' = first.brief_is ∙ ap (λ (o : Options). o.brief) same ∙ sym second.brief_is in
+    cc
+one_of_form words x y is first second = absurd (grind arith)
 
 -- words ask for one thing at most
 pub one_request : (words : List (List ℕ)) (x y : Request) → Asks words x → Asks words y → x ≡ y
-one_request words (ListRequest grid n workers) (ListRequest grid' n' workers') first second =
-    let (grids, sizes, counts) = one_list_form (codes "list") words grid grid' n n' workers workers' first second in
-    cc
-one_request words (ListRequest grid n workers) (PlainRequest grid' n' workers') first second =
-    absurd (two_forms words grid grid' n n' workers workers' first second)
-one_request words (PlainRequest grid n workers) (ListRequest grid' n' workers') first second =
-    absurd (two_forms words grid' grid n' n workers' workers second first)
-one_request words (PlainRequest grid n workers) (PlainRequest grid' n' workers') first second =
-    let (grids, sizes, counts) = one_list_form (codes "plain") words grid grid' n n' workers workers' first second in
-    cc
+one_request words x y first second =
+    let spelled : form_word x ∷ first.others ≡ form_word y ∷ second.others = sym first.spelled ∙ second.spelled in
+    let forms : form_word x ≡ form_word y = cc in
+    let others : second.others ≡ first.others = cc in
+    one_of_form first.others x y forms first.has (subst (λ (w : List (List ℕ)). HasForm w y) others second.has)

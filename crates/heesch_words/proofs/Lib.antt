@@ -1,4 +1,6 @@
 mod Digits
-mod Forms
+pub mod Forms
+mod InRange
 mod OptionRows
+pub mod Ranges
 mod Settings

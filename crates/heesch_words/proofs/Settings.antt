@@ -1,13 +1,15 @@
 -- Settings, the words that spell them, and what holds them.
-use Rattle.std.proofs.Common.{◌≡◌, ◌≤◌, ◌≢◌, ℕ, List, [], ◌∷◌, ◌++◌, refl, sym, ap, ◌∙◌, ◌-◌, length, get_or, take, drop, map, subst, append_assoc, arith, decimal}
+use Rattle.std.proofs.Common.{◌≡◌, ◌≤◌, ◌≢◌, ℕ, zero, suc, ◌+◌, Bool, true, false, if◌then◌else◌, count_by, codes, List, [], ◌∷◌, ◌++◌, refl, sym, ap, ◌∙◌, ◌-◌, length, get_or, take, drop, map, subst, append_assoc, arith, decimal}
 use Rattle.std.specs.Prelude.{Option, None, Some}
 use Rattle.std.specs.List.{flat_map, filter_map, AllByRecursion}
 use Rattle.std.specs.Option.{option_to_list}
 use Rattle.std.proofs.lemmas.List.Elements.{filter_map-append}
 use Rattle.std.proofs.lemmas.List.{append-nil, take_rest}
+use Rattle.std.proofs.lemmas.List.Sums.{sum_by-append}
 use Rattle.std.proofs.lemmas.Fmt.{decimal_injective}
 use Rattle.heesch_words.specs.declared.options.Options.{Options}
-use Rattle.heesch_words.specs.Options.{Setting, Workers, setting_words, IsInRange, workers_of, AreHeld, AreOptions}
+use Rattle.heesch_words.specs.Options.{Name, Workers, Turns, Levels, Domain, Size, Setting, Number, Brief, name_word, setting_words, number_of, is_brief, held, IsInRange, AreHeld, AreOptions}
+use Rattle.heesch_words.proofs.InRange.{bounds_of, few}
 use Rattle.heesch_words.specs.Reading.{BeginWith, CannotAdd}
 
 -- the words begin with those of settings that are held, and others follow
@@ -24,6 +26,12 @@ pub values_of_first : (value_of : Setting → Option ℕ) (settings : List Setti
     → filter_map value_of settings ≡ [] → value_of setting ≡ Some n → filter_map value_of (settings ++ setting ∷ []) ≡ n ∷ []
 values_of_first value_of settings setting n none is =
     filter_map-append value_of settings (setting ∷ []) ∙ rw (none, is) refl
+
+-- another option's values stay
+pub values_stay : (value_of : Setting → Option ℕ) (settings : List Setting) (setting : Setting)
+    → value_of setting ≡ None → filter_map value_of (settings ++ setting ∷ []) ≡ filter_map value_of settings
+values_stay value_of settings setting is =
+    filter_map-append value_of settings (setting ∷ []) ∙ rw is (append-nil _)
 
 -- where one value more can be held, none was held
 pub none_before : (value_of : Setting → Option ℕ) (settings : List Setting) (setting : Setting) (n : ℕ) (old new : Option ℕ)
@@ -53,30 +61,114 @@ same_value None (Some y) is = cc
 same_value (Some x) None is = cc
 same_value (Some x) (Some y) is = cc
 
+-- The option `--brief`.
+
+-- settings have it as often as their parts
+pub count_by-append : (first others : List Setting) → count_by is_brief (first ++ others) ≡ count_by is_brief first + count_by is_brief others
+count_by-append first others = sum_by-append (λ s. if is_brief s then 1 else 0) first others
+
+-- what the first settings have of it can be held where all of them can
+brief_of_part : (first others : List Setting) (brief : Bool) → count_by is_brief (first ++ others) ≡ (if brief then 1 else 0)
+    → (part : Bool) × (count_by is_brief first ≡ (if part then 1 else 0))
+brief_of_part first others brief all = go (count_by is_brief first) brief (sym (count_by-append first others) ∙ all)
+  where
+    go : (n : ℕ) (b : Bool) → n + count_by is_brief others ≡ (if b then 1 else 0) → (part : Bool) × (n ≡ (if part then 1 else 0))
+    go zero b is = (false, refl)
+    go (suc zero) b is = (true, refl)
+    go (suc (suc n)) true is = absurd (omega arith)
+    go (suc (suc n)) false is = absurd (omega arith)
+
+-- a count tells whether it is held
+same_brief : (n : ℕ) (x y : Bool) → n ≡ (if x then 1 else 0) → n ≡ (if y then 1 else 0) → x ≡ y
+same_brief n true true first second = refl
+same_brief n true false first second = absurd (omega arith)
+same_brief n false true first second = absurd (omega arith)
+same_brief n false false first second = refl
+
 -- All options together.
+
+-- the options that hold some numbers
+abbrev holding : (Name → Option ℕ) → Bool → Options
+holding number brief = record {
+  workers = number Workers;
+  turns = number Turns;
+  levels = number Levels;
+  domain = number Domain;
+  size = number Size;
+  brief = brief;
+}
+
+-- options that hold the same are the same
+same_fields : (x y : Options) → ((name : Name) → held name x ≡ held name y) → x.brief ≡ y.brief → x ≡ y
+same_fields x y numbers brief =
+    let workers : x.workers ≡ y.workers = numbers Workers in
+    let turns : x.turns ≡ y.turns = numbers Turns in
+    let levels : x.levels ≡ y.levels = numbers Levels in
+    let domain : x.domain ≡ y.domain = numbers Domain in
+    let size : x.size ≡ y.size = numbers Size in
+    let first : x ≡ holding (λ name. held name x) x.brief = refl in
+    let second : y ≡ holding (λ name. held name y) y.brief = refl in
+    cc
 
 -- settings tell what is held
 pub same_options : (settings : List Setting) (x y : Options) → AreHeld settings x → AreHeld settings y → x ≡ y
 same_options settings x y first second =
-    let workers : x.workers ≡ y.workers = same_value _ _ (sym first.workers ∙ second.workers) in
-    ap (λ (w : Option ℕ). record { workers = w }) workers
+    same_fields x y (λ name. same_value _ _ (sym (first.numbers name) ∙ second.numbers name)) (same_brief _ _ _ first.brief second.brief)
+
+held_by : (number : Name → Option ℕ) (brief : Bool) (name : Name) → held name (holding number brief) ≡ number name
+held_by number brief Workers = refl
+held_by number brief Turns = refl
+held_by number brief Levels = refl
+held_by number brief Domain = refl
+held_by number brief Size = refl
 
 -- the first settings can be held where all are
 pub part_is_held : (first others : List Setting) (options : Options) → AreHeld (first ++ others) options → (part : Options) × AreHeld first part
-part_is_held first others options held =
-    let (workers, of_workers) = value_of_part workers_of first others options.workers held.workers in
-    (record { workers = workers }, record { workers = of_workers })
+part_is_held first others options all =
+    let parts : (name : Name) → (part : Option ℕ) × (filter_map (number_of name) first ≡ option_to_list part) =
+    λ name. value_of_part (number_of name) first others (held name options) (all.numbers name) in
+    let (brief, is) = brief_of_part first others options.brief all.brief in (
+      holding (λ name. (parts name).0) brief,
+      record { numbers = λ name. (parts name).1 ∙ ap option_to_list (sym (held_by (λ name. (parts name).0) brief name)); brief = is },
+    )
+
+-- the options' words differ
+pub same_name : (x y : Name) → name_word x ≡ name_word y → x ≡ y
+same_name Workers Workers is = refl
+same_name Turns Turns is = refl
+same_name Levels Levels is = refl
+same_name Domain Domain is = refl
+same_name Size Size is = refl
+same_name x y is = absurd (grind arith)
+
+pub not_brief : (name : Name) → name_word name ≢ codes "--brief"
+not_brief Workers is = grind arith
+not_brief Turns is = grind arith
+not_brief Levels is = grind arith
+not_brief Domain is = grind arith
+not_brief Size is = grind arith
 
 -- the words of settings in their ranges begin with one setting alone
 pub same_setting : (x y : Setting) (others more : List (List ℕ)) → IsInRange x → IsInRange y
     → setting_words x ++ others ≡ setting_words y ++ more → (x ≡ y) × (others ≡ more)
-same_setting (Workers m) (Workers n) others more first second is =
-    let numbers : decimal m ≡ decimal n = cc in
-    (ap Workers (decimal_injective m n (omega arith) (omega arith) numbers), cc)
+same_setting (Number x m) (Number y n) others more first second is =
+    let words : name_word x ≡ name_word y = cc in
+    let texts : decimal m ≡ decimal n = cc in
+    let (_, high) = bounds_of x m first in
+    let (_, high') = bounds_of y n second in
+    let names : x ≡ y = same_name x y words in
+    let numbers : m ≡ n = decimal_injective m n (omega (arith, high, few x)) (omega (arith, high', few y)) texts in
+    (cc, cc)
+same_setting (Number x m) Brief others more first second is =
+    let words : name_word x ≡ codes "--brief" = cc in absurd (not_brief x words)
+same_setting Brief (Number y n) others more first second is =
+    let words : name_word y ≡ codes "--brief" = cc in absurd (not_brief y words)
+same_setting Brief Brief others more first second is = (refl, cc)
 
 -- a setting is spelled by some words
 pub not_unspelled : (setting : Setting) (others : List (List ℕ)) → [] ≢ setting_words setting ++ others
-not_unspelled (Workers n) others is = cc
+not_unspelled (Number name n) others is = cc
+not_unspelled Brief others is = cc
 
 -- settings whose words begin with those of the first ones begin with them
 pub settings_after : (first given : List Setting) (others : List (List ℕ)) → AllByRecursion IsInRange first → AllByRecursion IsInRange given

@@ -1,17 +1,16 @@
 -- What the words of a command line ask for.
-use Rattle.std.specs.Prelude.{◌≡◌, ◌≤◌, ℕ, List, ◌∷◌, codes, decimal, unwrap_or}
+use Rattle.std.specs.Prelude.{◌≡◌, ◌≤◌, ℕ, Bool, false, ⊤, List, [], ◌∷◌, ◌++◌, codes, decimal}
+use Rattle.heesch_cert.specs.declared.header.Subject.{Subject}
+use Rattle.heesch_cert.specs.declared.header.Subject.TheVariants.{Size, Given}
+use Rattle.heesch_cert.specs.declared.limits.Limits.{Limits}
+use Rattle.heesch_cert.specs.Limits.{AreLimits}
 use Rattle.heesch_grid.specs.declared.GridName.{GridName}
 use Rattle.heesch_grid.specs.declared.GridName.TheVariants.{Square, Hex, Iamond}
+use Rattle.heesch_grid.specs.Names.{grid_word}
 use Rattle.heesch_words.specs.declared.options.Options.{Options}
 use Rattle.heesch_words.specs.declared.requests.Request.{Request}
-use Rattle.heesch_words.specs.declared.requests.Request.TheVariants.{List as ListRequest, Plain as PlainRequest}
-use Rattle.heesch_words.specs.Options.{AreOptions}
-
--- the word of a grid
-abbrev pub grid_word : GridName → List ℕ
-grid_word Square = codes "square"
-grid_word Hex = codes "hex"
-grid_word Iamond = codes "iamond"
+use Rattle.heesch_words.specs.declared.requests.Request.TheVariants.{List as ListRequest, Plain as PlainRequest, Classify as ClassifyRequest}
+use Rattle.heesch_words.specs.Options.{AreOptions, HasWorkersAlone, workers_of, limits_of}
 
 -- the greatest number of cells for which all shapes are listed
 abbrev pub most_cells : GridName → ℕ
@@ -19,19 +18,63 @@ most_cells Square = 12
 most_cells Hex = 10
 most_cells Iamond = 15
 
--- the words are FORM GRID N, and options after them
-pub record HasSizeForm (form : List ℕ) (words : List (List ℕ)) (grid : GridName) (n : ℕ) (options : Options) : Type 0 where
+-- the shapes of so many cells are listed
+abbrev pub IsSize : GridName → ℕ → Type 0
+IsSize grid n = (1 ≤ n) × (n ≤ most_cells grid)
+
+-- a catalogue is of the shapes of a size, or of those that are given
+abbrev pub IsSubject : GridName → Subject → Type 0
+IsSubject grid (Size n) = IsSize grid n
+IsSubject grid Given = ⊥
+
+-- the word of a subject: its number of cells, or `given`
+abbrev pub subject_word : Subject → List ℕ
+subject_word (Size n) = decimal n
+subject_word Given = codes "given"
+
+-- the words are the first ones, and options after them
+pub record HaveOptions (first words : List (List ℕ)) (options : Options) : Type 0 where
   pub others : List (List ℕ)
-  pub spelled : words ≡ form ∷ grid_word grid ∷ decimal n ∷ others
-  pub least : 1 ≤ n
-  pub most : n ≤ most_cells grid
+  pub spelled : words ≡ first ++ others
   pub given : AreOptions others options
 
--- the words are FORM GRID N, and the option `--workers` where it is wanted: the number of workers is 1 by default
-abbrev pub HasListForm : List ℕ → List (List ℕ) → GridName → ℕ → ℕ → Type 0
-HasListForm form words grid n workers = (options : Options) × HasSizeForm form words grid n options × (workers ≡ unwrap_or options.workers 1)
+-- GRID N, and `--workers` where it is wanted
+pub record HasListForm (words : List (List ℕ)) (grid : GridName) (n workers : ℕ) : Type 0 where
+  pub options : Options
+  pub have : HaveOptions (grid_word grid ∷ decimal n ∷ []) words options
+  pub size : IsSize grid n
+  pub alone : HasWorkersAlone options
+  pub workers_is : workers ≡ workers_of options
 
--- The words have the form of the request, with its values: `list GRID N`, `plain GRID N`.
-abbrev pub Asks : List (List ℕ) → Request → Type 0
-Asks words (ListRequest grid n workers) = HasListForm (codes "list") words grid n workers
-Asks words (PlainRequest grid n workers) = HasListForm (codes "plain") words grid n workers
+-- GRID N or GRID `given`, and the options that are wanted
+pub record HasClassifyForm (words : List (List ℕ)) (grid : GridName) (subject : Subject) (limits : Limits) (workers : ℕ) (brief : Bool) : Type 0 where
+  pub options : Options
+  pub have : HaveOptions (grid_word grid ∷ subject_word subject ∷ []) words options
+  pub in_range : IsSubject grid subject
+  pub limits_is : limits ≡ limits_of options
+  pub workers_is : workers ≡ workers_of options
+  pub brief_is : brief ≡ options.brief
+
+-- the first word of a request's form
+abbrev pub form_word : Request → List ℕ
+form_word (ListRequest grid n workers) = codes "list"
+form_word (PlainRequest grid n workers) = codes "plain"
+form_word (ClassifyRequest grid subject limits workers brief) = codes "classify"
+
+-- The words after the first one have the form of the request, with its values.
+abbrev pub HasForm : List (List ℕ) → Request → Type 0
+HasForm words (ListRequest grid n workers) = HasListForm words grid n workers
+HasForm words (PlainRequest grid n workers) = HasListForm words grid n workers
+HasForm words (ClassifyRequest grid subject limits workers brief) = HasClassifyForm words grid subject limits workers brief
+
+-- The words ask for this: they have the request's form, with its values.
+pub record Asks (words : List (List ℕ)) (request : Request) : Type 0 where
+  pub others : List (List ℕ)
+  pub spelled : words ≡ form_word request ∷ others
+  pub has : HasForm others request
+
+-- The request's numbers lie in their ranges.
+abbrev pub IsInRange : Request → Type 0
+IsInRange (ListRequest grid n workers) = IsSize grid n × (1 ≤ workers) × (workers ≤ 64)
+IsInRange (PlainRequest grid n workers) = IsSize grid n × (1 ≤ workers) × (workers ≤ 64)
+IsInRange (ClassifyRequest grid subject limits workers brief) = IsSubject grid subject × AreLimits limits × (1 ≤ workers) × (workers ≤ 64)

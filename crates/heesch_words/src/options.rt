@@ -1,17 +1,32 @@
-ghost use Rattle.std.specs.Prelude.{◌≡◌, ◌≢◌, ◌<◌, ◌≤◌, ◌^◌, ℕ, List, ◌∷◌, map, string_bytes, decimal, IfOk, OnErr};
-ghost use Rattle.heesch_words.specs.Options.{Setting, AreOptions};
+ghost use Rattle.std.specs.Prelude.{◌≡◌, ◌≢◌, ◌<◌, ◌≤◌, ◌^◌, ℕ, true, false, List, ◌∷◌, map, string_bytes, decimal, IfOk, OnErr};
+ghost use Rattle.heesch_words.specs.Options.{Setting, AreOptions, HasWorkersAlone, workers_of, limits_of};
 ghost use Rattle.heesch_words.specs.Reading.{BeginWith, AddsSetting, CannotAdd};
 
 use crate::Usage;
 use crate::numbers::number;
+use heesch_cert::Limits;
 
 /// The greatest number of workers.
 const MOST_WORKERS: u64 = 64;
+
+/// The greatest limits.
+const MOST_TURNS: u64 = 1_000_000;
+
+const MOST_LEVELS: u64 = 6;
+
+const MOST_DOMAIN: u64 = 12;
+
+const MOST_SIZE: u64 = 60_000_000;
 
 /// What the options of a form give.
 #[derive(Clone, Copy)]
 pub struct Options {
     pub workers: Option<u32>,
+    pub turns: Option<u32>,
+    pub levels: Option<u32>,
+    pub domain: Option<u32>,
+    pub size: Option<u32>,
+    pub brief: bool,
 }
 
 impl Options {
@@ -21,7 +36,14 @@ impl Options {
         ensures usage { OnErr result
             ((options : Options) → ¬ AreOptions (map string_bytes words.now) options) }
     {
-        let mut options = Options { workers: None };
+        let mut options = Options {
+            workers: None,
+            turns: None,
+            levels: None,
+            domain: None,
+            size: None,
+            brief: false,
+        };
         let mut rest = words;
         while let [name, others @ ..] = rest {
             rest = options.read_one(name.as_str(), others)?;
@@ -41,7 +63,50 @@ impl Options {
     {
         match name {
             "--workers" => read_once(&mut self.workers, words, MOST_WORKERS),
+            "--turns" => read_once(&mut self.turns, words, MOST_TURNS),
+            "--levels" => read_once(&mut self.levels, words, MOST_LEVELS),
+            "--domain" => read_once(&mut self.domain, words, MOST_DOMAIN),
+            "--size" => read_once(&mut self.size, words, MOST_SIZE),
+            "--brief" => set_once(&mut self.brief, words),
             _ => Err(Usage),
+        }
+    }
+
+    /// The number of workers, where no other option was given.
+    pub fn workers_alone(&self) -> Result<u32, Usage>
+        ensures ok { IfOk result
+            (λ workers. HasWorkersAlone self.now × (workers ≡ workers_of self.now)) }
+        ensures usage { OnErr result (¬ HasWorkersAlone self.now) }
+    {
+        match *self {
+            Options {
+                turns: None,
+                levels: None,
+                domain: None,
+                size: None,
+                brief: false,
+                ..
+            } => Ok(self.workers()),
+            _ => Err(Usage),
+        }
+    }
+
+    /// The number of workers, by default 1.
+    pub fn workers(&self) -> u32
+        ensures { result ≡ workers_of self.now }
+    {
+        self.workers.unwrap_or(1)
+    }
+
+    /// The limits, each by default its own.
+    pub fn limits(&self) -> Limits
+        ensures { result ≡ limits_of self.now }
+    {
+        Limits {
+            turns: self.turns.unwrap_or(20_000),
+            levels: self.levels.unwrap_or(3),
+            domain: self.domain.unwrap_or(4),
+            size: self.size.unwrap_or(60_000_000),
         }
     }
 }
@@ -69,4 +134,18 @@ fn read_once<'a>(
     }
     *place = Some(number(value.as_str(), 1, most)? as u32);
     Ok(others)
+}
+
+/// Sets what was not set before, and answers the words that follow.
+fn set_once<'a>(place: &mut bool, words: &'a [String]) -> Result<&'a [String], Usage>
+    ensures ok { IfOk result (λ others.
+        (map string_bytes others.now ≡ map string_bytes words.now)
+        × (place.old ≡ false) × (place.new ≡ true)) }
+    ensures usage { OnErr result (place.old ≡ true) }
+{
+    if *place {
+        return Err(Usage);
+    }
+    *place = true;
+    Ok(words)
 }

@@ -1,8 +1,13 @@
-ghost use Rattle.std.specs.Prelude.{◌≡◌, ◌≢◌, ◌∷◌, ℕ, List, map, string_bytes, codes, IfOk, OnErr};
-ghost use Rattle.heesch_words.specs.Requests.{Asks, HasListForm, grid_word, most_cells};
+ghost use Rattle.std.specs.Prelude.{◌∷◌, ℕ, Bool, map, string_bytes, codes, IfOk, OnErr, ◌≢◌, []};
+ghost use Rattle.heesch_cert.specs.declared.header.Subject.{Subject};
+ghost use Rattle.heesch_cert.specs.declared.limits.Limits.{Limits};
+ghost use Rattle.heesch_grid.specs.declared.GridName.{GridName};
+ghost use Rattle.heesch_words.specs.Requests.{Asks, HasListForm, HasClassifyForm};
 
 use crate::numbers::number;
 use crate::options::Options;
+use crate::subjects::{grid_named, most_cells, subject_named};
+use heesch_cert::{Limits, Subject};
 use heesch_grid::GridName;
 use thiserror::Error;
 
@@ -26,14 +31,32 @@ pub enum Request {
         n: u32,
         workers: u32,
     },
+    /// The catalogue of a subject under these limits, found by so many workers; where it is brief, its
+    /// verdicts alone.
+    Classify {
+        grid: GridName,
+        subject: Subject,
+        limits: Limits,
+        workers: u32,
+        brief: bool,
+    },
 }
 
 /// What the words ask for: the arguments of the program, without its name.
 ///
-/// The forms are `list GRID N` and `plain GRID N`, with the option `--workers W`. GRID is `square`, `hex` or `iamond`. N
-/// is 1 to 12 for `square`, 1 to 10 for `hex` and 1 to 15 for `iamond`. W is 1 to 64, by default 1.
-/// A number is written in decimal digits, without a sign or a leading zero. Options follow the
-/// other words in any order, each at most once.
+/// The forms, with the options that each takes, are
+///
+/// - `list GRID N` and `plain GRID N`: `--workers`;
+/// - `classify GRID N`: `--workers`, `--turns`, `--levels`, `--domain`, `--size` and `--brief`.
+///
+/// GRID is `square`, `hex` or `iamond`. N is 1 to 12 for `square`, 1 to 10 for `hex` and 1 to 15 for
+/// `iamond`.
+///
+/// Options follow the other words in any order, each at most once; each but `--brief` is followed by
+/// its number as the next word. `--workers` is 1 to 64, by default 1; `--turns` 1 to 1,000,000, by
+/// default 20,000; `--levels` 1 to 6, by default 3; `--domain` 1 to 12, by default 4; `--size` 1 to
+/// 60,000,000, by default 60,000,000. A number is written in decimal digits, without a sign or a
+/// leading zero.
 ///
 /// `Usage` comes exactly where the words have none of the forms. The cost is linear in the number of
 /// words and in their lengths, and no memory is taken.
@@ -48,6 +71,7 @@ pub fn parse(words: &[String]) -> Result<Request, Usage>
     match form.as_str() {
         "list" => list(rest),
         "plain" => plain(rest),
+        "classify" => classify(rest),
         _ => Err(Usage),
     }
 }
@@ -56,8 +80,8 @@ pub fn parse(words: &[String]) -> Result<Request, Usage>
 fn list(words: &[String]) -> Result<Request, Usage>
     ensures ok { IfOk result
         (λ request. Asks (codes "list" ∷ map string_bytes words.now) request) }
-    ensures usage { OnErr result
-        ((request : Request) → ¬ Asks (codes "list" ∷ map string_bytes words.now) request) }
+    ensures usage { OnErr result ((grid : GridName) (n workers : ℕ)
+        → ¬ HasListForm (map string_bytes words.now) grid n workers) }
 {
     let ListForm { grid, n, workers } = list_form(words)?;
     Ok(Request::List { grid, n, workers })
@@ -67,8 +91,8 @@ fn list(words: &[String]) -> Result<Request, Usage>
 fn plain(words: &[String]) -> Result<Request, Usage>
     ensures ok { IfOk result
         (λ request. Asks (codes "plain" ∷ map string_bytes words.now) request) }
-    ensures usage { OnErr result
-        ((request : Request) → ¬ Asks (codes "plain" ∷ map string_bytes words.now) request) }
+    ensures usage { OnErr result ((grid : GridName) (n workers : ℕ)
+        → ¬ HasListForm (map string_bytes words.now) grid n workers) }
 {
     let ListForm { grid, n, workers } = list_form(words)?;
     Ok(Request::Plain { grid, n, workers })
@@ -81,12 +105,12 @@ struct ListForm {
     workers: u32,
 }
 
-/// What these words give after the word of a form.
+/// What these words give after `list` or `plain`.
 fn list_form(words: &[String]) -> Result<ListForm, Usage>
-    ensures ok { IfOk result (λ given. (form : List ℕ)
-        → HasListForm form (form ∷ map string_bytes words.now) given.grid given.n given.workers) }
-    ensures usage { OnErr result ((form : List ℕ) (grid : GridName) (n workers : ℕ)
-        → ¬ HasListForm form (form ∷ map string_bytes words.now) grid n workers) }
+    ensures ok { IfOk result
+        (λ form. HasListForm (map string_bytes words.now) form.grid form.n form.workers) }
+    ensures usage { OnErr result ((grid : GridName) (n workers : ℕ)
+        → ¬ HasListForm (map string_bytes words.now) grid n workers) }
 {
     let [grid, n, options @ ..] = words else {
         return Err(Usage);
@@ -94,30 +118,30 @@ fn list_form(words: &[String]) -> Result<ListForm, Usage>
     let grid = grid_named(grid.as_str())?;
     let n = number(n.as_str(), 1, most_cells(grid))? as u32;
     let options = Options::read(options)?;
-    let workers = options.workers.unwrap_or(1);
+    let workers = options.workers_alone()?;
     Ok(ListForm { grid, n, workers })
 }
 
-/// The grid that a word names.
-fn grid_named(word: &str) -> Result<GridName, Usage>
-    ensures ok { IfOk result (λ grid. word.now ≡ grid_word grid) }
-    ensures usage { OnErr result ((grid : GridName) → word.now ≢ grid_word grid) }
+/// The request whose words are `classify` and these.
+fn classify(words: &[String]) -> Result<Request, Usage>
+    ensures ok { IfOk result
+        (λ request. Asks (codes "classify" ∷ map string_bytes words.now) request) }
+    ensures usage { OnErr result
+        ((grid : GridName) (subject : Subject) (limits : Limits) (workers : ℕ) (brief : Bool)
+        → ¬ HasClassifyForm (map string_bytes words.now) grid subject limits workers brief) }
 {
-    match word {
-        "square" => Ok(GridName::Square),
-        "hex" => Ok(GridName::Hex),
-        "iamond" => Ok(GridName::Iamond),
-        _ => Err(Usage),
-    }
+    let [grid, subject, options @ ..] = words else {
+        return Err(Usage);
+    };
+    let grid = grid_named(grid.as_str())?;
+    let subject = subject_named(grid, subject.as_str())?;
+    let options = Options::read(options)?;
+    Ok(Request::Classify {
+        grid,
+        subject,
+        limits: options.limits(),
+        workers: options.workers(),
+        brief: options.brief,
+    })
 }
 
-/// The greatest number of cells for which all shapes are listed.
-fn most_cells(grid: GridName) -> u64
-    ensures { result ≡ most_cells grid }
-{
-    match grid {
-        GridName::Square => 12,
-        GridName::Hex => 10,
-        GridName::Iamond => 15,
-    }
-}

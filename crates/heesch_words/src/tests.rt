@@ -1,4 +1,5 @@
 use crate::{Request, Usage, parse};
+use heesch_cert::{Limits, Subject};
 use heesch_grid::GridName;
 use std::alloc::{AllocError, Global};
 use std::test::Fail;
@@ -12,7 +13,7 @@ fn words_of(alloc: Global, line: &str) -> Result<Vec<String>, AllocError> {
 }
 
 #[test]
-fn forms_are_read(rt: HostRuntime) -> Result<(), Fail> {
+fn lists_are_asked_for(rt: HostRuntime) -> Result<(), Fail> {
     let alloc = rt.alloc();
     for (line, grid, n, workers) in [
         ("list square 4", GridName::Square, 4, 1),
@@ -27,6 +28,51 @@ fn forms_are_read(rt: HostRuntime) -> Result<(), Fail> {
     let words = words_of(alloc, "plain hex 7 --workers 2")?;
     let (grid, n, workers) = (GridName::Hex, 7, 2);
     assert_eq!(rt; parse(&words), Ok(Request::Plain { grid, n, workers }));
+    Ok(())
+}
+
+#[test]
+fn classifications_are_asked_for(rt: HostRuntime) -> Result<(), Fail> {
+    let alloc = rt.alloc();
+    for (line, [turns, levels, domain, size, workers], brief) in [
+        ("classify iamond 1", [20_000, 3, 4, 60_000_000, 1], false),
+        (
+            "classify iamond 1 --brief",
+            [20_000, 3, 4, 60_000_000, 1],
+            true,
+        ),
+        (
+            "classify iamond 1 --domain 1 --levels 1",
+            [20_000, 1, 1, 60_000_000, 1],
+            false,
+        ),
+        (
+            "classify iamond 1 --size 12 --brief --turns 50 --levels 6 --workers 4 --domain 12",
+            [50, 6, 12, 12, 4],
+            true,
+        ),
+        (
+            "classify iamond 1 --turns 1000000 --size 60000000",
+            [1_000_000, 3, 4, 60_000_000, 1],
+            false,
+        ),
+    ] {
+        let words = words_of(alloc, line)?;
+        let limits = Limits {
+            turns,
+            levels,
+            domain,
+            size,
+        };
+        let request = Request::Classify {
+            grid: GridName::Iamond,
+            subject: Subject::Size { n: 1 },
+            limits,
+            workers,
+            brief,
+        };
+        assert_eq!(rt; parse(&words), Ok(request), "at {line}");
+    }
     Ok(())
 }
 
@@ -52,7 +98,32 @@ fn other_words_are_refused(rt: HostRuntime) -> Result<(), Fail> {
         "list square 4 --workers 65",
         "list square 4 --workers 2 --workers 2",
         "list --workers 2 square 4",
+        "list square 4 --brief",
+        "plain square 4 --levels 2",
+        "classify square 13",
+        "classify square 4 --turns 1000001",
+        "classify square 4 --levels 7",
+        "classify square 4 --domain 13",
+        "classify square 4 --size 60000001",
+        "classify square 4 --size",
+        "classify square 4 --brief 1",
+        "classify square 4 --brief --turns 5 --brief",
+        "classify square 4 --levels 2 --levels 2",
+        "classify square",
+        "classify square Given",
+        "classify given",
+        "classify square given 4",
+        "check --brief",
+        "check square",
         "table --brief",
+        "table --workers 1",
+        "sample square 8 40",
+        "sample square 33 40 1",
+        "sample square 0 40 1",
+        "sample square 8 1001 1",
+        "sample square 8 40 18446744073709551616",
+        "sample square 8 40 01",
+        "sample square 8 40 1 --brief",
     ] {
         let words = words_of(alloc, line)?;
         assert_eq!(rt; parse(&words), Err(Usage), "at {line}");

@@ -1,6 +1,6 @@
 use Rattle.std.proofs.Common.{◌≡◌, ◌++◌, take}
-use Rattle.heesch_text.specs.Fields.{spaced, cell_text}
+use Rattle.heesch_text.specs.Fields.{spaced}
 use Rattle.heesch_text.proofs.fields.append_spaced.Given as goal
 
-abbrev pub invariant-loop-cell : goal.invariant-loop-cell
-invariant-loop-cell l = l.out.items ≡ l.fn.out.items ++ spaced cell_text (take l.cell-index l.cells)
+abbrev pub invariant-loop-item : goal.invariant-loop-item
+invariant-loop-item g l = l.out.items ≡ l.fn.out.items ++ spaced g.W.Word.text (take l.item-index l.items)

@@ -1,0 +1,4 @@
+pub mod Forms
+pub mod LineReading
+pub mod Lists
+pub mod Reading

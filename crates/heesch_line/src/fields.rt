@@ -1,0 +1,205 @@
+//! The fields of a line, read from the front of a text.
+ghost use Rattle.std.specs.Prelude.{◌≡◌, ◌≤◌, ℕ, List, length, slice_index, drop, MatchOption, None, Some};
+ghost use Rattle.std.specs.List.{AllPass};
+ghost use Rattle.std.specs.Char.{is_ascii_digit};
+ghost use Rattle.std.specs.Str.Parse.{digits_value};
+ghost use Rattle.heesch_line.specs.Reading.{Gives, literal_at, digits_len, number_at, labelled_at, is_minus, integer_at, cell_at, iso_at, lit_at, three_numbers_at, triple_of, limits_at};
+
+use crate::LineFault;
+use heesch_cert::Limits;
+use heesch_cnf::Lit;
+use heesch_grid::{Cell, Iso};
+use heesch_lattice::Triple;
+
+/// The greatest integer of a line; the least one is its negative.
+const LARGEST_INTEGER: u32 = 100_000;
+
+/// One more than the greatest turn of a line.
+const TURNS: u32 = 12;
+
+/// The most digits that a number of 32 bits has.
+const MOST_DIGITS: usize = 10;
+
+/// The bytes behind a word, where it stands at the front.
+pub fn after<'a>(word: &[u8], bytes: &'a [u8]) -> Option<&'a [u8]>
+    ensures { MatchOption result (literal_at word.now bytes.now ≡ None)
+        (λ rest. literal_at word.now bytes.now ≡ Some rest.now) }
+{
+    bytes.strip_prefix(word)
+}
+
+/// The bytes behind a word.
+pub fn literal<'a>(word: &[u8], bytes: &'a [u8]) -> Result<&'a [u8], LineFault>
+    ensures { Gives (λ rest. rest.now) result (literal_at word.now bytes.now) }
+{
+    match after(word, bytes) {
+        Some(rest) => Ok(rest),
+        None => Err(LineFault::NotALine),
+    }
+}
+
+/// How many digits stand at the front.
+fn count_digits(bytes: &[u8]) -> usize
+    ensures count { result ≡ digits_len bytes.now }
+    ensures within { result ≤ length bytes.now }
+{
+    let mut count = 0;
+    for byte in bytes {
+        if !byte.is_ascii_digit() {
+            return count;
+        }
+        count += 1;
+    }
+    count
+}
+
+/// The number that digits write.
+fn value_of(digits: &[u8]) -> u64
+    requires short { length digits.now ≤ 10 }
+    requires digits { AllPass is_ascii_digit digits.now }
+    ensures { result ≡ digits_value 10 digits.now }
+{
+    let mut value = 0u64;
+    for digit in digits {
+        value = value * 10 + u64::from(*digit - b'0');
+    }
+    value
+}
+
+/// A natural number, in decimal digits with no 0 before others.
+#[tactic(auto, unfolding(crate::specs::Reading::number_at))]
+pub fn number(bytes: &[u8]) -> Result<(u32, &[u8]), LineFault>
+    ensures { Gives (λ x. (x.0, x.1.now)) result (number_at bytes.now) }
+{
+    let (digits, rest) = bytes.split_at(count_digits(bytes));
+    if digits.is_empty() || digits.len() > MOST_DIGITS {
+        return Err(LineFault::NotALine);
+    }
+    if digits.len() > 1 && digits[0] == b'0' {
+        return Err(LineFault::NotALine);
+    }
+    let value = value_of(digits);
+    if value > u64::from(u32::MAX) {
+        return Err(LineFault::NotALine);
+    }
+    Ok((value as u32, rest))
+}
+
+/// A natural number behind a word.
+pub fn labelled<'a>(word: &[u8], bytes: &'a [u8]) -> Result<(u32, &'a [u8]), LineFault>
+    ensures { Gives (λ x. (x.0, x.1.now)) result (labelled_at word.now bytes.now) }
+{
+    let rest = literal(word, bytes)?;
+    number(rest)
+}
+
+/// Whether `-` is the first byte.
+fn begins_with_minus(bytes: &[u8]) -> bool
+    ensures { result ≡ is_minus bytes.now }
+{
+    !bytes.is_empty() && bytes[0] == b'-'
+}
+
+/// An integer within 100,000 of 0.
+#[tactic(auto, unfolding(crate::specs::Reading::integer_at))]
+pub fn integer(bytes: &[u8]) -> Result<(i32, &[u8]), LineFault>
+    ensures { Gives (λ x. (x.0, x.1.now)) result (integer_at bytes.now) }
+{
+    if begins_with_minus(bytes) {
+        let (number, rest) = number(&bytes[1..])?;
+        if number == 0 || number > LARGEST_INTEGER {
+            return Err(LineFault::NotALine);
+        }
+        return Ok((-(number as i32), rest));
+    }
+    let (number, rest) = number(bytes)?;
+    if number > LARGEST_INTEGER {
+        return Err(LineFault::NotALine);
+    }
+    Ok((number as i32, rest))
+}
+
+/// A cell as `A,B`.
+#[tactic(auto, unfolding(crate::specs::Reading::cell_at))]
+pub fn cell(bytes: &[u8]) -> Result<(Cell, &[u8]), LineFault>
+    ensures { Gives (λ x. (x.0, x.1.now)) result (cell_at bytes.now) }
+{
+    let (a, rest) = integer(bytes)?;
+    let rest = literal(b",", rest)?;
+    let (b, rest) = integer(rest)?;
+    Ok((Cell { a, b }, rest))
+}
+
+/// An isometry as `TURN DA DB`, with this byte in place of the spaces.
+#[tactic(auto, unfolding(crate::specs::Reading::iso_at))]
+pub fn iso(between: u8, bytes: &[u8]) -> Result<(Iso, &[u8]), LineFault>
+    ensures { Gives (λ x. (x.0, x.1.now)) result (iso_at between bytes.now) }
+{
+    let (turn, rest) = number(bytes)?;
+    let rest = literal(&[between], rest)?;
+    let (da, rest) = integer(rest)?;
+    let rest = literal(&[between], rest)?;
+    let (db, rest) = integer(rest)?;
+    if turn >= TURNS {
+        return Err(LineFault::NotALine);
+    }
+    Ok((Iso { turn, da, db }, rest))
+}
+
+/// A literal as the number of its variable, with `-` before it where it is negative.
+#[tactic(auto, unfolding(crate::specs::Reading::lit_at))]
+pub fn lit(bytes: &[u8]) -> Result<(Lit, &[u8]), LineFault>
+    ensures { Gives (λ x. (x.0, x.1.now)) result (lit_at bytes.now) }
+{
+    let positive = !begins_with_minus(bytes);
+    let digits = if positive { bytes } else { &bytes[1..] };
+    let (var, rest) = number(digits)?;
+    if var == 0 {
+        return Err(LineFault::NotALine);
+    }
+    Ok((Lit { var, positive }, rest))
+}
+
+/// Three natural numbers as `P Q S`.
+#[tactic(auto, unfolding(crate::specs::Reading::three_numbers_at))]
+pub fn three_numbers(bytes: &[u8]) -> Result<((u32, u32, u32), &[u8]), LineFault>
+    ensures { Gives (λ x. (x.0, x.1.now)) result (three_numbers_at bytes.now) }
+{
+    let (p, rest) = number(bytes)?;
+    let rest = literal(b" ", rest)?;
+    let (q, rest) = number(rest)?;
+    let rest = literal(b" ", rest)?;
+    let (s, rest) = number(rest)?;
+    Ok(((p, q, s), rest))
+}
+
+/// The triple of these numbers.
+pub fn triple_of(p: u32, q: u32, s: u32) -> Result<Triple, LineFault>
+    ensures { Gives (λ t. t) result (triple_of p q s) }
+{
+    match Triple::new(p, q, s) {
+        Some(triple) => Ok(triple),
+        None => Err(LineFault::NotALine),
+    }
+}
+
+/// The four limits, each behind its name.
+#[tactic(auto, unfolding(crate::specs::Reading::limits_at))]
+pub fn limits(bytes: &[u8]) -> Result<(Limits, &[u8]), LineFault>
+    ensures { Gives (λ x. (x.0, x.1.now)) result (limits_at bytes.now) }
+{
+    let (turns, rest) = labelled(b" turns ", bytes)?;
+    let (levels, rest) = labelled(b" levels ", rest)?;
+    let (domain, rest) = labelled(b" domain ", rest)?;
+    let (size, rest) = labelled(b" size ", rest)?;
+    let limits = Limits {
+        turns,
+        levels,
+        domain,
+        size,
+    };
+    if !limits.valid() {
+        return Err(LineFault::NotALine);
+    }
+    Ok((limits, rest))
+}

@@ -1,0 +1,16 @@
+//! The lines of a catalogue and of a list of shapes, read from their bytes.
+#![tactic(auto)]
+
+mod fault;
+mod fields;
+pub mod laws;
+mod line_reading;
+mod list;
+mod names;
+#[cfg(test)]
+mod tests;
+mod words;
+
+pub use fault::LineFault;
+pub use line_reading::read_line;
+pub use list::{ListLines, ListStop, read_lines, read_list};

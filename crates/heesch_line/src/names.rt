@@ -1,0 +1,108 @@
+//! The words that name a grid, a subject, the kind of a tiling and the end of a search, read from the front of a text.
+ghost use Rattle.std.specs.Prelude.{◌≡◌, ℕ, List};
+ghost use Rattle.heesch_words.specs.Requests.{most_cells};
+ghost use Rattle.heesch_line.specs.Reading.{Gives, grid_at, kind_at, phase_at, outcome_at, bare_outcome_at, subject_at};
+
+use crate::LineFault;
+use crate::fields::{after, literal, number};
+use heesch_cert::{Kind, Phase, Subject};
+use heesch_grid::GridName;
+use heesch_text::{BareOutcome, Outcome};
+
+/// A grid by its name.
+#[tactic(auto, unfolding(crate::specs::Reading::grid_at))]
+pub fn grid(bytes: &[u8]) -> Result<(GridName, &[u8]), LineFault>
+    ensures { Gives (λ x. (x.0, x.1.now)) result (grid_at bytes.now) }
+{
+    if let Some(rest) = after(b"square", bytes) {
+        return Ok((GridName::Square, rest));
+    }
+    if let Some(rest) = after(b"hex", bytes) {
+        return Ok((GridName::Hex, rest));
+    }
+    let rest = literal(b"iamond", bytes)?;
+    Ok((GridName::Iamond, rest))
+}
+
+/// The kind of a tiling.
+#[tactic(auto, unfolding(crate::specs::Reading::kind_at))]
+pub fn kind(bytes: &[u8]) -> Result<(Kind, &[u8]), LineFault>
+    ensures { Gives (λ x. (x.0, x.1.now)) result (kind_at bytes.now) }
+{
+    if let Some(rest) = after(b"translation", bytes) {
+        return Ok((Kind::Translation, rest));
+    }
+    if let Some(rest) = after(b"halfturn", bytes) {
+        return Ok((Kind::HalfTurn, rest));
+    }
+    let rest = literal(b"periodic", bytes)?;
+    Ok((Kind::Periodic, rest))
+}
+
+/// The search that met a limit.
+#[tactic(auto, unfolding(crate::specs::Reading::phase_at))]
+pub fn phase(bytes: &[u8]) -> Result<(Phase, &[u8]), LineFault>
+    ensures { Gives (λ x. (x.0, x.1.now)) result (phase_at bytes.now) }
+{
+    if let Some(rest) = after(b"free", bytes) {
+        return Ok((Phase::Free, rest));
+    }
+    let rest = literal(b"bare", bytes)?;
+    Ok((Phase::Bare, rest))
+}
+
+/// How a search ended.
+#[tactic(auto, unfolding(crate::specs::Reading::outcome_at))]
+pub fn outcome(bytes: &[u8]) -> Result<(Outcome, &[u8]), LineFault>
+    ensures { Gives (λ x. (x.0, x.1.now)) result (outcome_at bytes.now) }
+{
+    if let Some(rest) = after(b"refuted", bytes) {
+        return Ok((Outcome::Refuted, rest));
+    }
+    if let Some(rest) = after(b"spent", bytes) {
+        return Ok((Outcome::Spent, rest));
+    }
+    let rest = literal(b"size", bytes)?;
+    Ok((Outcome::Size, rest))
+}
+
+/// How a search with holes allowed ended.
+#[tactic(auto, unfolding(crate::specs::Reading::bare_outcome_at))]
+pub fn bare_outcome(bytes: &[u8]) -> Result<(BareOutcome, &[u8]), LineFault>
+    ensures { Gives (λ x. (x.0, x.1.now)) result (bare_outcome_at bytes.now) }
+{
+    if let Some(rest) = after(b"same", bytes) {
+        return Ok((BareOutcome::Same, rest));
+    }
+    if let Some(rest) = after(b"open", bytes) {
+        return Ok((BareOutcome::Open, rest));
+    }
+    let (outcome, rest) = outcome(bytes)?;
+    Ok((BareOutcome::Searched { outcome }, rest))
+}
+
+/// The greatest size of a header.
+fn most_cells(grid: GridName) -> u32
+    ensures { result ≡ most_cells grid }
+{
+    match grid {
+        GridName::Square => 12,
+        GridName::Hex => 10,
+        GridName::Iamond => 15,
+    }
+}
+
+/// The size of the grid's polyforms, or `given`.
+#[tactic(auto, unfolding(crate::specs::Reading::subject_at))]
+pub fn subject(grid: GridName, bytes: &[u8]) -> Result<(Subject, &[u8]), LineFault>
+    ensures { Gives (λ x. (x.0, x.1.now)) result (subject_at grid bytes.now) }
+{
+    if let Some(rest) = after(b"given", bytes) {
+        return Ok((Subject::Given, rest));
+    }
+    let (n, rest) = number(bytes)?;
+    if n == 0 || n > most_cells(grid) {
+        return Err(LineFault::NotALine);
+    }
+    Ok((Subject::Size { n }, rest))
+}

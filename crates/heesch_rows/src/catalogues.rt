@@ -1,0 +1,97 @@
+//! `heesch classify`: the catalogue of a size.
+use crate::running::{room, run_into};
+use heesch_app::Status;
+use heesch_io::NoMemory;
+use std::alloc::Global;
+use std::test::Fail;
+use std::thread::Threads;
+
+/// What the words write, or nothing where they don't end Done.
+fn written<T: Threads + Sync>(rt: &T, alloc: Global, line: &str) -> Result<Vec<u8>, NoMemory> {
+    let (status, sink) = run_into(rt, alloc, line, room(alloc, 400_000)?)?;
+    if status == Status::Done {
+        Ok(sink.held)
+    } else {
+        Ok(Vec::new(alloc))
+    }
+}
+
+#[test]
+fn single_triangles_have_the_entries_worked_by_hand(rt: HostRuntime) -> Result<(), Fail> {
+    let alloc = rt.alloc();
+    let corona = "coronas 1\nlayer 0,0,-1 0,1,-1 1,0,-1 1,1,-1 1,2,-1 0,-1,0 0,1,0 1,0,0 1,1,0 0,-1,1 0,0,1 1,0,1\nend 1\n";
+    for (options, limits, lines) in [
+        (
+            "",
+            "turns 20000 levels 3 domain 4 size 60000000",
+            "verdict tiles halfturn domain 2 classes 1\nlattice 1 1 0\ntile 0 0 0 class 1 by 0 0 0\ntile 3 0 0 class 1 by 1 0 -1\nend 1\n",
+        ),
+        (
+            "--domain 1 --levels 1",
+            "turns 20000 levels 1 domain 1 size 60000000",
+            "verdict undecided levels 1\n",
+        ),
+        (
+            "--size 12 --domain 1 --levels 1",
+            "turns 20000 levels 1 domain 1 size 12",
+            "verdict undecided levels 1\n",
+        ),
+        (
+            "--size 11 --domain 1 --levels 1",
+            "turns 20000 levels 1 domain 1 size 11",
+            "verdict undecided size 0 free 1\ncoronas 0\nwall 1 size\nend 1\n",
+        ),
+    ] {
+        let line = format!(in alloc; "classify iamond 1 {options}")?;
+        let rest = if lines.contains("end") { "" } else { corona };
+        let text = format!(in alloc; "heesch 1 iamond 1 {limits}\nshape 1,1\n{lines}{rest}")?;
+        let held = written(&rt, alloc, &line)?;
+        assert_eq!(rt; held.as_slice(), text.as_bytes(), "{line}");
+    }
+    Ok(())
+}
+
+const FIVE_TETROMINOES: &str = "brief 1 square 4 turns 20000 levels 3 domain 4 size 60000000
+shape 0,0 1,0 2,0 3,0
+verdict tiles translation domain 1 classes 1
+shape 0,0 1,0 2,0 0,1
+verdict tiles translation domain 1 classes 1
+shape 0,0 1,0 2,0 1,1
+verdict tiles translation domain 1 classes 1
+shape 0,0 1,0 0,1 1,1
+verdict tiles translation domain 1 classes 1
+shape 0,0 1,0 1,1 2,1
+verdict tiles translation domain 1 classes 1
+end 5
+";
+
+#[test]
+fn brief_texts_have_shapes_and_verdicts(rt: HostRuntime) -> Result<(), Fail> {
+    let alloc = rt.alloc();
+    let held = written(&rt, alloc, "classify square 4 --brief")?;
+    assert_eq!(rt; held.as_slice(), FIVE_TETROMINOES.as_bytes());
+    Ok(())
+}
+
+/// The lines of a text that a brief one has too.
+fn is_brief_line(line: &str) -> bool {
+    ["shape ", "verdict ", "end "]
+        .iter()
+        .any(|word| line.starts_with(*word))
+}
+
+#[test]
+fn full_texts_have_the_brief_lines_for_all_workers(rt: HostRuntime) -> Result<(), Fail> {
+    let alloc = rt.alloc();
+    let words = "classify square 7 --domain 1 --levels 1 --turns 1";
+    let full = written(&rt, alloc, words)?;
+    let four = written(&rt, alloc, &format!(in alloc; "{words} --workers 4")?)?;
+    assert_eq!(rt; four.as_slice(), full.as_slice());
+    let brief = written(&rt, alloc, &format!(in alloc; "{words} --brief")?)?;
+    let brief = str::from_utf8(&brief)?;
+    let full = str::from_utf8(&full)?;
+    let shown = full.lines().filter(|line| is_brief_line(line));
+    assert!(rt; brief.lines().skip(1).eq(shown));
+    assert!(rt; brief.ends_with("end 108\n"));
+    Ok(())
+}

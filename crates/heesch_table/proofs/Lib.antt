@@ -1,0 +1,4 @@
+pub mod Writing
+pub mod Numbers
+pub mod HeeschFacts
+pub mod OneMore

@@ -1,0 +1,71 @@
+-- The counts of a list with one more shape.
+use Rattle.std.proofs.Common.{◌≡◌, ℕ, ◌+◌, ◌≤◌, Bool, true, false, cond, List, [], ◌∷◌, ◌++◌, length, sym, ap, ◌∙◌, length-append, arith}
+use Rattle.std.specs.Prelude.{count_by}
+use mir.Val.{bool_byte}
+use Rattle.std.proofs.lemmas.List.{map_push}
+use Rattle.std.proofs.lemmas.List.Sums.{sum_by_push}
+use Rattle.heesch_cert.specs.declared.verdict.Verdict.{Verdict}
+use Rattle.heesch_table.specs.declared.tilings.TilingCounts.{TilingCounts}
+use Rattle.heesch_table.specs.declared.undecided.UndecidedCounts.{UndecidedCounts}
+use Rattle.heesch_table.specs.Verdicts.{is_translation, is_halfturn, is_periodic, is_isohedral, is_levels, is_holes, is_turns, is_size}
+use Rattle.heesch_table.specs.Counts.{Counts, counts_of, verdicts_of, tilings_of, heesch_of, undecided_of}
+use Rattle.heesch_table.specs.Steps.{with_one, with_tiling, with_undecided, TilingsAreWithin, UndecidedAreWithin}
+
+more : {X : Type 0} (p : X → Bool) (xs : List X) (x : X) → with_one (p x) (count_by p xs) ≡ count_by p (xs ++ x ∷ [])
+more p xs x = sym (sum_by_push (λ y. cond (p y) 1 0) xs x)
+
+pub tilings_more : (vs : List Verdict) (v : Verdict) → with_tiling v (tilings_of vs) ≡ tilings_of (vs ++ v ∷ [])
+tilings_more vs v = λ i. record {
+  translation = more is_translation vs v i;
+  halfturn = more is_halfturn vs v i;
+  periodic = more is_periodic vs v i;
+  isohedral = more is_isohedral vs v i;
+}
+
+pub undecided_more : (vs : List Verdict) (v : Verdict) → with_undecided v (undecided_of vs) ≡ undecided_of (vs ++ v ∷ [])
+undecided_more vs v = λ i. record {
+  levels = more is_levels vs v i;
+  holes = more is_holes vs v i;
+  turns = more is_turns vs v i;
+  size = more is_size vs v i;
+}
+
+-- the counts after one more shape, each by how it came about
+pub counts_more : (found : List (Bool × Verdict)) (holed : Bool) (v : Verdict) (new : Counts)
+    → new.shapes ≡ length found + 1
+    → new.holed ≡ with_one holed (count_by (λ (f : Bool × Verdict). f.0) found)
+    → new.tilings ≡ with_tiling v (tilings_of (verdicts_of found))
+    → new.heesch ≡ heesch_of (verdicts_of found ++ v ∷ [])
+    → new.undecided ≡ with_undecided v (undecided_of (verdicts_of found))
+    → new ≡ counts_of (found ++ (holed, v) ∷ [])
+counts_more found holed v new shapes holes tilings heesch undecided =
+    let split : verdicts_of found ++ v ∷ [] ≡ verdicts_of (found ++ (holed, v) ∷ []) = sym (map_push (λ (f : Bool × Verdict). f.1) found (holed, v)) in
+    let shapes' : new.shapes ≡ length (found ++ (holed, v) ∷ []) = shapes ∙ sym (length-append found ((holed, v) ∷ [])) in
+    let holes' : new.holed ≡ count_by (λ (f : Bool × Verdict). f.0) (found ++ (holed, v) ∷ []) = holes ∙ more (λ (f : Bool × Verdict). f.0) found (holed, v) in
+    let tilings' : new.tilings ≡ tilings_of (verdicts_of (found ++ (holed, v) ∷ [])) = tilings ∙ tilings_more (verdicts_of found) v ∙ ap tilings_of split in
+    let heesch' : new.heesch ≡ heesch_of (verdicts_of (found ++ (holed, v) ∷ [])) = heesch ∙ ap heesch_of split in
+    let undecided' : new.undecided ≡ undecided_of (verdicts_of (found ++ (holed, v) ∷ [])) = undecided ∙ undecided_more (verdicts_of found) v ∙ ap undecided_of split in
+    λ i. record { shapes = shapes' i; holed = holes' i; tilings = tilings' i; heesch = heesch' i; undecided = undecided' i }
+
+one_within : (b : Bool) (count n : ℕ) → count ≤ n → with_one b count ≤ n + 1
+one_within b count n l = grind arith
+
+pub tilings_within : (v : Verdict) (t : TilingCounts) (n : ℕ) → TilingsAreWithin n t → TilingsAreWithin (n + 1) (with_tiling v t)
+tilings_within v t n w = record {
+  translation = one_within (is_translation v) t.translation n w.translation;
+  halfturn = one_within (is_halfturn v) t.halfturn n w.halfturn;
+  periodic = one_within (is_periodic v) t.periodic n w.periodic;
+  isohedral = one_within (is_isohedral v) t.isohedral n w.isohedral;
+}
+
+pub undecided_within : (v : Verdict) (u : UndecidedCounts) (n : ℕ) → UndecidedAreWithin n u → UndecidedAreWithin (n + 1) (with_undecided v u)
+undecided_within v u n w = record {
+  levels = one_within (is_levels v) u.levels n w.levels;
+  holes = one_within (is_holes v) u.holes n w.holes;
+  turns = one_within (is_turns v) u.turns n w.turns;
+  size = one_within (is_size v) u.size n w.size;
+}
+
+pub flag_within : (b : Bool) (count more n : ℕ) → more ≡ bool_byte b → count ≤ n → count + more ≤ n + 1
+flag_within true count more n e l = omega arith
+flag_within false count more n e l = omega arith

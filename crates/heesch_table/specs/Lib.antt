@@ -1,0 +1,5 @@
+pub mod Verdicts
+pub mod Counts
+pub mod Steps
+pub mod Texts
+pub mod Statements

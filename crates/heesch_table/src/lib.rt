@@ -1,0 +1,13 @@
+//! How many shapes tile, have a hole or a Heesch number, or are undecided.
+#![tactic(auto)]
+
+mod fields;
+mod heesch;
+pub mod laws;
+mod tally;
+#[cfg(test)]
+mod tests;
+mod tilings;
+mod undecided;
+
+pub use tally::Tally;

@@ -1,0 +1,86 @@
+//! The texts of a catalogue's parts.
+ghost use Rattle.std.specs.Prelude.{◌≡◌, ◌++◌, length, take, OnOk, OnErr};
+ghost use Rattle.heesch_text.specs.Lines.{text_of};
+ghost use Rattle.heesch_text.specs.Catalogue.{brief_lines, entry_lines, header_text, entry_text, brief_text, end_text};
+
+use crate::evidence::append_evidence;
+use crate::lines::{append_end_line, append_header_line, append_shape_line, append_verdict_line};
+use heesch_cert::{Entry, Header};
+use heesch_io::NoMemory;
+
+/// Appends the first line of a catalogue: `heesch 1 GRID SUBJECT turns T levels L domain D size Z`,
+/// with `brief` for `heesch` where it is brief.
+///
+/// Errors: at `NoMemory` the text is as it was before. Its cost is the length of what it appends.
+pub fn write_header(header: &Header, out: &mut Vec<u8>) -> Result<(), NoMemory>
+    ensures ok { OnOk result (out.new.items ≡ out.old.items ++ header_text header.now) }
+    ensures err { OnErr result (out.new.items ≡ out.old.items) }
+{
+    let before = out.len();
+    let written = append_header_line(header, out);
+    if written.is_err() {
+        out.truncate(before);
+    }
+    written
+}
+
+/// Appends the lines of an entry: its shape, its verdict and its evidence.
+///
+/// Errors: at `NoMemory` the text is as it was before. Its cost is the length of what it appends.
+pub fn write_entry(entry: &Entry, out: &mut Vec<u8>) -> Result<(), NoMemory>
+    ensures ok { OnOk result (out.new.items ≡ out.old.items ++ entry_text entry.now) }
+    ensures err { OnErr result (out.new.items ≡ out.old.items) }
+{
+    let before = out.len();
+    let written = append_entry(entry, out);
+    if written.is_err() {
+        out.truncate(before);
+    }
+    written
+}
+
+/// Appends the first two lines of an entry: its shape and its verdict.
+///
+/// Errors: at `NoMemory` the text is as it was before. Its cost is the length of what it appends.
+pub fn write_brief(entry: &Entry, out: &mut Vec<u8>) -> Result<(), NoMemory>
+    ensures ok { OnOk result (out.new.items ≡ out.old.items ++ brief_text entry.now) }
+    ensures err { OnErr result (out.new.items ≡ out.old.items) }
+{
+    let before = out.len();
+    let written = append_brief(entry, out);
+    if written.is_err() {
+        out.truncate(before);
+    }
+    written
+}
+
+/// Appends the last line of a catalogue, `end COUNT`, with the number of its entries.
+///
+/// Errors: at `NoMemory` the text is as it was before. Its cost is the length of what it appends.
+pub fn write_end(count: u32, out: &mut Vec<u8>) -> Result<(), NoMemory>
+    ensures ok { OnOk result (out.new.items ≡ out.old.items ++ end_text count) }
+    ensures err { OnErr result (out.new.items ≡ out.old.items) }
+{
+    let before = out.len();
+    let written = append_end_line(count, out);
+    if written.is_err() {
+        out.truncate(before);
+    }
+    written
+}
+
+fn append_brief(entry: &Entry, out: &mut Vec<u8>) -> Result<(), NoMemory>
+    ensures ok { OnOk result (out.new.items ≡ out.old.items ++ text_of (brief_lines entry.now)) }
+    ensures kept { take (length out.old.items) out.new.items ≡ out.old.items }
+{
+    append_shape_line(entry.cells.as_slice(), out)?;
+    append_verdict_line(entry.verdict, out)
+}
+
+fn append_entry(entry: &Entry, out: &mut Vec<u8>) -> Result<(), NoMemory>
+    ensures ok { OnOk result (out.new.items ≡ out.old.items ++ text_of (entry_lines entry.now)) }
+    ensures kept { take (length out.old.items) out.new.items ≡ out.old.items }
+{
+    append_brief(entry, out)?;
+    append_evidence(entry.verdict, &entry.evidence, out)
+}

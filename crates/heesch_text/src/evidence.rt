@@ -1,0 +1,275 @@
+//! The lines of an entry's evidence, added at the end of a text.
+ghost use Rattle.std.specs.Prelude.{◌≡◌, ◌+◌, ◌++◌, ◌∷◌, [], length, map, take, OnOk};
+ghost use Rattle.std.specs.List.{flat_map};
+ghost use Rattle.heesch_text.specs.declared.line.Line.TheVariants as lines;
+ghost use Rattle.heesch_text.specs.declared.line.BareOutcome.TheVariants as bare_outcomes;
+ghost use Rattle.heesch_text.specs.Lines.{line_text, text_of};
+ghost use Rattle.heesch_text.specs.Catalogue.{
+  layer_lines,
+  proof_lines,
+  step_line,
+  last_line,
+  wall_lines,
+  bare_lines,
+  wider_lines,
+  wider_count,
+  triple_lines,
+  tile_lines,
+  cover_lines,
+  after_layers,
+  evidence_lines,
+  last_number,
+};
+
+use crate::line::{BareOutcome, Outcome};
+use crate::lines::{
+    append_bare_line, append_coronas_line, append_cut_line, append_empty_line, append_lattice_line,
+    append_layer_line, append_learn_line, append_open_line, append_spent_line, append_tile_line,
+    append_triple_line, append_wall_line,
+};
+use heesch_cert::{
+    Bare, Classes, Evidence, Isos, Layers, Member, Proof, Step, Tiling, TripleProof, Verdict, Wall,
+};
+use heesch_cnf::Hints;
+use heesch_grid::Iso;
+use heesch_io::NoMemory;
+
+/// The evidence of an entry with this verdict.
+pub fn append_evidence(
+    verdict: Verdict,
+    evidence: &Evidence,
+    out: &mut Vec<u8>,
+) -> Result<(), NoMemory>
+    ensures ok { OnOk result (out.new.items ≡ out.old.items ++ text_of (evidence_lines verdict evidence.now)) }
+    ensures kept { take (length out.old.items) out.new.items ≡ out.old.items }
+{
+    match evidence {
+        Evidence::Cover { tiling, classes } => append_cover(tiling, classes, out),
+        Evidence::Search {
+            free,
+            wall,
+            bare,
+            wider,
+            triples,
+        } => {
+            let layers = free.layers.as_slice();
+            let last = last_of(verdict) as usize;
+            append_coronas_line(layers.len(), out)?;
+            append_layers(layers, out)?;
+            append_after_layers(
+                layers.len() + 1,
+                last,
+                wall,
+                bare,
+                wider,
+                triples.as_slice(),
+                out,
+            )
+        }
+    }
+}
+
+/// What follows the hole-free coronas, with the level of the wall and the last number of the verdict.
+fn append_after_layers(
+    level: usize,
+    last: usize,
+    wall: &Wall,
+    bare: &Bare,
+    wider: &Option<Layers>,
+    triples: &[TripleProof],
+    out: &mut Vec<u8>,
+) -> Result<(), NoMemory>
+    ensures ok { OnOk result (out.new.items
+        ≡ out.old.items ++ text_of (after_layers level last wall.now bare.now wider.now triples.now)) }
+    ensures kept { take (length out.old.items) out.new.items ≡ out.old.items }
+{
+    append_wall(level, wall, out)?;
+    append_bare(level, count_wider(wider), last, bare, out)?;
+    append_wider(wider, out)?;
+    append_triples(triples, out)
+}
+
+/// The last number of the verdict's line.
+fn last_of(verdict: Verdict) -> u32
+    ensures { result ≡ last_number verdict }
+{
+    match verdict {
+        Verdict::Tiles {
+            kind: _,
+            domain: _,
+            classes,
+        } => classes,
+        Verdict::Heesch { h: _, m } => m,
+        Verdict::Levels { h } => h,
+        Verdict::Holes { h } => h,
+        Verdict::Turns { h: _, phase: _, at } => at,
+        Verdict::Size { h: _, phase: _, at } => at,
+    }
+}
+
+fn append_cover(tiling: &Tiling, classes: &Classes, out: &mut Vec<u8>) -> Result<(), NoMemory>
+    ensures ok { OnOk result (out.new.items ≡ out.old.items ++ text_of (cover_lines tiling.now classes.now)) }
+    ensures kept { take (length out.old.items) out.new.items ≡ out.old.items }
+{
+    append_lattice_line(&tiling.triple, out)?;
+    append_tiles(tiling.places.as_slice(), classes.members.as_slice(), out)
+}
+
+fn append_tiles(places: &[Iso], members: &[Member], out: &mut Vec<u8>) -> Result<(), NoMemory>
+    ensures ok { OnOk result (out.new.items ≡ out.old.items ++ text_of (tile_lines places.now members.now)) }
+    ensures kept { take (length out.old.items) out.new.items ≡ out.old.items }
+{
+    let count = places.len().min(members.len());
+    for i in 0..count {
+        append_tile_line(places[i], &members[i], out)?;
+    }
+    Ok(())
+}
+
+fn append_layers(layers: &[Isos], out: &mut Vec<u8>) -> Result<(), NoMemory>
+    ensures ok { OnOk result (out.new.items ≡ out.old.items ++ text_of (layer_lines layers.now)) }
+    ensures kept { take (length out.old.items) out.new.items ≡ out.old.items }
+{
+    for places in layers {
+        append_layer_line(places.as_slice(), out)?;
+    }
+    Ok(())
+}
+
+fn append_wall(level: usize, wall: &Wall, out: &mut Vec<u8>) -> Result<(), NoMemory>
+    ensures ok { OnOk result (out.new.items ≡ out.old.items ++ text_of (wall_lines level wall.now)) }
+    ensures kept { take (length out.old.items) out.new.items ≡ out.old.items }
+{
+    match wall {
+        Wall::Absent => Ok(()),
+        Wall::Refuted { proof } => {
+            append_wall_line(level, Outcome::Refuted, out)?;
+            append_proof(proof, out)
+        }
+        Wall::Spent { proof } => {
+            append_wall_line(level, Outcome::Spent, out)?;
+            append_proof(proof, out)
+        }
+        Wall::Size => append_wall_line(level, Outcome::Size, out),
+    }
+}
+
+fn append_bare(
+    level: usize,
+    found: usize,
+    last: usize,
+    bare: &Bare,
+    out: &mut Vec<u8>,
+) -> Result<(), NoMemory>
+    ensures ok { OnOk result (out.new.items ≡ out.old.items ++ text_of (bare_lines level found last bare.now)) }
+    ensures kept { take (length out.old.items) out.new.items ≡ out.old.items }
+{
+    match bare {
+        Bare::Absent => Ok(()),
+        Bare::Same => append_bare_line(level, BareOutcome::Same, out),
+        Bare::Refuted { proof } => append_searched(last, Outcome::Refuted, proof, out),
+        Bare::Spent { proof } => append_searched(last, Outcome::Spent, proof, out),
+        Bare::Size => {
+            let outcome = BareOutcome::Searched {
+                outcome: Outcome::Size,
+            };
+            append_bare_line(last, outcome, out)
+        }
+        Bare::Open => append_bare_line(found, BareOutcome::Open, out),
+    }
+}
+
+/// A search with holes allowed, and its proof.
+fn append_searched(
+    level: usize,
+    outcome: Outcome,
+    proof: &Proof,
+    out: &mut Vec<u8>,
+) -> Result<(), NoMemory>
+    ensures ok { OnOk result (out.new.items ≡ out.old.items ++ text_of (lines.Bare level (bare_outcomes.Searched outcome) ∷ proof_lines proof.now)) }
+    ensures kept { take (length out.old.items) out.new.items ≡ out.old.items }
+{
+    append_bare_line(level, BareOutcome::Searched { outcome }, out)?;
+    append_proof(proof, out)
+}
+
+/// The number of layers that were found with holes allowed, or 0.
+fn count_wider(wider: &Option<Layers>) -> usize
+    ensures { result ≡ wider_count wider.now }
+{
+    match wider {
+        None => 0,
+        Some(wider) => wider.layers.len(),
+    }
+}
+
+fn append_wider(wider: &Option<Layers>, out: &mut Vec<u8>) -> Result<(), NoMemory>
+    ensures ok { OnOk result (out.new.items ≡ out.old.items ++ text_of (wider_lines wider.now)) }
+    ensures kept { take (length out.old.items) out.new.items ≡ out.old.items }
+{
+    match wider {
+        None => Ok(()),
+        Some(wider) => {
+            append_open_line(wider.layers.len(), out)?;
+            append_layers(wider.layers.as_slice(), out)
+        }
+    }
+}
+
+fn append_triples(triples: &[TripleProof], out: &mut Vec<u8>) -> Result<(), NoMemory>
+    ensures ok { OnOk result (out.new.items ≡ out.old.items ++ text_of (flat_map triple_lines triples.now)) }
+    ensures kept { take (length out.old.items) out.new.items ≡ out.old.items }
+{
+    for triple in triples {
+        append_triple_proof(triple, out)?;
+    }
+    Ok(())
+}
+
+fn append_triple_proof(triple: &TripleProof, out: &mut Vec<u8>) -> Result<(), NoMemory>
+    ensures ok { OnOk result (out.new.items ≡ out.old.items ++ text_of (triple_lines triple.now)) }
+    ensures kept { take (length out.old.items) out.new.items ≡ out.old.items }
+{
+    append_triple_line(&triple.triple, triple.proof.last.is_some(), out)?;
+    append_proof(&triple.proof, out)
+}
+
+fn append_proof(proof: &Proof, out: &mut Vec<u8>) -> Result<(), NoMemory>
+    ensures ok { OnOk result (out.new.items ≡ out.old.items ++ text_of (proof_lines proof.now)) }
+    ensures kept { take (length out.old.items) out.new.items ≡ out.old.items }
+{
+    append_steps(proof.steps.as_slice(), out)?;
+    append_last(&proof.last, out)
+}
+
+fn append_steps(steps: &[Step], out: &mut Vec<u8>) -> Result<(), NoMemory>
+    ensures ok { OnOk result (out.new.items ≡ out.old.items ++ text_of (map step_line steps.now)) }
+    ensures kept { take (length out.old.items) out.new.items ≡ out.old.items }
+{
+    for step in steps {
+        append_step(step, out)?;
+    }
+    Ok(())
+}
+
+fn append_step(step: &Step, out: &mut Vec<u8>) -> Result<(), NoMemory>
+    ensures ok { OnOk result (out.new.items ≡ out.old.items ++ line_text (step_line step.now)) }
+    ensures kept { take (length out.old.items) out.new.items ≡ out.old.items }
+{
+    match step {
+        Step::Learn { clause, hints } => {
+            append_learn_line(clause.as_slice(), hints.as_slice(), out)
+        }
+        Step::Cut { cut } => append_cut_line(cut, out),
+    }
+}
+
+fn append_last(last: &Option<Hints>, out: &mut Vec<u8>) -> Result<(), NoMemory>
+    ensures ok { OnOk result (out.new.items ≡ out.old.items ++ line_text (last_line last.now)) }
+    ensures kept { take (length out.old.items) out.new.items ≡ out.old.items }
+{
+    match last {
+        None => append_spent_line(out),
+        Some(hints) => append_empty_line(hints.as_slice(), out),
+    }
+}

@@ -1,0 +1,57 @@
+//! The words that name a grid, the kind of a tiling and the end of a search.
+ghost use Rattle.std.specs.Prelude.{◌≡◌};
+ghost use Rattle.heesch_grid.specs.Names.{grid_word as word_of};
+ghost use Rattle.heesch_text.specs.Names.{kind_text, phase_text, outcome_text, bare_text};
+
+use crate::line::{BareOutcome, Outcome};
+use heesch_cert::{Kind, Phase};
+use heesch_grid::GridName;
+
+pub fn grid_word(grid: GridName) -> &'static [u8]
+    ensures { result.now ≡ word_of grid }
+{
+    match grid {
+        GridName::Square => b"square",
+        GridName::Hex => b"hex",
+        GridName::Iamond => b"iamond",
+    }
+}
+
+pub fn kind_word(kind: Kind) -> &'static [u8]
+    ensures { result.now ≡ kind_text kind }
+{
+    match kind {
+        Kind::Translation => b"translation",
+        Kind::HalfTurn => b"halfturn",
+        Kind::Periodic => b"periodic",
+    }
+}
+
+pub fn phase_word(phase: Phase) -> &'static [u8]
+    ensures { result.now ≡ phase_text phase }
+{
+    match phase {
+        Phase::Free => b"free",
+        Phase::Bare => b"bare",
+    }
+}
+
+pub fn outcome_word(outcome: Outcome) -> &'static [u8]
+    ensures { result.now ≡ outcome_text outcome }
+{
+    match outcome {
+        Outcome::Refuted => b"refuted",
+        Outcome::Spent => b"spent",
+        Outcome::Size => b"size",
+    }
+}
+
+pub fn bare_word(outcome: BareOutcome) -> &'static [u8]
+    ensures { result.now ≡ bare_text outcome }
+{
+    match outcome {
+        BareOutcome::Same => b"same",
+        BareOutcome::Open => b"open",
+        BareOutcome::Searched { outcome } => outcome_word(outcome),
+    }
+}

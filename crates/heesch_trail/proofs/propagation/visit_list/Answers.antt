@@ -1,0 +1,58 @@
+use Rattle.std.proofs.Common.{◌≤◌, length, get_or, sym, subst, ◌∙◌}
+use Rattle.heesch_trail.specs.Seen.{IsVisitBy, IsUnwatched}
+use Rattle.heesch_trail.proofs.Visits.{Value-continues}
+use Rattle.heesch_trail.proofs.Guards.{GoesOn-both}
+use Rattle.heesch_trail.proofs.Passed.{Passed-before, Passed-true, Passed-without, Passed-whole, GoesOn-without}
+use Rattle.heesch_trail.proofs.propagation.visit_list.Goals as goal
+
+pub visit_by-requires-clause-turned : goal.visit_by-requires-clause-turned
+visit_by-requires-clause-turned c =
+    let go = c.loop-place.invariant.goes_on in
+    Value-continues c.args.assigned.now c.loop-place.assigned c.args.lit _ go.valid go.steps c.requires.turned
+
+pub returns-in_err-visit_by-clause-goes_on : goal.returns-in_err-visit_by-clause-goes_on
+returns-in_err-visit_by-clause-goes_on c =
+    GoesOn-both c.args.assigned.now c.loop-place.assigned c.visit_by.new.assigned c.args.watches.now c.loop-place.watches c.visit_by.new.watches c.loop-place.invariant.goes_on c.visit_by.ensures.goes_on
+
+pub returns-in-AllFalse-clause-goes_on : goal.returns-in-AllFalse-clause-goes_on
+returns-in-AllFalse-clause-goes_on c =
+    GoesOn-both c.args.assigned.now c.loop-place.assigned c.visit_by.new.assigned c.args.watches.now c.loop-place.watches c.visit_by.new.watches c.loop-place.invariant.goes_on c.visit_by.ensures.goes_on
+
+pub loop-place-preserved-in-HasTrue : goal.loop-place-preserved-in-HasTrue
+loop-place-preserved-in-HasTrue c =
+    let mid = c.loop-place.assigned in
+    let new = c.visit_by.new.assigned in
+    let watched = c.loop-place.watches in
+    let watching = c.visit_by.new.watches in
+    let go = c.loop-place.invariant.goes_on in
+    let turned = Value-continues c.args.assigned.now mid c.args.lit _ go.valid go.steps c.requires.turned in
+    record {
+      goes_on = GoesOn-both c.args.assigned.now mid new c.args.watches.now watched watching go c.visit_by.ensures.goes_on;
+      passed = Passed-true mid new watched watching c.args.lit c.loop-place.place c.list-in-loop-place.result.now c.visit_by.ensures.goes_on turned c.list-in-loop-place.ensures c.visit_by.ensures.stays c.loop-place.invariant.passed
+          (subst (IsVisitBy new watching c.args.lit (get_or c.list-in-loop-place.result.now c.loop-place.place 0)) c.in-HasTrue.is c.in_ok-visit_by.ensures.found);
+    }
+
+pub loop-place-preserved : goal.loop-place-preserved
+loop-place-preserved c =
+    let mid = c.loop-place.assigned in
+    let new = c.visit_by.new.assigned in
+    let watched = c.loop-place.watches in
+    let watching = c.visit_by.new.watches in
+    let without = c.remove.new.self in
+    let go = c.loop-place.invariant.goes_on in
+    let turned = Value-continues c.args.assigned.now mid c.args.lit _ go.valid go.steps c.requires.turned in
+    let list = c.list-in-loop-place.result.now in
+    let un =
+    subst (λ xs. IsUnwatched watching c.args.lit (get_or xs c.loop-place.place 0)) (c.list-in-loop-place.ensures ∙ sym c.visit_by.ensures.stays)
+    (subst (IsVisitBy new watching c.args.lit (get_or list c.loop-place.place 0)) c.in-Watched.is c.in_ok-visit_by.ensures.found) in
+    let on = GoesOn-both c.args.assigned.now mid new c.args.watches.now watched watching go c.visit_by.ensures.goes_on in
+    record {
+      goes_on = GoesOn-both c.args.assigned.now new new c.args.watches.now watching without on
+          (GoesOn-without new watching without c.args.lit c.loop-place.place on.valid on.whole un c.remove.ensures.pairs c.remove.ensures.room c.remove.ensures.without c.remove.ensures.others);
+      passed = Passed-without new watching without c.args.lit c.loop-place.place c.remove.ensures.pairs c.remove.ensures.without (Passed-before mid new watched watching c.args.lit c.loop-place.place c.visit_by.ensures.goes_on turned c.visit_by.ensures.stays c.loop-place.invariant.passed);
+    }
+
+pub returns-clause-found : goal.returns-clause-found
+returns-clause-found c =
+    let go = c.loop-place.invariant.goes_on in
+    Passed-whole c.loop-place.assigned c.loop-place.watches c.args.lit c.loop-place.place go.whole (subst (λ xs. length xs ≤ c.loop-place.place) c.list.ensures c.loop-place-test.false) c.loop-place.invariant.passed

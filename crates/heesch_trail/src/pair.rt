@@ -1,0 +1,25 @@
+ghost use Rattle.heesch_trail.specs.Watches.{IsBeside};
+
+use heesch_cnf::Lit;
+
+/// Two literals of a clause, which watch it.
+#[derive(Debug, Clone, Copy)]
+pub struct Pair {
+    pub one: Lit,
+    pub other: Lit,
+}
+
+impl Pair {
+    /// The literal beside this one, where it is one of the two.
+    pub fn beside(self, lit: Lit) -> Option<Lit>
+        ensures { IsBeside self lit result }
+    {
+        if self.one == lit {
+            Some(self.other)
+        } else if self.other == lit {
+            Some(self.one)
+        } else {
+            None
+        }
+    }
+}

@@ -1,0 +1,207 @@
+ghost use Rattle.std.specs.Prelude.{◌≡◌, ◌+◌, ◌<◌, ◌≤◌, ◌^◌, [], ◌∷◌, length, Some, false, IfOk, slice_index_or, ◌⊎◌};
+ghost use Rattle.heesch_cnf.specs.Literals.{lit_value};
+ghost use Rattle.heesch_cnf.specs.Clauses.{left_of};
+ghost use Rattle.heesch_trail.specs.Fixpoint.{HasTrue};
+ghost use Rattle.heesch_trail.specs.Watches.{AreWhole, list_of, code_of};
+ghost use Rattle.heesch_trail.specs.Seen.{AreSeen, GoesOn, IsVisit, IsVisitBy, AreVisitedBy, AreRead, StaySeen};
+ghost use Rattle.heesch_trail.specs.State.{IsTrail, Continues, IsPropagated, values_of};
+
+use crate::Step;
+use crate::assigned::Assigned;
+use crate::scan::Reading;
+use crate::watches::Watches;
+use heesch_cnf::Lit;
+use heesch_io::NoMemory;
+
+/// What a visit left of a clause: a true literal, literals that watch it and aren't false, or nothing but false ones, by
+/// the clause's number.
+#[derive(Debug, Clone, Copy)]
+enum Visit {
+    HasTrue,
+    Watched,
+    AllFalse(u32),
+}
+
+/// Makes the only literal that isn't false true, where it is open.
+fn follow(assigned: &mut Assigned, index: u32, lit: Lit) -> Result<(), NoMemory>
+    requires within { index < length assigned.old.clauses }
+    requires alone { left_of (values_of assigned.old.steps) (slice_index_or assigned.old.clauses index []) ≡ lit ∷ [] }
+    ensures goes_on { Continues assigned.old assigned.new }
+    ensures made { IfOk result (λ _. HasTrue (values_of assigned.new.steps) (slice_index_or assigned.new.clauses index [])) }
+    ensures valid { IsTrail assigned.new }
+{
+    let _ = assigned.count();
+    if assigned.value_of(lit).is_some() {
+        return Ok(());
+    }
+    let level = assigned.level();
+    assigned.assign(Step {
+        lit,
+        level,
+        reason: Some(index + 1),
+    })?;
+    Ok(())
+}
+
+/// Reads the clause of an index: watches it by two literals that aren't false, or makes the assignment that follows from it.
+/// The cost is at most the clause's length.
+fn visit_clause(
+    assigned: &mut Assigned,
+    watches: &mut Watches,
+    index: u32,
+) -> Result<Visit, NoMemory>
+    requires within { index < length assigned.old.clauses }
+    requires whole { AreWhole assigned.old.vars assigned.old.clauses watches.old }
+    ensures goes_on { GoesOn assigned.old watches.old assigned.new watches.new }
+    ensures found { IfOk result (IsVisit assigned.new watches.new index) }
+    ensures stays { (l : Lit) → lit_value (values_of assigned.old.steps) l ≡ Some false → list_of watches.new.lists l ≡ list_of watches.old.lists l }
+{
+    match assigned.read(index as usize) {
+        Reading::Nothing => Ok(Visit::AllFalse(index + 1)),
+        Reading::One(lit) => {
+            follow(assigned, index, lit)?;
+            Ok(Visit::HasTrue)
+        }
+        Reading::Two(pair) => {
+            watches.watch(index, pair)?;
+            Ok(Visit::Watched)
+        }
+    }
+}
+
+/// Visits the clause of an index that stands in the list of a false literal. It is read only where the literal watches it and
+/// the one beside isn't true.
+fn visit_by(
+    assigned: &mut Assigned,
+    watches: &mut Watches,
+    lit: Lit,
+    index: u32,
+) -> Result<Visit, NoMemory>
+    requires whole { AreWhole assigned.old.vars assigned.old.clauses watches.old }
+    requires turned { lit_value (values_of assigned.old.steps) lit ≡ Some false }
+    ensures goes_on { GoesOn assigned.old watches.old assigned.new watches.new }
+    ensures found { IfOk result (IsVisitBy assigned.new watches.new lit index) }
+    ensures stays { list_of watches.new.lists lit ≡ list_of watches.old.lists lit }
+{
+    let _ = assigned.vars();
+    let Some(pair) = watches.pair(index as usize) else {
+        return Ok(Visit::Watched);
+    };
+    let Some(beside) = pair.beside(lit) else {
+        return Ok(Visit::Watched);
+    };
+    if assigned.is_true(beside) {
+        return Ok(Visit::HasTrue);
+    }
+    visit_clause(assigned, watches, index)
+}
+
+/// Visits the clauses in the list of a false literal, until all literals of one of them are false. A clause with no true literal
+/// goes to the lists of others.
+fn visit_list(
+    assigned: &mut Assigned,
+    watches: &mut Watches,
+    lit: Lit,
+) -> Result<Option<u32>, NoMemory>
+    requires fits { code_of lit < length watches.old.lists }
+    requires whole { AreWhole assigned.old.vars assigned.old.clauses watches.old }
+    requires turned { lit_value (values_of assigned.old.steps) lit ≡ Some false }
+    ensures goes_on { GoesOn assigned.old watches.old assigned.new watches.new }
+    ensures found { IfOk result (AreVisitedBy assigned.new watches.new lit) }
+{
+    let _ = assigned.vars();
+    let mut place = 0;
+    while place < watches.list(lit).len() {
+        let index = watches.list(lit)[place];
+        match visit_by(assigned, watches, lit, index)? {
+            Visit::HasTrue => place += 1,
+            Visit::Watched => watches.remove(lit, place),
+            Visit::AllFalse(number) => return Ok(Some(number)),
+        }
+    }
+    Ok(None)
+}
+
+/// Visits the clause of an index. It is read only where no two literals that aren't false watch it.
+fn visit_first(
+    assigned: &mut Assigned,
+    watches: &mut Watches,
+    index: u32,
+) -> Result<Visit, NoMemory>
+    requires within { index < length assigned.old.clauses }
+    requires whole { AreWhole assigned.old.vars assigned.old.clauses watches.old }
+    ensures goes_on { GoesOn assigned.old watches.old assigned.new watches.new }
+    ensures found { IfOk result (IsVisit assigned.new watches.new index) }
+{
+    let _ = assigned.vars();
+    if let Some(pair) = watches.pair(index as usize)
+        && !assigned.is_false(pair.one)
+        && !assigned.is_false(pair.other)
+    {
+        return Ok(Visit::Watched);
+    }
+    visit_clause(assigned, watches, index)
+}
+
+/// Visits the clauses from `fresh` on that aren't watched by literals that aren't false; `fresh` goes on past each that was
+/// visited, until all literals of one are false. The cost is the number of these clauses, and of the literals of those visited.
+pub fn read_fresh(
+    assigned: &mut Assigned,
+    watches: &mut Watches,
+    fresh: &mut usize,
+) -> Result<Option<u32>, NoMemory>
+    requires few { fresh.old ≤ length assigned.old.clauses }
+    requires whole { AreWhole assigned.old.vars assigned.old.clauses watches.old }
+    ensures goes_on { GoesOn assigned.old watches.old assigned.new watches.new }
+    ensures read { fresh.new ≤ length assigned.new.clauses }
+    ensures seen { StaySeen assigned.old watches.old fresh.old assigned.new watches.new fresh.new }
+    ensures found { IfOk result (AreRead assigned.new fresh.new) }
+{
+    let _ = assigned.vars();
+    while *fresh < assigned.count() {
+        if let Visit::AllFalse(number) = visit_first(assigned, watches, *fresh as u32)? {
+            return Ok(Some(number));
+        }
+        *fresh += 1;
+    }
+    Ok(None)
+}
+
+/// Visits the lists of the opposites of the assignments from `head` on, until all literals of a clause are false; `head` goes on
+/// past each assignment whose list was visited whole. The cost is the number of literals of the clauses visited.
+pub fn drain(
+    assigned: &mut Assigned,
+    watches: &mut Watches,
+    head: &mut usize,
+) -> Result<Option<u32>, NoMemory>
+    requires whole { AreWhole assigned.old.vars assigned.old.clauses watches.old }
+    requires visited { head.old ≤ length assigned.old.steps }
+    requires seen { AreSeen head.old assigned.old watches.old (length assigned.old.clauses) }
+    ensures goes_on { GoesOn assigned.old watches.old assigned.new watches.new }
+    ensures visited { head.new ≤ length assigned.new.steps }
+    ensures seen { AreSeen head.new assigned.new watches.new (length assigned.new.clauses) }
+    ensures found { IfOk result (IsPropagated assigned.new) }
+{
+    let _ = assigned.vars();
+    while *head < assigned.made().len() {
+        let lit = assigned.made()[*head].opposite();
+        let found = visit_list(assigned, watches, lit)?;
+        if found.is_some() {
+            return Ok(found);
+        }
+        *head += 1;
+    }
+    Ok(None)
+}
+
+/// How many clauses, from the first on, are known to be guarded: those that were read, where no assignment waits.
+pub fn guarded(assigned: &Assigned, head: usize, fresh: usize) -> usize
+    ensures few { result ≤ fresh }
+    ensures nothing_waits { 0 < result → length assigned.now.steps ≤ head }
+{
+    if head < assigned.made().len() {
+        0
+    } else {
+        fresh
+    }
+}

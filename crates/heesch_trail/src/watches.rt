@@ -1,0 +1,143 @@
+ghost use Rattle.std.specs.Prelude.{◌≡◌, ◌≢◌, ℕ, ◌+◌, ◌*◌, ◌<◌, ◌^◌, [], ◌∷◌, ◌++◌, length, set, replicate, None, Some, Contains, IfOk, OnOk, OnErr};
+ghost use Rattle.heesch_trail.specs.Watches.{Watching, code_of, list_of, pair_of, AreKept, OthersStay, IsWithout, IsListed};
+
+use crate::assigned::nones;
+use crate::pair::Pair;
+use crate::watch_list::WatchList;
+use heesch_cnf::Lit;
+use heesch_io::NoMemory;
+use std::alloc::Global;
+use std::marker::Model;
+
+/// The two literals that watch a clause, where there are such, and for each literal the clauses that it watches. Clauses
+/// are named by indices from 0. A list may also have indices that its literal doesn't watch.
+#[derive(Drop)]
+pub struct Watches {
+    pairs: Vec<Option<Pair>>,
+    lists: Vec<WatchList>,
+}
+
+impl Model for Watches {
+    ghost use Rattle.heesch_trail.specs.Watches.{Watching};
+
+    ghost Value = { Watching };
+
+    ghost view = { λ w. record { pairs = w.pairs.items; lists = w.lists.items } };
+}
+
+fn code(lit: Lit) -> usize
+    ensures { result ≡ code_of lit }
+{
+    2 * lit.var as usize + lit.positive as usize
+}
+
+fn no_lists(alloc: Global, vars: u32) -> Result<Vec<WatchList>, NoMemory>
+    ensures { IfOk result (λ v. v.items ≡ replicate (2 * vars + 2) []) }
+{
+    let mut lists = Vec::new(alloc);
+    for _ in 0..2 * vars as usize + 2 {
+        lists.push(WatchList::new(alloc))?;
+    }
+    Ok(lists)
+}
+
+impl Watches {
+    /// As many clauses, which aren't watched, over these variables. The cost is the number of both.
+    pub fn open(alloc: Global, vars: u32, count: usize) -> Result<Watches, NoMemory>
+        ensures { IfOk result (λ w. w ≡ record { pairs = replicate count None; lists = replicate (2 * vars + 2) [] }) }
+    {
+        Ok(Watches {
+            pairs: nones(alloc, count)?,
+            lists: no_lists(alloc, vars)?,
+        })
+    }
+
+    /// One clause more, which isn't watched, or nothing has changed. The cost is one write, as an average over many calls.
+    pub fn add(&mut self) -> Result<(), NoMemory>
+        ensures ok { OnOk result (self.new ≡ record self.old { pairs = self.old.pairs ++ None ∷ [] }) }
+        ensures err { OnErr result (self.new ≡ self.old) }
+    {
+        if self.pairs.push(None).is_err() {
+            return Err(NoMemory);
+        }
+        Ok(())
+    }
+
+    /// The literals that watch the clause of an index. The cost is one look-up.
+    pub fn pair(&self, index: usize) -> Option<Pair>
+        ensures { result ≡ pair_of self.now.pairs index }
+    {
+        if index < self.pairs.len() {
+            self.pairs[index]
+        } else {
+            None
+        }
+    }
+
+    /// The indices of the clauses that the literal watches, and maybe others. The cost is one look-up.
+    pub fn list(&self, lit: Lit) -> &[u32]
+        requires { code_of lit < length self.now.lists }
+        ensures { result.now ≡ list_of self.now.lists lit }
+    {
+        self.lists[code(lit)].as_slice()
+    }
+
+    fn push(&mut self, lit: Lit, index: u32) -> Result<(), NoMemory>
+        requires { code_of lit < length self.old.lists }
+        ensures ok { OnOk result (self.new ≡ record self.old { lists = set self.old.lists (code_of lit) (list_of self.old.lists lit ++ index ∷ []) }) }
+        ensures err { OnErr result (self.new ≡ self.old) }
+    {
+        self.lists[code(lit)].push(index)
+    }
+
+    /// The index stands in the literal's list.
+    fn enlist(&mut self, lit: Lit, index: u32) -> Result<(), NoMemory>
+        requires fits { code_of lit < length self.old.lists }
+        requires listed { IsListed self.old index }
+        ensures pairs { self.new.pairs ≡ self.old.pairs }
+        ensures room { length self.new.lists ≡ length self.old.lists }
+        ensures kept { AreKept self.old.lists self.new.lists }
+        ensures others { OthersStay lit self.old.lists self.new.lists }
+        ensures there { IfOk result (λ _. Contains (list_of self.new.lists lit) index) }
+    {
+        if let Some(pair) = self.pair(index as usize)
+            && pair.beside(lit).is_some()
+        {
+            return Ok(());
+        }
+        self.push(lit, index)
+    }
+
+    /// The pair watches the clause of an index from now on; at want of memory it is watched as before. The cost is that of
+    /// two writes, as an average over many calls.
+    pub fn watch(&mut self, index: u32, pair: Pair) -> Result<(), NoMemory>
+        requires place { index < length self.old.pairs }
+        requires one { code_of pair.one < length self.old.lists }
+        requires other { code_of pair.other < length self.old.lists }
+        requires listed { IsListed self.old index }
+        ensures ok { OnOk result (self.new.pairs ≡ set self.old.pairs index (Some pair)) }
+        ensures err { OnErr result (self.new.pairs ≡ self.old.pairs) }
+        ensures room { length self.new.lists ≡ length self.old.lists }
+        ensures kept { AreKept self.old.lists self.new.lists }
+        ensures others { (l : Lit) → code_of l ≢ code_of pair.one → code_of l ≢ code_of pair.other → list_of self.new.lists l ≡ list_of self.old.lists l }
+        ensures one_there { IfOk result (λ _. Contains (list_of self.new.lists pair.one) index) }
+        ensures other_there { IfOk result (λ _. Contains (list_of self.new.lists pair.other) index) }
+    {
+        self.enlist(pair.one, index)?;
+        self.enlist(pair.other, index)?;
+        self.pairs[index as usize] = Some(pair);
+        Ok(())
+    }
+
+    /// The index at a place of the literal's list is gone from there. The cost is one write.
+    pub fn remove(&mut self, lit: Lit, place: usize)
+        requires fits { code_of lit < length self.old.lists }
+        requires place { place < length (list_of self.old.lists lit) }
+        ensures pairs { self.new.pairs ≡ self.old.pairs }
+        ensures room { length self.new.lists ≡ length self.old.lists }
+        ensures without { IsWithout place (list_of self.old.lists lit) (list_of self.new.lists lit) }
+        ensures others { OthersStay lit self.old.lists self.new.lists }
+    {
+        self.lists[code(lit)].remove(place);
+    }
+}
