@@ -19,7 +19,8 @@ fn written<T: Threads + Sync>(rt: &T, alloc: Global, line: &str) -> Result<Vec<u
 #[test]
 fn single_triangles_have_the_entries_worked_by_hand(rt: HostRuntime) -> Result<(), Fail> {
     let alloc = rt.alloc();
-    let corona = "coronas 1\nlayer 0,0,-1 0,1,-1 1,0,-1 1,1,-1 1,2,-1 0,-1,0 0,1,0 1,0,0 1,1,0 0,-1,1 0,0,1 1,0,1\nend 1\n";
+    let corona =
+        "coronas 1\nlayer 0,0,-1 0,1,-1 1,0,-1 1,1,-1 1,2,-1 0,-1,0 0,1,0 1,0,0 1,1,0 0,-1,1 0,0,1 1,0,1\nend 1\n";
     for (options, limits, lines) in [
         (
             "",

@@ -144,4 +144,3 @@ fn classify(words: &[String]) -> Result<Request, Usage>
         brief: options.brief,
     })
 }
-
