@@ -1,6 +1,6 @@
 //! A plain solver that learns clauses, to compare with: `solver scan|count|watch true|false J < SHAPES`, a shape a
 //! line as `0,0 1,0`, over its corona formula of level J. `scan` looks at all clauses in order after each assignment and
-//! takes the first that is unit, as heesch_trail does; `count` finds that clause by counters; `watch` propagates by two watched literals; `emit` prints the formulas for solver.sh. Decisions, analysis and phases are those of heesch_cdcl.
+//! takes the first that is unit; `count` finds that clause by counters; `watch` propagates by two watched literals, as heesch_trail does; `emit` prints the formulas for solver.sh. Decisions, analysis and phases are those of heesch_cdcl.
 use std::collections::{BTreeSet, HashMap, HashSet};
 use std::io::BufRead;
 use std::time::Instant;

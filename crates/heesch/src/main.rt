@@ -1,5 +1,5 @@
-//! The program `heesch`: tilings and Heesch numbers of polyforms. `heesch list GRID N` writes the free
-//! polyforms of N cells.
+//! The program `heesch`: tilings and Heesch numbers of polyforms. `heesch classify GRID N` writes the
+//! catalogue of the free polyforms of N cells.
 #![tactic(auto)]
 
 use heesch_app::{Status, run};

@@ -96,3 +96,25 @@ fn full_texts_have_the_brief_lines_for_all_workers(rt: HostRuntime) -> Result<()
     assert!(rt; brief.ends_with("end 108\n"));
     Ok(())
 }
+
+/// How many lines of a text begin with the words.
+fn lines_with(text: &str, words: &str) -> usize {
+    text.lines().filter(|line| line.starts_with(words)).count()
+}
+
+#[test]
+fn heptominoes_have_the_known_verdicts(rt: HostRuntime) -> Result<(), Fail> {
+    let held = written(&rt, rt.alloc(), "classify square 7 --brief --workers 4")?;
+    let text = str::from_utf8(&held)?;
+    for (words, count) in [
+        ("verdict tiles translation ", 41),
+        ("verdict tiles halfturn ", 60),
+        ("verdict tiles periodic ", 3),
+        ("verdict heesch 0 ", 2),
+        ("verdict heesch 1 ", 2),
+        ("verdict undecided ", 0),
+    ] {
+        assert_eq!(rt; lines_with(text, words), count, "{words}");
+    }
+    Ok(())
+}

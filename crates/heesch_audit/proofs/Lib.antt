@@ -1,0 +1,12 @@
+mod OneClasses
+mod Canonical
+mod Plain
+mod Spelled
+mod Proofs
+mod Listed
+mod Bounded
+mod Parts
+mod Ends
+mod Equal
+mod Covers
+mod LogLines

@@ -1,0 +1,14 @@
+use Rattle.std.proofs.Common.{rules}
+use Rattle.heesch_audit.specs.Formulas.{IsFormulaAt}
+use Rattle.heesch_audit.proofs.Equal.{refused}
+use Rattle.heesch_audit.proofs.Proofs.{not_too_large}
+use Rattle.heesch_audit.proofs.formula.LevelFormula.is_too_large.Goals as goal
+
+pub returns-in-Some : goal.returns-in-Some
+returns-in-Some g c =
+    let geometry = g.G.Grid.geometry in
+    let shape = c.args.shape.now in
+    let self = c.args.self.now in
+    let e = c.in-Some.field-0 in
+    let at : IsFormulaAt geometry shape self.level self.limits.size e.universe e.formula = search rules in
+    refused (not_too_large geometry g.met.G.Grid.laws shape c.requires.shape.is_shape.polyform self.level self.limits.size e.universe e.formula at)

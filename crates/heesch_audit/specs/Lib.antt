@@ -1,0 +1,10 @@
+pub mod Near
+pub mod Answer
+pub mod Shapes
+pub mod Spelling
+pub mod Formulas
+pub mod Logs
+pub mod Plains
+pub mod Walls
+pub mod Domains
+pub mod Bounds

@@ -1,0 +1,59 @@
+-- Entries whose coordinates lie near 0.
+use Rattle.std.specs.Prelude.{List, Option, Some, None, All, ⊤}
+use Rattle.heesch_grid.specs.declared.isometries.Iso.{Iso}
+use Rattle.heesch_grid.specs.Cells.{cell}
+use Rattle.heesch_grid.specs.Symmetry.{Member}
+use Rattle.heesch_grid.specs.Vectors.{IsWithin}
+use Rattle.heesch_cert.specs.declared.proof.Step.{Step}
+use Rattle.heesch_cert.specs.declared.proof.Step.TheVariants.{Learn, Cut}
+use Rattle.heesch_cert.specs.declared.proof.Proof.{Proof}
+use Rattle.heesch_cert.specs.declared.entry.Layers.{Layers}
+use Rattle.heesch_cert.specs.declared.entry.Wall.{Wall}
+use Rattle.heesch_cert.specs.declared.entry.Wall.TheVariants.{Absent as NoWall, Refuted as WallRefuted, Spent as WallSpent, Size as WallSize}
+use Rattle.heesch_cert.specs.declared.entry.Bare.{Bare}
+use Rattle.heesch_cert.specs.declared.entry.Bare.TheVariants.{Refuted as BareRefuted, Spent as BareSpent}
+use Rattle.heesch_cert.specs.declared.entry.TripleProof.{TripleProof}
+use Rattle.heesch_cert.specs.declared.entry.Evidence.{Evidence}
+use Rattle.heesch_cert.specs.declared.entry.Evidence.TheVariants.{Cover, Search}
+use Rattle.heesch_cert.specs.declared.entry.Entry.{Entry}
+
+-- the translation lies within 100,000 of 0; the turn may be any
+abbrev pub IsNearIso : Iso → Type 0
+IsNearIso by = IsWithin 100000 (cell by.da by.db)
+
+-- so do the translations of all layers
+abbrev pub AreNearLayers : List (List Iso) → Type 0
+AreNearLayers layers = All (All IsNearIso) layers
+
+abbrev pub IsNearWider : Option Layers → Type 0
+IsNearWider None = ⊤
+IsNearWider (Some wider) = AreNearLayers wider.layers
+
+-- the cells of a cut's hole lie within 100,000 of 0
+abbrev pub IsNearStep : Step → Type 0
+IsNearStep (Learn clause hints) = ⊤
+IsNearStep (Cut cut) = All (IsWithin 100000) cut.hole
+
+abbrev pub IsNearProof : Proof → Type 0
+IsNearProof proof = All IsNearStep proof.steps
+
+abbrev pub IsNearWall : Wall → Type 0
+IsNearWall NoWall = ⊤
+IsNearWall (WallRefuted proof) = IsNearProof proof
+IsNearWall (WallSpent proof) = IsNearProof proof
+IsNearWall WallSize = ⊤
+
+abbrev pub IsNearBare : Bare → Type 0
+IsNearBare (BareRefuted proof) = IsNearProof proof
+IsNearBare (BareSpent proof) = IsNearProof proof
+IsNearBare _ = ⊤
+
+-- the translations and cells of the evidence lie within 100,000 of 0
+abbrev pub IsNearEvidence : Evidence → Type 0
+IsNearEvidence (Cover tiling classes) = All IsNearIso tiling.places × All (λ (member : Member). IsNearIso member.by) classes.members
+IsNearEvidence (Search free wall bare wider triples) = AreNearLayers free.layers × IsNearWall wall × IsNearBare bare × IsNearWider wider × All (λ (x : TripleProof). IsNearProof x.proof) triples
+
+-- the coordinates of all cells and translations of the entry lie within 100,000 of 0
+pub record IsNearEntry (entry : Entry) : Type 0 where
+  pub cells : All (IsWithin 100000) entry.cells
+  pub evidence : IsNearEvidence entry.evidence

@@ -1,0 +1,68 @@
+//! The audit of an entry.
+ghost use Rattle.std.specs.Prelude.{◌≡◌, ◌↔◌, ℕ, IfOk};
+ghost use Rattle.heesch_cert.specs.Limits.{AreLimits};
+ghost use Rattle.heesch_cert.specs.Parts.{IsLeastFailing};
+ghost use Rattle.heesch_cert.specs.RightVerdict.{HasRightVerdict};
+ghost use Rattle.heesch_cert.specs.TrueEntry.{IsTrueEntry};
+ghost use Rattle.heesch_audit.specs.Near.{IsNearEntry};
+
+use crate::coronas::free_holds;
+use crate::cover::{classes_hold, cover_holds};
+use crate::form::form_fits;
+use crate::shaped::canonical_shape;
+use crate::triples::triples_hold;
+use crate::walls::failing_search;
+use heesch_cert::{Entry, Limits};
+use heesch_grid::Grid;
+use heesch_io::NoMemory;
+use std::alloc::Global;
+
+/// Whether an entry is true.
+#[derive(Clone, Copy, Debug, PartialEq, Eq)]
+pub enum EntryAnswer {
+    /// It is true.
+    Valid,
+    /// This is the least of its parts that fails, from 1: the shape, the verdict's form against the evidence, the cover, its
+    /// classes, the hole-free coronas, the wall, the coronas with holes allowed, the search behind the wall, the triples.
+    Invalid { part: u32 },
+}
+
+/// Whether the entry is true under the grid and the limits; else the least of its nine parts that fails.
+///
+/// Condition: the limits lie in their ranges, and the coordinates of the entry's cells and translations within 100,000 of 0.
+/// Its turns, numbers, lists and triples may be any. A turn that isn't one of the grid's makes the part fail in which it
+/// stands. The verdict of a valid entry is right.
+///
+/// Nothing is searched for but the plain tiling of the shape. A proof costs as many steps as its lines and hints have
+/// literals, besides the formula that it is over: that of a level is made once where both searches are of one level, and
+/// let go before the next is made. The clauses of one proof at a time are copied.
+pub fn audit<G: Grid>(alloc: Global, entry: &Entry, limits: Limits) -> Result<EntryAnswer, NoMemory>
+    requires limits { AreLimits limits }
+    requires near { IsNearEntry entry.now }
+    ensures valid { IfOk result (λ answer. (answer ≡ EntryAnswer.Valid) ↔ IsTrueEntry G.geometry limits entry.now) }
+    ensures invalid { IfOk result (λ answer. (part : ℕ) → answer ≡ EntryAnswer.Invalid part → IsLeastFailing G.geometry limits entry.now part) }
+    ensures right { IfOk result (λ answer. answer ≡ EntryAnswer.Valid → HasRightVerdict G.geometry limits entry.now) }
+{
+    let Some(shape) = canonical_shape::<G>(entry.cells.as_slice()) else {
+        return Ok(EntryAnswer::Invalid { part: 1 });
+    };
+    if !form_fits(&shape, limits, entry.verdict, &entry.evidence) {
+        return Ok(EntryAnswer::Invalid { part: 2 });
+    }
+    if !cover_holds(alloc, &shape, &entry.evidence)? {
+        return Ok(EntryAnswer::Invalid { part: 3 });
+    }
+    if !classes_hold(alloc, &shape, entry.verdict, &entry.evidence)? {
+        return Ok(EntryAnswer::Invalid { part: 4 });
+    }
+    if !free_holds(alloc, &shape, entry.verdict, &entry.evidence)? {
+        return Ok(EntryAnswer::Invalid { part: 5 });
+    }
+    if let Some(part) = failing_search(alloc, &shape, limits, entry.verdict, &entry.evidence)? {
+        return Ok(EntryAnswer::Invalid { part });
+    }
+    if !triples_hold(alloc, &shape, limits, entry.verdict, &entry.evidence)? {
+        return Ok(EntryAnswer::Invalid { part: 9 });
+    }
+    Ok(EntryAnswer::Valid)
+}

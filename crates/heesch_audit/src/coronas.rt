@@ -1,0 +1,99 @@
+//! Parts 5 and 7, the layers of coronas.
+ghost use Rattle.std.specs.Prelude.{◌≡◌, ◌≤◌, ◌↔◌, true, IsTrue, IfOk, IfSome, length};
+ghost use Rattle.heesch_cert.specs.TrueEntry.{FreeHolds, OpenShows};
+ghost use Rattle.heesch_audit.specs.Bounds.{HasFewLayers};
+ghost use Rattle.heesch_audit.specs.Near.{AreNearLayers, IsNearEvidence, IsNearWider};
+ghost use Rattle.heesch_audit.specs.Shapes.{IsCanonicalShape};
+ghost use Rattle.heesch_audit.specs.Spelling.{SpellCoronas};
+
+use crate::spelling::are_spelled;
+use crate::walls::first_number;
+use heesch_cert::{Evidence, Layers, Verdict};
+use heesch_corona::{CoronaAnswer, check_coronas};
+use heesch_grid::Grid;
+use heesch_io::NoMemory;
+use heesch_shape::Shape;
+use std::alloc::Global;
+
+/// Whether nothing is amiss.
+fn is_holding(answer: &CoronaAnswer) -> bool
+    ensures { IsTrue result ↔ (answer.now ≡ CoronaAnswer.Holds) }
+{
+    match answer {
+        CoronaAnswer::Holds => true,
+        _ => false,
+    }
+}
+
+/// Whether the layers spell coronas, hole-free ones where `hole_free`.
+fn spell_coronas<G: Grid>(
+    alloc: Global,
+    shape: &Shape<G>,
+    layers: &Layers,
+    hole_free: bool,
+) -> Result<bool, NoMemory>
+    requires shape { IsCanonicalShape G.geometry shape.now }
+    requires near { AreNearLayers layers.now.layers }
+    requires few { length layers.now.layers ≤ 6 }
+    ensures { IfOk result (λ yes. IsTrue yes ↔ SpellCoronas G.geometry shape.now hole_free layers.now.layers) }
+{
+    if !are_spelled(shape, layers.layers.as_slice()) {
+        return Ok(false);
+    }
+    let answer = check_coronas(alloc, shape, layers, hole_free)?;
+    Ok(is_holding(&answer))
+}
+
+/// Whether the layers are h hole-free coronas, so spelled.
+fn is_free<G: Grid>(
+    alloc: Global,
+    shape: &Shape<G>,
+    layers: &Layers,
+    h: u32,
+) -> Result<bool, NoMemory>
+    requires shape { IsCanonicalShape G.geometry shape.now }
+    requires near { AreNearLayers layers.now.layers }
+    requires few { h ≤ 6 }
+    ensures { IfOk result (λ yes. IsTrue yes ↔ ((length layers.now.layers ≡ h) × SpellCoronas G.geometry shape.now true layers.now.layers)) }
+{
+    if layers.layers.len() != h as usize {
+        return Ok(false);
+    }
+    spell_coronas(alloc, shape, layers, true)
+}
+
+/// Part 7: whether the wider layers, where there are any, are coronas, holes allowed, so spelled.
+pub(crate) fn is_open<G: Grid>(
+    alloc: Global,
+    shape: &Shape<G>,
+    wider: &Option<Layers>,
+) -> Result<bool, NoMemory>
+    requires shape { IsCanonicalShape G.geometry shape.now }
+    requires near { IsNearWider wider.now }
+    requires few { IfSome wider.now (λ layers. length layers.layers ≤ 6) }
+    ensures { IfOk result (λ yes. IsTrue yes ↔ OpenShows G.geometry shape.now wider.now) }
+{
+    match wider {
+        None => Ok(true),
+        Some(layers) => spell_coronas(alloc, shape, layers, false),
+    }
+}
+
+/// Part 5: whether the layers of the evidence, where it is of searches, are hole-free coronas, as many as the verdict says. The
+/// form being right, there are at most six.
+pub(crate) fn free_holds<G: Grid>(
+    alloc: Global,
+    shape: &Shape<G>,
+    verdict: Verdict,
+    evidence: &Evidence,
+) -> Result<bool, NoMemory>
+    requires shape { IsCanonicalShape G.geometry shape.now }
+    requires bounds { HasFewLayers verdict evidence.now }
+    requires near { IsNearEvidence evidence.now }
+    ensures { IfOk result (λ yes. IsTrue yes ↔ FreeHolds G.geometry shape.now verdict evidence.now) }
+{
+    match evidence {
+        Evidence::Cover { .. } => Ok(true),
+        Evidence::Search { free, .. } => is_free(alloc, shape, free, first_number(verdict)),
+    }
+}

@@ -1,0 +1,115 @@
+//! The corona formulas that proofs are checked over.
+ghost use Rattle.std.specs.Prelude.{◌≡◌, ◌≤◌, ◌↔◌, IsTrue, IfOk, IfSome, MatchOption};
+ghost use Rattle.heesch_cert.specs.Limits.{AreLimits};
+ghost use Rattle.heesch_cert.specs.Proofs.{RefutesCoronas, IsSpentOnCoronas, IsTooLarge};
+ghost use Rattle.heesch_audit.specs.Formulas.{IsFormulaAt};
+ghost use Rattle.heesch_audit.specs.Near.{IsNearProof};
+ghost use Rattle.heesch_audit.specs.Shapes.{IsCanonicalShape};
+
+use crate::logs::{is_refuted, is_spent, lawful_log};
+use heesch_cert::{Limits, Proof};
+use heesch_encode::{EncodeStop, Encoded, encode};
+use heesch_grid::Grid;
+use heesch_io::NoMemory;
+use heesch_shape::Shape;
+use std::alloc::Global;
+
+/// The corona formula of a level, where it has no more literals than the limits allow.
+#[derive(Drop)]
+pub(crate) struct LevelFormula<G: Grid> {
+    pub limits: Limits,
+    pub level: u32,
+    pub encoded: Option<Encoded<G>>,
+}
+
+/// The formula of a level. It is the one at hand where that is of this level; else that one is let go before this is made.
+pub(crate) fn level_formula<G: Grid>(
+    alloc: Global,
+    shape: &Shape<G>,
+    limits: Limits,
+    level: u32,
+    at_hand: Option<LevelFormula<G>>,
+) -> Result<LevelFormula<G>, NoMemory>
+    requires shape { IsCanonicalShape G.geometry shape.now }
+    requires limits { AreLimits limits }
+    requires level { (1 ≤ level) × (level ≤ 6) }
+    requires same { IfSome at_hand (λ f. f.limits ≡ limits) }
+    requires at_hand { IfSome at_hand (λ f. MatchOption f.encoded (IsTooLarge G.geometry shape.now f.level f.limits.size) (λ e. IsFormulaAt G.geometry shape.now f.level f.limits.size e.universe e.formula)) }
+    ensures limits { IfOk result (λ f. f.limits ≡ limits) }
+    ensures level { IfOk result (λ f. f.level ≡ level) }
+    ensures formula { IfOk result (λ f. MatchOption f.encoded (IsTooLarge G.geometry shape.now level limits.size) (λ e. IsFormulaAt G.geometry shape.now level limits.size e.universe e.formula)) }
+{
+    if let Some(formula) = at_hand {
+        if formula.level == level {
+            return Ok(formula);
+        }
+    }
+    let encoded = match encode(alloc, shape, level, limits.size) {
+        Ok(encoded) => Some(encoded),
+        Err(EncodeStop::TooLarge) => None,
+        Err(EncodeStop::NoMemory) => return Err(NoMemory),
+    };
+    Ok(LevelFormula {
+        limits,
+        level,
+        encoded,
+    })
+}
+
+impl<G: Grid> LevelFormula<G> {
+    /// Whether the proof refutes the formula, and its cuts are lawful.
+    pub(crate) fn is_refuted_by(
+        &self,
+        alloc: Global,
+        shape: &Shape<G>,
+        proof: &Proof,
+    ) -> Result<bool, NoMemory>
+        requires shape { IsCanonicalShape G.geometry shape.now }
+        requires formula { MatchOption self.now.encoded (IsTooLarge G.geometry shape.now self.now.level self.now.limits.size) (λ e. IsFormulaAt G.geometry shape.now self.now.level self.now.limits.size e.universe e.formula) }
+        requires near { IsNearProof proof.now }
+        ensures { IfOk result (λ yes. IsTrue yes ↔ RefutesCoronas G.geometry shape.now self.now.level self.now.limits.size proof.now) }
+    {
+        let Some(encoded) = &self.encoded else {
+            return Ok(false);
+        };
+        let Some(log) = lawful_log(alloc, shape, &encoded.universe, proof)? else {
+            return Ok(false);
+        };
+        is_refuted(alloc, &encoded.formula, &log)
+    }
+
+    /// Whether the proof is spent for the limit on turns over the formula, and its cuts are lawful.
+    pub(crate) fn is_spent_by(
+        &self,
+        alloc: Global,
+        shape: &Shape<G>,
+        proof: &Proof,
+    ) -> Result<bool, NoMemory>
+        requires shape { IsCanonicalShape G.geometry shape.now }
+        requires formula { MatchOption self.now.encoded (IsTooLarge G.geometry shape.now self.now.level self.now.limits.size) (λ e. IsFormulaAt G.geometry shape.now self.now.level self.now.limits.size e.universe e.formula) }
+        requires near { IsNearProof proof.now }
+        ensures { IfOk result (λ yes. IsTrue yes ↔ IsSpentOnCoronas G.geometry shape.now self.now.level self.now.limits.turns self.now.limits.size proof.now) }
+    {
+        let Some(encoded) = &self.encoded else {
+            return Ok(false);
+        };
+        let Some(log) = lawful_log(alloc, shape, &encoded.universe, proof)? else {
+            return Ok(false);
+        };
+        is_spent(alloc, &encoded.formula, &log, self.limits.turns)
+    }
+
+    /// Whether the formula has more literals than the limits allow.
+    pub(crate) fn is_too_large(&self, shape: &Shape<G>) -> bool
+        requires shape { IsCanonicalShape G.geometry shape.now }
+        requires formula { MatchOption self.now.encoded (IsTooLarge G.geometry shape.now self.now.level self.now.limits.size) (λ e. IsFormulaAt G.geometry shape.now self.now.level self.now.limits.size e.universe e.formula) }
+        ensures { IsTrue result ↔ IsTooLarge G.geometry shape.now self.now.level self.now.limits.size }
+    {
+        // Reading the cells tells the proof that they are a polyform.
+        let _cells = shape.cells();
+        match &self.encoded {
+            None => true,
+            Some(_) => false,
+        }
+    }
+}

@@ -1,0 +1,21 @@
+//! The check of entries, each part by the checker of its own crate and none by the searches that made it.
+#![tactic(auto)]
+
+mod auditing;
+mod coronas;
+mod cover;
+mod fits;
+mod form;
+mod formula;
+mod logs;
+mod near;
+mod shaped;
+mod spelling;
+mod triples;
+mod walls;
+
+pub use auditing::{EntryAnswer, audit};
+pub use near::is_near;
+
+#[cfg(test)]
+mod tests;

@@ -1,0 +1,157 @@
+//! Part 9, the triples of larger domains.
+ghost use Rattle.std.specs.Prelude.{◌≡◌, ◌≤◌, ◌-◌, ◌*◌, ◌++◌, ◌↔◌, List, [], map, length, All, IsTrue, IfOk, OnOk, IfSome, IfNone};
+ghost use Rattle.heesch_grid.specs.Lattice.{Triple as Lattice};
+ghost use Rattle.heesch_grid.specs.Listing.{ListsExactly};
+ghost use Rattle.heesch_torus.specs.Domain.{HasDomain};
+ghost use Rattle.heesch_cert.specs.declared.entry.TripleProof.{TripleProof as Written};
+ghost use Rattle.heesch_cert.specs.Limits.{AreLimits};
+ghost use Rattle.heesch_cert.specs.Proofs.{SettlesTriple};
+ghost use Rattle.heesch_cert.specs.TrueEntry.{area_before, IsUndecided, TriplesHold};
+ghost use Rattle.heesch_audit.specs.Domains.{IsTripleUpTo, IsAreaOf, NoAreaOf};
+ghost use Rattle.heesch_audit.specs.Shapes.{IsCanonicalShape};
+
+use crate::logs::{is_ended, learnt_log};
+use heesch_cert::{Evidence, Limits, TripleProof, Verdict};
+use heesch_grid::{Grid, Sizes};
+use heesch_io::NoMemory;
+use heesch_lattice::{Triple, triples};
+use heesch_shape::Shape;
+use heesch_torus::torus_formula;
+use std::alloc::Global;
+
+/// Whether the verdict leaves open whether the shape tiles.
+fn is_undecided(verdict: Verdict) -> bool
+    ensures { IsTrue result ↔ IsUndecided verdict }
+{
+    match verdict {
+        Verdict::Tiles { .. } | Verdict::Heesch { .. } => false,
+        Verdict::Levels { .. }
+        | Verdict::Holes { .. }
+        | Verdict::Turns { .. }
+        | Verdict::Size { .. } => true,
+    }
+}
+
+/// How many units so many cells have.
+fn area_of<G: Grid>(count: u32) -> Option<u32>
+    requires some { 1 ≤ count }
+    requires few { count ≤ 384 }
+    ensures found { IfSome result (IsAreaOf G.geometry count) }
+    ensures none { IfNone result (NoAreaOf G.geometry count) }
+{
+    if count % G::PER == 0 {
+        return Some(count / G::PER);
+    }
+    None
+}
+
+/// The triples of the domain of so many tiles stand last.
+fn add_domain<G: Grid>(count: u32, tiles: u32, all: &mut Vec<Triple>) -> Result<(), NoMemory>
+    requires count { (1 ≤ count) × (count ≤ 32) }
+    requires tiles { (2 ≤ tiles) × (tiles ≤ 12) }
+    requires before { ListsExactly area_before (IsTripleUpTo G.geometry count (tiles - 1)) all.old.items }
+    ensures { OnOk result (ListsExactly area_before (IsTripleUpTo G.geometry count tiles) all.new.items) }
+{
+    if let Some(area) = area_of::<G>(tiles * count) {
+        for triple in triples(area) {
+            all.push(triple)?;
+        }
+    }
+    Ok(())
+}
+
+/// All triples of the domains from 2 to this one, in order.
+fn triples_up_to<G: Grid>(alloc: Global, count: u32, domain: u32) -> Result<Vec<Triple>, NoMemory>
+    requires count { (1 ≤ count) × (count ≤ 32) }
+    requires domain { (1 ≤ domain) × (domain ≤ 12) }
+    ensures { IfOk result (λ all. ListsExactly area_before (IsTripleUpTo G.geometry count domain) all.items) }
+{
+    let mut all = Vec::new(alloc);
+    for tiles in 2..domain + 1 {
+        add_domain::<G>(count, tiles, &mut all)?;
+    }
+    Ok(all)
+}
+
+/// Whether these are the triples that proofs are written of, one after the other.
+fn are_triples_of(written: &[TripleProof], all: &[Triple]) -> bool
+    ensures { IsTrue result ↔ (map (λ (x : Written). x.triple) written.now ≡ all.now) }
+{
+    if written.len() != all.len() {
+        return false;
+    }
+    for i in 0..all.len() {
+        if written[i].triple != all[i] {
+            return false;
+        }
+    }
+    true
+}
+
+/// Whether the proof has no cut, and refutes the torus formula of its triple or is spent for so many turns over it.
+fn is_settled<G: Grid>(
+    alloc: Global,
+    shape: &Shape<G>,
+    turns: u32,
+    written: &TripleProof,
+) -> Result<bool, NoMemory>
+    requires shape { IsCanonicalShape G.geometry shape.now }
+    requires domain { HasDomain G.geometry (length shape.now) written.now.triple }
+    ensures { IfOk result (λ yes. IsTrue yes ↔ SettlesTriple G.geometry shape.now turns written.now.triple written.now.proof) }
+{
+    let Some(log) = learnt_log(alloc, &written.proof)? else {
+        return Ok(false);
+    };
+    let formula = torus_formula(alloc, shape, written.triple)?;
+    is_ended(alloc, &formula, &log, turns)
+}
+
+/// Whether each triple is so settled.
+fn are_settled<G: Grid>(
+    alloc: Global,
+    shape: &Shape<G>,
+    turns: u32,
+    written: &[TripleProof],
+) -> Result<bool, NoMemory>
+    requires shape { IsCanonicalShape G.geometry shape.now }
+    requires domains { All (λ (x : Written). HasDomain G.geometry (length shape.now) x.triple) written.now }
+    ensures { IfOk result (λ yes. IsTrue yes ↔ All (λ (x : Written). SettlesTriple G.geometry shape.now turns x.triple x.proof) written.now) }
+{
+    for triple in written {
+        if !is_settled(alloc, shape, turns, triple)? {
+            return Ok(false);
+        }
+    }
+    Ok(true)
+}
+
+/// Whether for an undecided verdict all triples of the domains from 2 to the limit are written, in order, each settled, and for
+/// any other none.
+pub(crate) fn triples_hold<G: Grid>(
+    alloc: Global,
+    shape: &Shape<G>,
+    limits: Limits,
+    verdict: Verdict,
+    evidence: &Evidence,
+) -> Result<bool, NoMemory>
+    requires shape { IsCanonicalShape G.geometry shape.now }
+    requires limits { AreLimits limits }
+    ensures { IfOk result (λ yes. IsTrue yes ↔ TriplesHold G.geometry limits shape.now verdict evidence.now) }
+{
+    let Evidence::Search {
+        triples: written,
+        ..
+    } = evidence
+    else {
+        return Ok(true);
+    };
+    if !is_undecided(verdict) {
+        return Ok(written.is_empty());
+    }
+    let count = shape.cells().len() as u32;
+    let all = triples_up_to::<G>(alloc, count, limits.domain)?;
+    if !are_triples_of(written.as_slice(), all.as_slice()) {
+        return Ok(false);
+    }
+    are_settled(alloc, shape, limits.turns, written.as_slice())
+}

@@ -1,0 +1,210 @@
+//! Parts 6 to 8, the ends of the searches for coronas.
+ghost use Rattle.std.specs.Prelude.{◌≡◌, ◌≤◌, ◌↔◌, IsTrue, IfOk, IfSome, MatchOption, length};
+ghost use Rattle.heesch_cert.specs.Limits.{AreLimits};
+ghost use Rattle.heesch_cert.specs.Proofs.{IsTooLarge};
+ghost use Rattle.heesch_cert.specs.TrueEntry.{first_number, last_number, FormFits, WallShows, SameWhereNoCut, BareShows};
+ghost use Rattle.heesch_audit.specs.Formulas.{IsFormulaAt, AsksFormula};
+ghost use Rattle.heesch_audit.specs.Near.{IsNearEvidence, IsNearWall, IsNearBare};
+ghost use Rattle.heesch_audit.specs.Shapes.{IsCanonicalShape};
+ghost use Rattle.heesch_audit.specs.Walls.{IsSearchFailure};
+
+use crate::coronas::is_open;
+use crate::fits::is_same;
+use crate::formula::{LevelFormula, level_formula};
+use crate::logs::has_no_cut;
+use heesch_cert::{Bare, Evidence, Limits, Verdict, Wall};
+use heesch_grid::Grid;
+use heesch_io::NoMemory;
+use heesch_shape::Shape;
+use std::alloc::Global;
+
+/// The number of hole-free coronas of a verdict; a tiling has none.
+pub(crate) fn first_number(verdict: Verdict) -> u32
+    ensures { result ≡ first_number verdict }
+{
+    match verdict {
+        Verdict::Tiles { .. } => 0,
+        Verdict::Heesch { h, .. }
+        | Verdict::Levels { h }
+        | Verdict::Holes { h }
+        | Verdict::Turns { h, .. }
+        | Verdict::Size { h, .. } => h,
+    }
+}
+
+/// The last number of a verdict; a tiling has none.
+fn last_number(verdict: Verdict) -> u32
+    ensures { result ≡ last_number verdict }
+{
+    match verdict {
+        Verdict::Tiles { .. } => 0,
+        Verdict::Heesch { m, .. } => m,
+        Verdict::Levels { h } | Verdict::Holes { h } => h,
+        Verdict::Turns { at, .. } | Verdict::Size { at, .. } => at,
+    }
+}
+
+/// Whether the search for one corona more ended as is written.
+fn wall_shows<G: Grid>(
+    alloc: Global,
+    shape: &Shape<G>,
+    formula: &LevelFormula<G>,
+    wall: &Wall,
+) -> Result<bool, NoMemory>
+    requires shape { IsCanonicalShape G.geometry shape.now }
+    requires formula { MatchOption formula.now.encoded (IsTooLarge G.geometry shape.now formula.now.level formula.now.limits.size) (λ e. IsFormulaAt G.geometry shape.now formula.now.level formula.now.limits.size e.universe e.formula) }
+    requires near { IsNearWall wall.now }
+    ensures { IfOk result (λ yes. IsTrue yes ↔ WallShows G.geometry formula.now.limits shape.now formula.now.level wall.now) }
+{
+    match wall {
+        Wall::Absent => Ok(true),
+        Wall::Refuted { proof } => formula.is_refuted_by(alloc, shape, proof),
+        Wall::Spent { proof } => formula.is_spent_by(alloc, shape, proof),
+        Wall::Size => Ok(formula.is_too_large(shape)),
+    }
+}
+
+/// Whether both hold or neither.
+fn agree(one: bool, other: bool) -> bool
+    ensures { IsTrue result ↔ (IsTrue one ↔ IsTrue other) }
+{
+    one == other
+}
+
+/// Whether the search with holes allowed is the same as that with holes forbidden exactly where a refutation has no cut.
+fn fits_same(wall: &Wall, bare: &Bare) -> bool
+    ensures { IsTrue result ↔ SameWhereNoCut wall.now bare.now }
+{
+    match wall {
+        Wall::Refuted { proof } => agree(is_same(bare), has_no_cut(proof)),
+        _ => true,
+    }
+}
+
+/// Whether the search with holes allowed ended as is written, over the formula of its level. Its proofs have no cut.
+fn bare_shows<G: Grid>(
+    alloc: Global,
+    shape: &Shape<G>,
+    formula: &LevelFormula<G>,
+    bare: &Bare,
+) -> Result<bool, NoMemory>
+    requires shape { IsCanonicalShape G.geometry shape.now }
+    requires formula { MatchOption formula.now.encoded (IsTooLarge G.geometry shape.now formula.now.level formula.now.limits.size) (λ e. IsFormulaAt G.geometry shape.now formula.now.level formula.now.limits.size e.universe e.formula) }
+    requires near { IsNearBare bare.now }
+    ensures { IfOk result (λ yes. IsTrue yes ↔ BareShows G.geometry formula.now.limits shape.now formula.now.level bare.now) }
+{
+    match bare {
+        Bare::Absent => Ok(true),
+        Bare::Same => Ok(true),
+        Bare::Open => Ok(true),
+        Bare::Refuted { proof } => {
+            if !has_no_cut(proof) {
+                return Ok(false);
+            }
+            formula.is_refuted_by(alloc, shape, proof)
+        }
+        Bare::Spent { proof } => {
+            if !has_no_cut(proof) {
+                return Ok(false);
+            }
+            formula.is_spent_by(alloc, shape, proof)
+        }
+        Bare::Size => Ok(formula.is_too_large(shape)),
+    }
+}
+
+/// Whether the search is one that a formula is needed for.
+fn asks_formula(bare: &Bare) -> bool
+    ensures { IsTrue result ↔ AsksFormula bare.now }
+{
+    match bare {
+        Bare::Absent | Bare::Same | Bare::Open => false,
+        Bare::Refuted { .. } | Bare::Spent { .. } | Bare::Size => true,
+    }
+}
+
+/// Whether the search with holes allowed ended at level m as is written. The formula of another level, or of m, is at hand.
+fn bare_shows_at<G: Grid>(
+    alloc: Global,
+    shape: &Shape<G>,
+    at_hand: LevelFormula<G>,
+    m: u32,
+    bare: &Bare,
+) -> Result<bool, NoMemory>
+    requires shape { IsCanonicalShape G.geometry shape.now }
+    requires limits { AreLimits at_hand.limits }
+    requires at_hand { MatchOption at_hand.encoded (IsTooLarge G.geometry shape.now at_hand.level at_hand.limits.size) (λ e. IsFormulaAt G.geometry shape.now at_hand.level at_hand.limits.size e.universe e.formula) }
+    requires level { AsksFormula bare.now → (1 ≤ m) × (m ≤ 6) }
+    requires near { IsNearBare bare.now }
+    ensures { IfOk result (λ yes. IsTrue yes ↔ BareShows G.geometry at_hand.limits shape.now m bare.now) }
+{
+    if !asks_formula(bare) {
+        return Ok(true);
+    }
+    let limits = at_hand.limits;
+    let formula = level_formula(alloc, shape, limits, m, Some(at_hand))?;
+    bare_shows(alloc, shape, &formula, bare)
+}
+
+/// Whether the search with holes allowed ended at level m as is written, and is the same as that with holes forbidden
+/// exactly where a refutation has no cut.
+fn bare_holds<G: Grid>(
+    alloc: Global,
+    shape: &Shape<G>,
+    at_hand: LevelFormula<G>,
+    m: u32,
+    wall: &Wall,
+    bare: &Bare,
+) -> Result<bool, NoMemory>
+    requires shape { IsCanonicalShape G.geometry shape.now }
+    requires limits { AreLimits at_hand.limits }
+    requires at_hand { MatchOption at_hand.encoded (IsTooLarge G.geometry shape.now at_hand.level at_hand.limits.size) (λ e. IsFormulaAt G.geometry shape.now at_hand.level at_hand.limits.size e.universe e.formula) }
+    requires level { AsksFormula bare.now → (1 ≤ m) × (m ≤ 6) }
+    requires near { IsNearBare bare.now }
+    ensures { IfOk result (λ yes. IsTrue yes ↔ (SameWhereNoCut wall.now bare.now × BareShows G.geometry at_hand.limits shape.now m bare.now)) }
+{
+    if !fits_same(wall, bare) {
+        return Ok(false);
+    }
+    bare_shows_at(alloc, shape, at_hand, m, bare)
+}
+
+/// The first of the parts 6 to 8 that fails, the form being right: the wall, the open coronas, the search behind the wall.
+/// The formula of the wall serves for the search behind it, where they are of one level.
+pub(crate) fn failing_search<G: Grid>(
+    alloc: Global,
+    shape: &Shape<G>,
+    limits: Limits,
+    verdict: Verdict,
+    evidence: &Evidence,
+) -> Result<Option<u32>, NoMemory>
+    requires shape { IsCanonicalShape G.geometry shape.now }
+    requires limits { AreLimits limits }
+    requires form { FormFits G.geometry limits shape.now verdict evidence.now }
+    requires near { IsNearEvidence evidence.now }
+    ensures { IfOk result (IsSearchFailure G.geometry limits shape.now verdict evidence.now) }
+{
+    let Evidence::Search {
+        wall,
+        bare,
+        wider,
+        ..
+    } = evidence
+    else {
+        return Ok(None);
+    };
+    if let Wall::Absent = wall {
+        return Ok(None);
+    }
+    let formula = level_formula(alloc, shape, limits, first_number(verdict) + 1, None)?;
+    if !wall_shows(alloc, shape, &formula, wall)? {
+        return Ok(Some(6));
+    }
+    if !is_open(alloc, shape, wider)? {
+        return Ok(Some(7));
+    }
+    if !bare_holds(alloc, shape, formula, last_number(verdict), wall, bare)? {
+        return Ok(Some(8));
+    }
+    Ok(None)
+}

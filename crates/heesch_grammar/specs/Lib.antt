@@ -1,0 +1,4 @@
+pub mod Entries
+pub mod Grammar
+pub mod Parts
+pub mod Statements
