@@ -10,7 +10,10 @@ use Rattle.heesch_grid.proofs.Pinned.{one_canonical_list}
 use Rattle.heesch_cert.specs.declared.entry.Entry.{Entry}
 use Rattle.heesch_cert.specs.declared.limits.Limits.{Limits}
 use Rattle.heesch_app.specs.Catalogues.{AreEntries}
+use Rattle.std.specs.List.{AllZip}
+use Rattle.std.proofs.lemmas.List.Elements.{All-cons}
 use Rattle.heesch_app.specs.Entries.{IsEntryOf}
+use Rattle.heesch_app.specs.Inputs.{IsCanonicalOf}
 
 same_cells : (shapes : List (List Cell)) (entries : List Entry) → length entries ≡ length shapes
     → ((i : ℕ) (d : Entry) → i < length entries → (get_or entries i d).cells ≡ get_or shapes i [])
@@ -47,3 +50,11 @@ free_are_canonical g law n shapes free i d lt =
     let f = free i d lt in
     let s = get_or shapes i d in
     canonical_of_image g law f.cells s s f.polyform.is_set.rising f.canonical.is_image f.canonical
+
+-- what is the canonical list of a given shape is its own canonical list
+pub given_are_canonical : (g : Geometry) (law : IsGrid g) (given shapes : List (List Cell)) → AllZip (IsCanonicalOf g) given shapes → All (λ s. IsCanonicalListOf g s s) shapes
+given_are_canonical g law [] [] all = λ k d less. absurd (omega (arith, less))
+given_are_canonical g law (cells ∷ given) (s ∷ shapes) (is, all) =
+    All-cons (λ x. IsCanonicalListOf g x x) s shapes (canonical_of_image g law is.shape s s is.polyform.is_set.rising is.is_canonical.is_image is.is_canonical) (given_are_canonical g law given shapes all)
+given_are_canonical g law [] (s ∷ shapes) all = absurd all
+given_are_canonical g law (cells ∷ given) [] all = absurd all

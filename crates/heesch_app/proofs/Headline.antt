@@ -9,6 +9,7 @@ use Rattle.heesch_grid.specs.Names.{geometry_of}
 use Rattle.heesch_grid.specs.Polyform.{IsFreeList}
 use Rattle.heesch_words.specs.declared.requests.Request.TheVariants.{Classify as ClassifyRequest}
 use Rattle.heesch_words.proofs.Forms.{one_request}
+use Rattle.heesch_app.specs.declared.status.Status.{Status}
 use Rattle.heesch_app.specs.Catalogues.{IsCatalogueOfSize}
 use Rattle.heesch_app.specs.Outputs.{IsOutput, IsAnswer, header_of, AsksForCatalogue, IsCatalogued}
 
@@ -23,8 +24,8 @@ entries_catalogued grid n limits text old new (shapes, free, (entries, are, is))
 }
 
 -- where the words ask for the full catalogue of a size, what was written is one
-pub catalogued : (words : List (List ℕ)) (text : List ℕ) (old new : Option (List ℕ)) (grid : GridName) (n workers : ℕ) (limits : Limits)
-    → IsAnswer words text → Appends old new text → AsksForCatalogue words grid n limits workers → IsCatalogued grid n limits old new
-catalogued words text old new grid n workers limits (request, asked, output) appends asks =
+pub catalogued : (words : List (List ℕ)) (left : Option (List ℕ)) (status : Status) (text : List ℕ) (old new : Option (List ℕ)) (grid : GridName) (n workers : ℕ) (limits : Limits)
+    → IsAnswer words left status text → Appends old new text → AsksForCatalogue words grid n limits workers → IsCatalogued grid n limits old new
+catalogued words left status text old new grid n workers limits (request, asked, output) appends asks =
     let same : request ≡ ClassifyRequest grid (Size n) limits workers false = one_request words request _ asked asks in
-    entries_catalogued grid n limits text old new (subst (λ r. IsOutput r text) same output) appends
+    entries_catalogued grid n limits text old new (subst (λ r. IsOutput r left status text) same output).1 appends

@@ -1,7 +1,9 @@
 mod Beginnings
 mod EntryLists
+mod GivenLists
 mod Headline
 mod LimitTests
 mod PlainAnswers
 mod PlainLines
 mod Ranges
+mod ReadingLaws

@@ -25,5 +25,5 @@ asked_in_range words (ClassifyRequest grid (Size n) limits workers brief) asks =
     let (size, limits_are, some, few) = words_in_range words (ClassifyRequest grid (Size n) limits workers brief) asks in
     ((size.0, few_cells grid n size.1), limits_are, some, few)
 asked_in_range words (ClassifyRequest grid Given limits workers brief) asks =
-    let (size, _, _, _) = words_in_range words (ClassifyRequest grid Given limits workers brief) asks in
-    absurd size
+    let (_, limits_are, some, few) = words_in_range words (ClassifyRequest grid Given limits workers brief) asks in
+    (tt, limits_are, some, few)

@@ -1,5 +1,5 @@
 -- What a run writes, by its words.
-use Rattle.std.specs.Prelude.{◌≡◌, ℕ, Bool, false, List, map, Option, ◌⊎◌, All}
+use Rattle.std.specs.Prelude.{◌≡◌, ℕ, Bool, false, List, map, Option, Some, None, ◌⊎◌, All, ⊤}
 use Rattle.std.specs.Io.KnownBytes.{Appends, Keeps}
 use Rattle.heesch_io.specs.Contents.{AppendsPrefix}
 use Rattle.heesch_cert.specs.declared.entry.Entry.{Entry}
@@ -21,7 +21,10 @@ use Rattle.heesch_tiling.specs.declared.found.Plain.{Plain}
 use Rattle.heesch_words.specs.declared.requests.Request.{Request}
 use Rattle.heesch_words.specs.declared.requests.Request.TheVariants.{List as ListRequest, Plain as PlainRequest, Classify as ClassifyRequest}
 use Rattle.heesch_words.specs.Requests.{Asks}
-use Rattle.heesch_app.specs.Catalogues.{IsCatalogueOfSize, IsBegunCatalogueOfSize}
+use Rattle.heesch_app.specs.declared.status.Status.{Status}
+use Rattle.heesch_app.specs.declared.status.Status.TheVariants.{Done, BadInput}
+use Rattle.heesch_app.specs.Catalogues.{IsCatalogue, IsBegunCatalogue, IsCatalogueOfSize, IsBegunCatalogueOfSize}
+use Rattle.heesch_app.specs.Inputs.{AreGiven, HasFault, bad_input_text}
 use Rattle.heesch_app.specs.Tilings.{ArePlain}
 
 -- The words have one of the forms.
@@ -40,43 +43,59 @@ IsPlainListing g n output = (shapes : List (List Cell)) × (tilings : List (Opti
 abbrev pub header_of : GridName → Subject → Limits → Bool → Header
 header_of grid subject limits brief = record { brief = brief; grid = grid; subject = subject; limits = limits }
 
--- the output is the catalogue text of all the polyforms of the subject
-abbrev pub IsCatalogueOf : GridName → Subject → Limits → Bool → List ℕ → Type 0
-IsCatalogueOf grid (Size n) limits brief output = IsCatalogueOfSize (geometry_of grid) (header_of grid (Size n) limits brief) n output
-IsCatalogueOf grid Given limits brief output = ⊥
+-- the request reads what the source has left
+abbrev pub Reads : Request → Type 0
+Reads (ClassifyRequest grid Given limits workers brief) = ⊤
+Reads _ = ⊥
 
--- the output is the beginning of such a text that some first ones of its entries decide
-abbrev pub IsBegunCatalogueOf : GridName → Subject → Limits → Bool → List ℕ → Type 0
-IsBegunCatalogueOf grid (Size n) limits brief output = IsBegunCatalogueOfSize (geometry_of grid) (header_of grid (Size n) limits brief) n output
-IsBegunCatalogueOf grid Given limits brief output = ⊥
+-- what is answered of a list text: the catalogue text of its shapes, or its first fault; nothing is said where the source doesn't tell its bytes
+abbrev pub IsGivenAnswer : Geometry → Header → Option (List ℕ) → Status → List ℕ → Type 0
+IsGivenAnswer g header None status output = (status ≡ Done) ⊎ (status ≡ BadInput)
+IsGivenAnswer g header (Some input) status output =
+    ((status ≡ Done) × ((shapes : List (List Cell)) × AreGiven g input shapes × IsCatalogue g header shapes output))
+    ⊎ ((status ≡ BadInput) × ((line : ℕ) × (number : ℕ) × HasFault g input line number × (output ≡ bad_input_text line number)))
 
--- the output is what the request asks to be written
-abbrev pub IsOutput : Request → List ℕ → Type 0
-IsOutput (ListRequest grid n workers) output = IsListing (geometry_of grid) n output
-IsOutput (PlainRequest grid n workers) output = IsPlainListing (geometry_of grid) n output
-IsOutput (ClassifyRequest grid subject limits workers brief) output = IsCatalogueOf grid subject limits brief output
+-- the same of a beginning: of a catalogue as much as some first entries decide
+abbrev pub IsBegunGivenAnswer : Geometry → Header → Option (List ℕ) → List ℕ → Type 0
+IsBegunGivenAnswer g header None output = ⊤
+IsBegunGivenAnswer g header (Some input) output =
+    ((shapes : List (List Cell)) × AreGiven g input shapes × IsBegunCatalogue g header shapes output)
+    ⊎ ((line : ℕ) × (number : ℕ) × HasFault g input line number × (output ≡ bad_input_text line number))
+
+-- the status and the output are what the request asks for, over a source that has these bytes left
+abbrev pub IsOutput : Request → Option (List ℕ) → Status → List ℕ → Type 0
+IsOutput (ListRequest grid n workers) left status output = (status ≡ Done) × IsListing (geometry_of grid) n output
+IsOutput (PlainRequest grid n workers) left status output = (status ≡ Done) × IsPlainListing (geometry_of grid) n output
+IsOutput (ClassifyRequest grid (Size n) limits workers brief) left status output =
+    (status ≡ Done) × IsCatalogueOfSize (geometry_of grid) (header_of grid (Size n) limits brief) n output
+IsOutput (ClassifyRequest grid Given limits workers brief) left status output = IsGivenAnswer (geometry_of grid) (header_of grid Given limits brief) left status output
 
 -- the output is what the request asks to be written, or for a catalogue as much of it as some first entries decide
-abbrev pub IsBegunOutput : Request → List ℕ → Type 0
-IsBegunOutput (ListRequest grid n workers) output = IsListing (geometry_of grid) n output
-IsBegunOutput (PlainRequest grid n workers) output = IsPlainListing (geometry_of grid) n output
-IsBegunOutput (ClassifyRequest grid subject limits workers brief) output = IsBegunCatalogueOf grid subject limits brief output
+abbrev pub IsBegunOutput : Request → Option (List ℕ) → List ℕ → Type 0
+IsBegunOutput (ListRequest grid n workers) left output = IsListing (geometry_of grid) n output
+IsBegunOutput (PlainRequest grid n workers) left output = IsPlainListing (geometry_of grid) n output
+IsBegunOutput (ClassifyRequest grid (Size n) limits workers brief) left output = IsBegunCatalogueOfSize (geometry_of grid) (header_of grid (Size n) limits brief) n output
+IsBegunOutput (ClassifyRequest grid Given limits workers brief) left output = IsBegunGivenAnswer (geometry_of grid) (header_of grid Given limits brief) left output
 
--- the output is what the words ask to be written
-abbrev pub IsAnswer : List (List ℕ) → List ℕ → Type 0
-IsAnswer words output = (request : Request) × Asks words request × IsOutput request output
+-- the words ask for something that reads
+abbrev pub AreReading : List (List ℕ) → Type 0
+AreReading words = (request : Request) × Asks words request × Reads request
+
+-- the status and the output are what the words ask for
+abbrev pub IsAnswer : List (List ℕ) → Option (List ℕ) → Status → List ℕ → Type 0
+IsAnswer words left status output = (request : Request) × Asks words request × IsOutput request left status output
 
 -- the same of a beginning
-abbrev pub IsBegunAnswer : List (List ℕ) → List ℕ → Type 0
-IsBegunAnswer words output = (request : Request) × Asks words request × IsBegunOutput request output
+abbrev pub IsBegunAnswer : List (List ℕ) → Option (List ℕ) → List ℕ → Type 0
+IsBegunAnswer words left output = (request : Request) × Asks words request × IsBegunOutput request left output
 
--- Known bytes grow by what the words ask for.
-abbrev pub Writes : List (List ℕ) → Option (List ℕ) → Option (List ℕ) → Type 0
-Writes words old new = (output : List ℕ) × IsAnswer words output × Appends old new output
+-- Known bytes grow by what the words ask for, and this is the status.
+abbrev pub Writes : List (List ℕ) → Option (List ℕ) → Status → Option (List ℕ) → Option (List ℕ) → Type 0
+Writes words left status old new = (output : List ℕ) × IsAnswer words left status output × Appends old new output
 
 -- Known bytes stay as they were, or grow by a prefix of what the words ask for, in which no entry is asked of a shape that wasn't classified.
-abbrev pub WritesPrefix : List (List ℕ) → Option (List ℕ) → Option (List ℕ) → Type 0
-WritesPrefix words old new = Keeps old new ⊎ ((output : List ℕ) × IsBegunAnswer words output × AppendsPrefix old new output)
+abbrev pub WritesPrefix : List (List ℕ) → Option (List ℕ) → Option (List ℕ) → Option (List ℕ) → Type 0
+WritesPrefix words left old new = Keeps old new ⊎ ((output : List ℕ) × IsBegunAnswer words left output × AppendsPrefix old new output)
 
 -- ---- the headline
 

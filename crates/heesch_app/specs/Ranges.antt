@@ -1,15 +1,15 @@
 -- The ranges of a request's numbers.
-use Rattle.std.specs.Prelude.{◌≤◌}
+use Rattle.std.specs.Prelude.{◌≤◌, ⊤}
 use Rattle.heesch_cert.specs.declared.header.Subject.{Subject}
 use Rattle.heesch_cert.specs.declared.header.Subject.TheVariants.{Size, Given}
 use Rattle.heesch_cert.specs.Limits.{AreLimits}
 use Rattle.heesch_words.specs.declared.requests.Request.{Request}
 use Rattle.heesch_words.specs.declared.requests.Request.TheVariants.{List as ListRequest, Plain as PlainRequest, Classify as ClassifyRequest}
 
--- a size of 1 to 31 cells
+-- a size of 1 to 31 cells, or any shapes that are given
 abbrev pub IsSubjectInRange : Subject → Type 0
 IsSubjectInRange (Size n) = (1 ≤ n) × (n ≤ 31)
-IsSubjectInRange Given = ⊥
+IsSubjectInRange Given = ⊤
 
 -- its size is 1 to 31 cells, its workers are 1 to 64, and its limits lie in their ranges
 abbrev pub IsInRange : Request → Type 0

@@ -55,7 +55,7 @@ fn catalogue_of<G: Grid + Send + Sync, T: Threads + Sync, H: Gate + Sync>(
 }
 
 /// The catalogue text of these entries.
-fn text_of(alloc: Global, header: &Header, entries: &[Entry]) -> Result<Vec<u8>, NoMemory>
+pub fn text_of(alloc: Global, header: &Header, entries: &[Entry]) -> Result<Vec<u8>, NoMemory>
     ensures { IfOk result (λ text. text.items ≡ catalogue_text header.now entries.now) }
 {
     let Ok(count) = u32::try_from(entries.len()) else {

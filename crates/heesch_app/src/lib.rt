@@ -1,10 +1,15 @@
 //! What the program `heesch` does, over any source and any sink.
 #![tactic(auto)]
 
+mod bad_input;
 mod catalogue;
 mod entries;
+mod given;
+mod given_catalogue;
 mod listing;
 mod program;
+mod reading;
+mod reply;
 mod status;
 mod tilings;
 

@@ -1,15 +1,17 @@
-ghost use Rattle.std.specs.Prelude.{◌≡◌, ◌≢◌, ◌≤◌, ◌⊎◌, ℕ, map, string_bytes, IfOk};
-ghost use Rattle.heesch_io.specs.Causes.{Rose};
-ghost use Rattle.heesch_words.specs.Requests.{Asks};
-ghost use Rattle.heesch_cert.specs.Limits.{AreLimits};
+ghost use Rattle.std.specs.Prelude.{◌≡◌, ◌≢◌, ◌≤◌, ◌⊎◌, ℕ, map, string_bytes, IfOk, Err};
 ghost use Rattle.heesch_cert.specs.declared.limits.Limits.{Limits};
 ghost use Rattle.heesch_grid.specs.declared.GridName.{GridName};
-ghost use Rattle.heesch_app.specs.Outputs.{IsAccepted, IsOutput, IsCatalogueOf, Writes, WritesPrefix, AsksForCatalogue, IsCatalogued};
-ghost use Rattle.heesch_app.specs.Ranges.{IsInRange, IsSubjectInRange};
+ghost use Rattle.heesch_io.specs.Causes.{Rose};
+ghost use Rattle.heesch_words.specs.Requests.{Asks};
+ghost use Rattle.heesch_app.specs.Outputs.{IsAccepted, IsOutput, Reads, AreReading, Writes, WritesPrefix, AsksForCatalogue, IsCatalogued};
+ghost use Rattle.heesch_app.specs.Ranges.{IsInRange};
 
 use crate::Status;
 use crate::catalogue::catalogue;
+use crate::given_catalogue::given_catalogue;
 use crate::listing::listing;
+use crate::reading::{ReadStop, read_all};
+use crate::reply::Reply;
 use crate::tilings::plain_listing;
 use heesch_cert::{Header, Subject};
 use heesch_io::{Failed, NoMemory, Sink, Source, put};
@@ -33,58 +35,69 @@ pub fn run<T: Threads + Sync, R: Source, W: Sink, H: Gate + Sync>(
     ensures accepted { result ≢ Status.Usage → IsAccepted (map string_bytes words.now) }
     ensures untouched { result ≡ Status.Usage → sink.new ≡ sink.old }
 
-    // No form reads.
-    ensures unread { source.new ≡ source.old }
+    // Nothing is read by a form that reads nothing.
+    ensures unread { ¬ AreReading (map string_bytes words.now) → source.new ≡ source.old }
 
     ensures done { result ≡ Status.Done →
-        Writes (map string_bytes words.now) (W.held sink.old) (W.held sink.new) }
+        Writes (map string_bytes words.now) (R.left source.old) Status.Done (W.held sink.old) (W.held sink.new) }
     // The headline: whatever the grid, the size, the limits, the workers and the order of their steps, a full catalogue
     // that ends Done has every free polyform of the size once and in order, each with a true entry and a right verdict.
     ensures headline { result ≡ Status.Done → (grid : GridName) (n workers : ℕ) (limits : Limits)
         → AsksForCatalogue (map string_bytes words.now) grid n limits workers
         → IsCatalogued grid n limits (W.held sink.old) (W.held sink.new) }
+    ensures bad_input { result ≡ Status.BadInput →
+        Writes (map string_bytes words.now) (R.left source.old) Status.BadInput (W.held sink.old) (W.held sink.new) }
+    ensures read_fault { result ≡ Status.ReadFault → AreReading (map string_bytes words.now) × (sink.new ≡ sink.old) }
+    ensures read_cause { result ≡ Status.ReadFault → Rose (R.faults source.old) (R.faults source.new) }
     ensures write_fault { result ≡ Status.WriteFault →
-        WritesPrefix (map string_bytes words.now) (W.held sink.old) (W.held sink.new) }
+        WritesPrefix (map string_bytes words.now) (R.left source.old) (W.held sink.old) (W.held sink.new) }
     ensures write_cause { result ≡ Status.WriteFault → Rose (W.faults sink.old) (W.faults sink.new) }
     ensures no_memory { result ≡ Status.NoMemory →
-        WritesPrefix (map string_bytes words.now) (W.held sink.old) (W.held sink.new) }
+        WritesPrefix (map string_bytes words.now) (R.left source.old) (W.held sink.old) (W.held sink.new) }
 
-    // Where no count rose, what the words ask for is done, or memory was refused.
+    // Where no count rose, what the words ask for is done, or a fault of the input is told, or memory was refused.
     ensures complete { IsAccepted (map string_bytes words.now) →
-        (result ≡ Status.Done) ⊎ (result ≡ Status.NoMemory) ⊎ Rose (W.faults sink.old) (W.faults sink.new) }
+        (result ≡ Status.Done) ⊎ (result ≡ Status.BadInput) ⊎ (result ≡ Status.NoMemory)
+        ⊎ Rose (R.faults source.old) (R.faults source.new) ⊎ Rose (W.faults sink.old) (W.faults sink.new) }
 
     // No form that is built ends in another way.
     ensures no_invalid { result ≢ Status.Invalid }
-    ensures no_bad_input { result ≢ Status.BadInput }
-    ensures no_read_fault { result ≢ Status.ReadFault }
 {
     let request = match parse(words) {
         Ok(request) => request,
         Err(Usage) => return Status::Usage,
     };
-    let text = match answer(rt, alloc, request, gate) {
-        Ok(text) => text,
-        Err(NoMemory) => return Status::NoMemory,
+    let Reply { status, text } = match reply(rt, alloc, request, source, gate) {
+        Ok(reply) => reply,
+        Err(ReadStop::Failed) => return Status::ReadFault,
+        Err(ReadStop::NoMemory) => return Status::NoMemory,
     };
     match put(sink, &text) {
-        Ok(()) => Status::Done,
+        Ok(()) => status,
         Err(Failed) => Status::WriteFault,
     }
 }
 
-/// The text that a request asks for.
-fn answer<T: Threads + Sync, H: Gate + Sync>(
+/// The status and the text that a request asks for.
+fn reply<T: Threads + Sync, R: Source, H: Gate + Sync>(
     rt: &T,
     alloc: Global,
     request: Request,
+    source: &mut R,
     gate: &H,
-) -> Result<Vec<u8>, NoMemory>
+) -> Result<Reply, ReadStop>
     requires { IsInRange request }
-    ensures { IfOk result (λ text. IsOutput request text.items) }
+    ensures ok { IfOk result (λ r. IsOutput request (R.left source.old) r.status r.text.items) }
+    ensures failed { result ≡ Err ReadStop.Failed → Reads request × Rose (R.faults source.old) (R.faults source.new) }
+    ensures unread { ¬ Reads request → source.new ≡ source.old }
 {
     match request {
-        Request::List { grid, n, workers } => listing(rt, alloc, grid, n, workers, gate),
-        Request::Plain { grid, n, workers } => plain_listing(rt, alloc, grid, n, workers, gate),
+        Request::List { grid, n, workers } => {
+            Reply::done(listing(rt, alloc, grid, n, workers, gate))
+        }
+        Request::Plain { grid, n, workers } => {
+            Reply::done(plain_listing(rt, alloc, grid, n, workers, gate))
+        }
         Request::Classify {
             grid,
             subject,
@@ -98,26 +111,15 @@ fn answer<T: Threads + Sync, H: Gate + Sync>(
                 subject,
                 limits,
             };
-            classified(rt, alloc, &header, workers, gate)
+            match subject {
+                Subject::Size { n } => Reply::done(catalogue(rt, alloc, &header, n, workers, gate)),
+                Subject::Given => {
+                    let input = read_all(alloc, source)?;
+                    given_catalogue(rt, alloc, &header, &input, workers, gate).map_err(
+                        |_| ReadStop::NoMemory,
+                    )
+                }
+            }
         }
-    }
-}
-
-/// The catalogue text that a header asks for.
-fn classified<T: Threads + Sync, H: Gate + Sync>(
-    rt: &T,
-    alloc: Global,
-    header: &Header,
-    workers: u32,
-    gate: &H,
-) -> Result<Vec<u8>, NoMemory>
-    requires subject { IsSubjectInRange header.now.subject }
-    requires limits { AreLimits header.now.limits }
-    requires workers { (1 ≤ workers) × (workers ≤ 64) }
-    ensures { IfOk result (λ text. IsCatalogueOf header.now.grid header.now.subject header.now.limits header.now.brief text.items) }
-{
-    match header.subject {
-        Subject::Size { n } => catalogue(rt, alloc, header, n, workers, gate),
-        Subject::Given => unreachable!(),
     }
 }

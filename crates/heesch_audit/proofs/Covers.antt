@@ -1,5 +1,5 @@
 -- What the answer on a cover says, and places in range.
-use Rattle.std.proofs.Common.{◌≡◌, sym, ◌∙◌, List, All}
+use Rattle.std.proofs.Common.{sym, ◌∙◌, List, All}
 use Rattle.std.proofs.lemmas.List.Elements.{All-contains}
 use Rattle.heesch_grid.specs.declared.Cell.{Cell}
 use Rattle.heesch_grid.specs.declared.isometries.Iso.{Iso}

@@ -1,12 +1,11 @@
 -- The triples of the domains, one domain after the other.
-use Rattle.std.proofs.Common.{◌≡◌, sym, ap, subst, ◌∙◌, ℕ, ◌+◌, ◌*◌, ◌<◌, ◌≤◌, List, [], ◌∷◌, ◌++◌, map, length, Bool, true, false, ◌&&◌, ◌||◌, ◌==◌, inl, inr, arith, ◌⊎◌, All, Contains, eq-eqb, eqb-true, lt-ltb, ltb-true}
+use Rattle.std.proofs.Common.{◌≡◌, sym, ap, subst, ◌∙◌, ℕ, ◌+◌, ◌*◌, ◌<◌, ◌≤◌, List, [], ◌∷◌, ◌++◌, map, true, false, ◌&&◌, ◌==◌, inl, inr, arith, ◌⊎◌, All, Contains, eq-eqb, eqb-true, lt-ltb, ltb-true}
 use Rattle.std.specs.Prelude.{IsTrue, nat_lt, ◌↔◌}
 use Rattle.std.proofs.lemmas.Bool.{and_from, and_parts, or_cases, cases_lt, cases_Bool}
 use Rattle.std.proofs.lemmas.List.Elements.{All-append, All-nil, All-cons, All-head, All-contains, All-tail, All-weaker, Contains-append_left, Contains-append_right}
 use Rattle.std.proofs.Math.Nat.{mul-le-mul_left}
-use Rattle.heesch_grid.specs.declared.Cell.{Cell}
 use Rattle.heesch_grid.specs.Geometry.{Geometry, IsGrid}
-use Rattle.heesch_grid.specs.Lattice.{Triple, IsTripleOfDomain, triple_before}
+use Rattle.heesch_grid.specs.Lattice.{Triple, triple_before}
 use Rattle.heesch_grid.specs.Listing.{IsRising, ListsExactly}
 use Rattle.heesch_grid.specs.Pairs.{or-left, or-right}
 use Rattle.heesch_grid.proofs.ListFacts.{member_here, member_there, same_listing, All-from_members}

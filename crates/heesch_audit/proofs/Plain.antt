@@ -4,12 +4,11 @@ use Rattle.std.specs.Prelude.{◌↔◌, Option, Some, None}
 use Rattle.std.proofs.lemmas.Bool.{cases_lt}
 use Rattle.heesch_grid.specs.declared.Cell.{Cell}
 use Rattle.heesch_grid.specs.Geometry.{Geometry, IsGrid}
-use Rattle.heesch_grid.specs.Lattice.{Triple}
 use Rattle.heesch_grid.specs.Tiling.{Plain, Translation as PlainTranslation, HalfTurn as PlainHalfTurn, IsPlain, no_move, half_turned}
 use Rattle.heesch_grid.proofs.FromDefinitions.{plain_tilings_are_unique}
 use Rattle.heesch_cert.specs.declared.limits.Limits.{Limits}
 use Rattle.heesch_cert.specs.declared.tiling.Tiling.{Tiling}
-use Rattle.heesch_cert.specs.declared.verdict.Kind.TheVariants.{Translation, HalfTurn, Periodic}
+use Rattle.heesch_cert.specs.declared.verdict.Kind.TheVariants.{Translation, HalfTurn}
 use Rattle.heesch_cert.specs.TrueEntry.{HasNoPlain, IsAdmitted, IsOfKind}
 use Rattle.heesch_audit.specs.Plains.{IsNoneAdmitted, IsByTranslation, IsByHalfTurn}
 

@@ -1,5 +1,5 @@
 -- What the answers on logs say of proofs.
-use Rattle.std.proofs.Common.{◌≡◌, refl, sym, ap, subst, ◌∙◌, ℕ, ◌+◌, ◌-◌, ◌<◌, ◌≤◌, List, [], ◌∷◌, ◌++◌, map, length, arith, inl, inr, All, Result}
+use Rattle.std.proofs.Common.{◌≡◌, sym, subst, ◌∙◌, ℕ, ◌+◌, ◌-◌, ◌≤◌, List, [], length, arith, inl, inr, All, Result}
 use Rattle.std.specs.Prelude.{◌↔◌, ◌⊎◌, Option, Some, None, IfOk, Ok, Err}
 use Rattle.heesch_grid.specs.declared.Cell.{Cell}
 use Rattle.heesch_grid.specs.Clauses.{formula_size}
@@ -9,7 +9,7 @@ use Rattle.heesch_grid.specs.Polyform.{IsPolyform}
 use Rattle.heesch_cnf.specs.declared.literal.Lit.{Lit}
 use Rattle.heesch_cnf.specs.declared.log.Log.{Log}
 use Rattle.heesch_cnf.specs.declared.formula.Formula.{Formula}
-use Rattle.heesch_cnf.specs.Lines.{Refutes, IsSpent, LinesHold, LinesAreNew, HasFinal, FinalHolds, clauses_with}
+use Rattle.heesch_cnf.specs.Lines.{Refutes, IsSpent, LinesHold, LinesAreNew, HasFinal, clauses_with}
 use Rattle.heesch_cnf.specs.declared.log.Line.TheVariants.{Given}
 use Rattle.heesch_rup.specs.Answer.{FailsAtLine, FinalFails, IsFirstBad}
 use Rattle.heesch_cert.specs.declared.proof.Proof.{Proof}

@@ -9,7 +9,7 @@ use Rattle.std.specs.List.{AllZip}
 use Rattle.std.proofs.lemmas.List.Elements.{All-nil, All-cons, All-head, All-tail, All-weaker}
 use Rattle.heesch_grid.specs.declared.Cell.{Cell}
 use Rattle.heesch_grid.specs.declared.isometries.Iso.{Iso}
-use Rattle.heesch_grid.specs.Cells.{cell_cmp, cells_before, IsCellListOf}
+use Rattle.heesch_grid.specs.Cells.{cell_cmp, cells_before}
 use Rattle.heesch_grid.specs.Geometry.{Geometry, image}
 use Rattle.heesch_grid.specs.Listing.{IsRising}
 use Rattle.heesch_grid.specs.Placement.{IsLeastIsometry}
@@ -18,7 +18,7 @@ use Rattle.heesch_shape.specs.Order.{list_total}
 use Rattle.heesch_place.specs.Universes.{Placed}
 use Rattle.heesch_place.proofs.Moves.{one_cell_list}
 use Rattle.heesch_cert.specs.TrueEntry.{Spells}
-use Rattle.heesch_corona.specs.Tiles.{IsInRange, IsLayerOf, AreTilesOf}
+use Rattle.heesch_corona.specs.Tiles.{IsInRange, AreTilesOf}
 use Rattle.heesch_audit.specs.Near.{IsNearIso, AreNearLayers}
 use Rattle.heesch_audit.specs.Spelling.{IsSpelledAfter, tile_of}
 

@@ -1,5 +1,4 @@
 pub mod Near
-pub mod Answer
 pub mod Shapes
 pub mod Spelling
 pub mod Formulas

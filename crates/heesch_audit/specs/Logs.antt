@@ -7,7 +7,7 @@ use Rattle.heesch_cnf.specs.declared.log.Line.{Line}
 use Rattle.heesch_cnf.specs.declared.log.Log.{Log}
 use Rattle.heesch_cert.specs.declared.proof.Step.{Step}
 use Rattle.heesch_cert.specs.declared.proof.Proof.{Proof}
-use Rattle.heesch_cert.specs.Proofs.{IsLawfulStep, line_of_step, log_of, HasNoCut}
+use Rattle.heesch_cert.specs.Proofs.{IsLawfulStep, line_of_step, log_of}
 
 -- the step is lawful, and this is its line
 abbrev pub IsLineOf : Geometry → List Cell → ℕ → List Variable → Step → Line → Type 0

@@ -1,5 +1,5 @@
 -- How layers are spelled, isometry by isometry.
-use Rattle.std.specs.Prelude.{Bool, Option, Some, None, List, ◌++◌, All, option_to_list}
+use Rattle.std.specs.Prelude.{Bool, Option, Some, None, List, ◌++◌, option_to_list}
 use Rattle.std.specs.List.{AllZip}
 use Rattle.heesch_grid.specs.declared.Cell.{Cell}
 use Rattle.heesch_grid.specs.declared.isometries.Iso.{Iso}

@@ -19,12 +19,29 @@ pub(crate) fn run_into<T: Threads + Sync>(
     rt: &T,
     alloc: Global,
     line: &str,
+    sink: MemorySink,
+) -> Result<(Status, MemorySink), NoMemory> {
+    let source = MemorySource::new(Vec::new(alloc), 1, Vec::new(alloc));
+    run_over(rt, alloc, line, source, sink)
+}
+
+/// How a run of these words over a source ended, and what the sink holds after it.
+pub(crate) fn run_over<T: Threads + Sync>(
+    rt: &T,
+    alloc: Global,
+    line: &str,
+    mut source: MemorySource,
     mut sink: MemorySink,
 ) -> Result<(Status, MemorySink), NoMemory> {
     let words = words_of(alloc, line)?;
-    let mut source = MemorySource::new(Vec::new(alloc), 1, Vec::new(alloc));
     let status = run(rt, alloc, &words, &mut source, &mut sink, &Open);
     Ok((status, sink))
+}
+
+/// A source of these bytes, which gives at most 5 a call.
+pub(crate) fn bytes_of(alloc: Global, text: &str) -> Result<MemorySource, NoMemory> {
+    let bytes = text.as_bytes().to_vec(alloc)?;
+    Ok(MemorySource::new(bytes, 5, Vec::new(alloc)))
 }
 
 /// A sink with so much room.

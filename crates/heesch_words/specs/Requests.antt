@@ -25,7 +25,7 @@ IsSize grid n = (1 ≤ n) × (n ≤ most_cells grid)
 -- a catalogue is of the shapes of a size, or of those that are given
 abbrev pub IsSubject : GridName → Subject → Type 0
 IsSubject grid (Size n) = IsSize grid n
-IsSubject grid Given = ⊥
+IsSubject grid Given = ⊤
 
 -- the word of a subject: its number of cells, or `given`
 abbrev pub subject_word : Subject → List ℕ

@@ -47,7 +47,7 @@ pub enum Request {
 /// The forms, with the options that each takes, are
 ///
 /// - `list GRID N` and `plain GRID N`: `--workers`;
-/// - `classify GRID N`: `--workers`, `--turns`, `--levels`, `--domain`, `--size` and `--brief`.
+/// - `classify GRID N` and `classify GRID given`: `--workers`, `--turns`, `--levels`, `--domain`, `--size` and `--brief`.
 ///
 /// GRID is `square`, `hex` or `iamond`. N is 1 to 12 for `square`, 1 to 10 for `hex` and 1 to 15 for
 /// `iamond`.

@@ -30,6 +30,9 @@ pub fn subject_named(grid: GridName, word: &str) -> Result<Subject, Usage>
     ensures usage { OnErr result
         ((subject : Subject) → IsSubject grid subject → word.now ≢ subject_word subject) }
 {
+    if word == "given" {
+        return Ok(Subject::Given);
+    }
     let n = number(word, 1, most_cells(grid))? as u32;
     Ok(Subject::Size { n })
 }

@@ -6,8 +6,8 @@ use Rattle.heesch_app.proofs.Headline.{catalogued}
 use Rattle.heesch_app.proofs.Ranges.{asked_in_range}
 use Rattle.heesch_app.proofs.program.run.Goals as goal
 
-pub answer-requires-after_bounds : goal.answer-requires-after_bounds
-answer-requires-after_bounds g c κs within = asked_in_range (map string_bytes c.args.words.now) c.in-Ok.request c.in-Ok.ensures.ok
+pub reply-requires-after_bounds : goal.reply-requires-after_bounds
+reply-requires-after_bounds g c κs within = asked_in_range (map string_bytes c.args.words.now) c.in-Ok.request c.in-Ok.ensures.ok
 
 pub returns-in-Err-clause-refused : goal.returns-in-Err-clause-refused
 returns-in-Err-clause-refused g c = λ _ accepted. c.in-Err.ensures.usage accepted.0 accepted.1
@@ -15,14 +15,20 @@ returns-in-Err-clause-refused g c = λ _ accepted. c.in-Err.ensures.usage accept
 pub returns-in-Err-clause-complete : goal.returns-in-Err-clause-complete
 returns-in-Err-clause-complete g c = λ accepted. absurd (c.in-Err.ensures.usage accepted.0 accepted.1)
 
-pub returns-clause-write_fault : goal.returns-clause-write_fault
-returns-clause-write_fault g c = λ _.
-    let text = c.deref.result.now in
-    let output : IsOutput c.in-Ok.request text = subst (λ t. IsOutput c.in-Ok.request t) (sym c.deref.ensures.value) c.in-Ok-answer.ensures in
-    inr (text, (c.in-Ok.request, c.in-Ok.ensures.ok, begins_itself c.in-Ok.request text output), c.in-Err-put.ensures.err)
-
 pub returns-in-Ok-put-clause-headline : goal.returns-in-Ok-put-clause-headline
 returns-in-Ok-put-clause-headline g c = λ _ grid n workers limits asks.
+    let request = c.in-Ok.request in
+    let left = g.R.Source.left c.args.source.now in
+    let status = c.in-Ok-reply.reply.status in
     let text = c.deref.result.now in
-    let output : IsOutput c.in-Ok.request text = subst (λ t. IsOutput c.in-Ok.request t) (sym c.deref.ensures.value) c.in-Ok-answer.ensures in
-    catalogued (map string_bytes c.args.words.now) text _ _ grid n workers limits (c.in-Ok.request, c.in-Ok.ensures.ok, output) c.in-Ok-put.ensures.ok asks
+    let output : IsOutput request left status text = subst (λ t. IsOutput request left status t) (sym c.deref.ensures.value) c.in-Ok-reply.ensures.ok in
+    catalogued (map string_bytes c.args.words.now) left status text _ _ grid n workers limits (request, c.in-Ok.ensures.ok, output) c.in-Ok-put.ensures.ok asks
+
+pub returns-clause-write_fault : goal.returns-clause-write_fault
+returns-clause-write_fault g c = λ _.
+    let request = c.in-Ok.request in
+    let left = g.R.Source.left c.args.source.now in
+    let status = c.in-Ok-reply.reply.status in
+    let text = c.deref.result.now in
+    let output : IsOutput request left status text = subst (λ t. IsOutput request left status t) (sym c.deref.ensures.value) c.in-Ok-reply.ensures.ok in
+    inr (text, (request, c.in-Ok.ensures.ok, begins_itself request left status text output), c.in-Err-put.ensures.err)

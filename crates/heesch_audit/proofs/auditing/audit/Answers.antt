@@ -1,6 +1,6 @@
-use Rattle.std.proofs.Common.{◌≡◌, ◌∙◌, List, Option, ℕ, true, sym, subst, rules}
+use Rattle.std.proofs.Common.{◌≡◌, ◌∙◌, List, Option, ℕ, true, subst, rules}
 use Rattle.heesch_grid.specs.declared.Cell.{Cell}
-use Rattle.heesch_cert.specs.TrueEntry.{BareHolds, ClassesHold, CoverHolds, FormFits, FreeHolds, IsTrueEntry, OpenHolds, TriplesHold, WallHolds}
+use Rattle.heesch_cert.specs.TrueEntry.{BareHolds, ClassesHold, CoverHolds, FormFits, FreeHolds, OpenHolds, TriplesHold, WallHolds}
 use Rattle.heesch_cert.proofs.EntryRight.{true_entries_are_right}
 use Rattle.heesch_audit.specs.Shapes.{AreCanonical}
 use Rattle.heesch_audit.specs.Walls.{IsSearchFailure}

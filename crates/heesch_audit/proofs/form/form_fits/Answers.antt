@@ -15,4 +15,4 @@ returns-in-Search g c =
     let geometry = g.G.Grid.geometry in
     let arm = c.in-Search in
     subst (λ (e : Evidence). IsTrue c.search_fits.result ↔ FormFits geometry c.args.limits c.args.shape.now c.args.verdict e) (sym arm.is)
-    (through c.search_fits.ensures (form_search geometry c.args.limits c.requires.limits c.args.shape.now c.args.verdict arm.free arm.wall arm.bare arm.wider arm.triples, search_form geometry c.args.limits c.requires.limits c.args.shape.now c.args.verdict arm.free arm.wall arm.bare arm.wider arm.triples))
+    (through c.search_fits.ensures (form_search geometry c.args.limits c.args.shape.now c.args.verdict arm.free arm.wall arm.bare arm.wider arm.triples, search_form geometry c.args.limits c.args.shape.now c.args.verdict arm.free arm.wall arm.bare arm.wider arm.triples))

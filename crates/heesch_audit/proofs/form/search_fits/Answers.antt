@@ -1,6 +1,5 @@
-use Rattle.std.proofs.Common.{◌≡◌, false, true, rules, sym, ◌∙◌, true≢false}
+use Rattle.std.proofs.Common.{◌≡◌, true, rules}
 use Rattle.heesch_tiling.specs.PlainAnswer.{answered}
-use Rattle.heesch_audit.proofs.Equal.{refused}
 use Rattle.heesch_audit.proofs.Plain.{none_admitted}
 use Rattle.heesch_audit.proofs.form.search_fits.Goals as goal
 

@@ -1,6 +1,4 @@
-use Rattle.std.proofs.Common.{◌≡◌, List, Bool, true, false, length, sym, subst, ◌∙◌, true≢false}
-use Rattle.heesch_grid.specs.declared.Cell.{Cell}
-use Rattle.heesch_audit.specs.Shapes.{AreCanonical, IsCanonicalShape}
+use Rattle.std.proofs.Common.{◌≡◌, sym, ◌∙◌, true≢false}
 use Rattle.heesch_audit.proofs.Canonical.{are_canonical, canonical_shape, made_itself, no_fault}
 use Rattle.heesch_audit.proofs.Equal.{all_has, cells_equal}
 use Rattle.heesch_audit.proofs.shaped.canonical_shape.Goals as goal

@@ -1,4 +1,4 @@
-use Rattle.std.proofs.Common.{◌≡◌, ◌∙◌, Bool, is_lt, sym, ap, subst}
+use Rattle.std.proofs.Common.{◌≡◌, ◌∙◌, is_lt, sym, ap, subst}
 use Rattle.std.specs.Prelude.{◌↔◌, IsTrue, Option, MatchOption}
 use Rattle.heesch_grid.specs.Cells.{cells_before}
 use Rattle.heesch_grid.proofs.OrderFacts.{cells_less}

@@ -1,6 +1,5 @@
-use Rattle.std.proofs.Common.{◌≡◌, ◌∙◌, ◌+◌, ◌∷◌, List, Bool, true, false, get_or, drop, sym, subst, rules, true≢false}
-use Rattle.std.specs.Prelude.{◌↔◌, IsTrue, MatchOption}
-use Rattle.heesch_grid.specs.declared.Cell.{Cell}
+use Rattle.std.proofs.Common.{◌≡◌, ◌∙◌, ◌+◌, true, false, get_or, drop, sym, subst, rules, true≢false}
+use Rattle.std.specs.Prelude.{IsTrue}
 use Rattle.heesch_grid.specs.declared.isometries.Iso.{Iso}
 use Rattle.heesch_grid.specs.Cells.{cells_before}
 use Rattle.heesch_grid.specs.Tiling.{no_move}

@@ -1,6 +1,5 @@
-use Rattle.std.proofs.Common.{◌≡◌, ◌∙◌, ◌<◌, List, Bool, true, false, sym, ap, subst, rules, true≢false}
+use Rattle.std.proofs.Common.{◌≡◌, ◌∙◌, ◌<◌, List, sym, subst, rules, true≢false}
 use Rattle.heesch_grid.specs.declared.Cell.{Cell}
-use Rattle.heesch_grid.specs.declared.isometries.Iso.{Iso}
 use Rattle.heesch_grid.specs.Geometry.{image}
 use Rattle.heesch_grid.specs.Placement.{IsLeastIsometry}
 use Rattle.heesch_grid.proofs.SymmetryFacts.{least_isometries_are_unique}

@@ -1,8 +1,5 @@
-use Rattle.std.proofs.Common.{◌≡◌, ◌+◌, ◌-◌, ◌*◌, ◌≤◌, rules, arith, sym, subst, List}
-use Rattle.heesch_grid.specs.Lattice.{Triple}
-use Rattle.heesch_grid.specs.Listing.{ListsExactly}
-use Rattle.heesch_cert.specs.TrueEntry.{area_before}
-use Rattle.heesch_audit.specs.Domains.{IsAreaOf, IsTripleUpTo, NoAreaOf}
+use Rattle.std.proofs.Common.{◌-◌, ◌*◌, ◌≤◌, rules, arith}
+use Rattle.heesch_audit.specs.Domains.{IsAreaOf, NoAreaOf}
 use Rattle.heesch_audit.proofs.Listed.{begun, skipped}
 use Rattle.heesch_audit.proofs.triples.add_domain.Goals as goal
 

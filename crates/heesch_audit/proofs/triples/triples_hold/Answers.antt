@@ -1,13 +1,12 @@
 use Rattle.std.proofs.Common.{◌≡◌, ◌∙◌, Bool, true, false, List, map, length, sym, ap, subst, rules, All, true≢false}
 use Rattle.std.specs.Prelude.{◌↔◌, IsTrue}
 use Rattle.heesch_grid.specs.declared.Cell.{Cell}
-use Rattle.heesch_grid.specs.Lattice.{Triple}
 use Rattle.heesch_grid.specs.Listing.{ListsExactly}
 use Rattle.heesch_torus.specs.Domain.{HasDomain}
 use Rattle.heesch_cert.specs.declared.entry.Evidence.{Evidence}
 use Rattle.heesch_cert.specs.declared.entry.TripleProof.{TripleProof}
 use Rattle.heesch_cert.specs.Proofs.{SettlesTriple}
-use Rattle.heesch_cert.specs.TrueEntry.{area_before, IsUndecided, TriplesHold}
+use Rattle.heesch_cert.specs.TrueEntry.{area_before, TriplesHold}
 use Rattle.heesch_audit.specs.Domains.{IsTripleUpTo}
 use Rattle.heesch_audit.proofs.Equal.{refused}
 use Rattle.heesch_audit.proofs.Listed.{are_all, have_domains}

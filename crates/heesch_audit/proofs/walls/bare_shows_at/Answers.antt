@@ -1,4 +1,4 @@
-use Rattle.std.proofs.Common.{◌≡◌, ◌∙◌, ℕ, Bool, false, true, sym, subst, rules, true≢false}
+use Rattle.std.proofs.Common.{◌≡◌, ◌∙◌, ℕ, Bool, false, sym, subst, rules, true≢false}
 use Rattle.std.specs.Prelude.{◌↔◌, IfOk, IsTrue}
 use Rattle.heesch_cert.specs.declared.limits.Limits.{Limits}
 use Rattle.heesch_cert.specs.TrueEntry.{BareShows}

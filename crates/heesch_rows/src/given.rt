@@ -1,0 +1,85 @@
+//! `heesch classify GRID given`: shapes from input.
+use crate::running::{bytes_of, room, run_over};
+use heesch_app::Status;
+use heesch_io::MemorySource;
+use std::test::Fail;
+
+const HEADER: &str = "turns 20000 levels 3 domain 4 size 60000000";
+
+#[test]
+fn given_shapes_are_classified_in_their_order(rt: HostRuntime) -> Result<(), Fail> {
+    let alloc = rt.alloc();
+    for (grid, input, entries) in [
+        (
+            "square",
+            "0,0 1,0 2,0 0,1 2,1 0,2 1,2",
+            "shape 0,0 1,0 2,0 0,1 2,1 0,2 1,2\nverdict heesch 0 nontiler 1\ncoronas 0\nwall 1 refuted\nempty 9\nbare 1 same\nend 1\n",
+        ),
+        (
+            "hex",
+            "1,0 2,0 0,1 2,1 0,2 1,2\n",
+            "shape 1,0 2,0 0,1 2,1 0,2 1,2\nverdict heesch 0 nontiler 1\ncoronas 0\nwall 1 refuted\nempty 7\nbare 1 same\nend 1\n",
+        ),
+        (
+            "square",
+            "5,5 5,6 6,6 7,6 7,5\n",
+            "shape 0,0 1,0 2,0 0,1 2,1\nverdict tiles halfturn domain 2 classes 1\nlattice 10 1 3\ntile 0 0 0 class 1 by 0 0 0\ntile 2 5 0 class 1 by 2 5 0\nend 1\n",
+        ),
+        ("square", "", "end 0\n"),
+    ] {
+        let line = format!(in alloc; "classify {grid} given")?;
+        let (status, sink) = run_over(
+            &rt,
+            alloc,
+            &line,
+            bytes_of(alloc, input)?,
+            room(alloc, 1_000)?,
+        )?;
+        let text = format!(in alloc; "heesch 1 {grid} given {HEADER}\n{entries}")?;
+        assert_eq!(rt; status, Status::Done, "{input}");
+        assert_eq!(rt; sink.held.as_slice(), text.as_bytes(), "{input}");
+    }
+    Ok(())
+}
+
+#[test]
+fn the_first_fault_is_told(rt: HostRuntime) -> Result<(), Fail> {
+    let alloc = rt.alloc();
+    for (grid, input, told) in [
+        ("square", "0,0 1,0\n0,0 1,0 0,0\n", "bad input 2 4\n"),
+        ("square", "0,0 2,0\n", "bad input 1 5\n"),
+        ("square", "0,0\n\n", "bad input 2 1\n"),
+        ("square", "0,0 \n", "bad input 1 6\n"),
+        ("square", "0,0\n0,0 5,5\nxx\n", "bad input 2 5\n"),
+        ("iamond", "2,1\n", "bad input 1 3\n"),
+    ] {
+        let line = format!(in alloc; "classify {grid} given")?;
+        let (status, sink) = run_over(
+            &rt,
+            alloc,
+            &line,
+            bytes_of(alloc, input)?,
+            room(alloc, 100)?,
+        )?;
+        assert_eq!(rt; status, Status::BadInput, "{input}");
+        assert_eq!(rt; sink.held.as_slice(), told.as_bytes(), "{input}");
+    }
+    Ok(())
+}
+
+#[test]
+fn a_source_that_fails_writes_nothing(rt: HostRuntime) -> Result<(), Fail> {
+    let alloc = rt.alloc();
+    let bytes = "0,0 1,0\n".as_bytes().to_vec(alloc)?;
+    let source = MemorySource::new(bytes, 5, [2].to_vec(alloc)?);
+    let (status, sink) = run_over(
+        &rt,
+        alloc,
+        "classify square given",
+        source,
+        room(alloc, 100)?,
+    )?;
+    assert_eq!(rt; status, Status::ReadFault);
+    assert_eq!(rt; sink.calls, 0);
+    Ok(())
+}
