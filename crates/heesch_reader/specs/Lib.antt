@@ -1,0 +1,6 @@
+pub mod Faults
+pub mod Feeding
+pub mod Items
+pub mod Parts
+pub mod Progress
+pub mod Scanning

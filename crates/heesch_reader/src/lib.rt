@@ -1,0 +1,16 @@
+//! A catalogue read in whatever pieces its bytes come.
+#![tactic(auto)]
+
+mod item;
+pub mod laws;
+mod progress;
+mod reader;
+mod scan;
+mod scanning;
+#[cfg(test)]
+mod tests;
+
+pub use item::{Item, Part, Stop};
+pub use progress::Progress;
+pub use reader::Reader;
+pub use scan::Appended;
