@@ -1,7 +1,7 @@
 #!/usr/bin/env bash
 # Compares the solver with a plain Rust solver of the same kind (solver.rs) on corona formulas of level 2 of the
 # octominoes without a plain tiling, or of the first N of them: `solver.sh [N]`. A line for each formula, of the Rattle
-# solver, of the plain one that scans all clauses as it does, and of the plain one with two watched literals.
+# solver, of the plain one that scans all clauses, and of the plain one with two watched literals as it has.
 # Build the program first: (cd crates/heesch && rt run -- list square 4).
 set -eu
 cd "$(dirname "$0")"
