@@ -1,6 +1,8 @@
 //! A plain solver that learns clauses, to compare with: `solver scan|count|watch true|false J < SHAPES`, a shape a
 //! line as `0,0 1,0`, over its corona formula of level J. `scan` looks at all clauses in order after each assignment and
-//! takes the first that is unit; `count` finds that clause by counters; `watch` propagates by two watched literals, as heesch_trail does; `emit` prints the formulas for solver.sh. Decisions, analysis and phases are those of heesch_cdcl.
+//! takes the first that is unit; `count` finds that clause by counters; `watch` propagates by two watched literals, as
+//! heesch_trail does; `emit` prints the formulas for solver.sh. Decisions, analysis with the shortening of learnt clauses,
+//! and phases are those of heesch_cdcl.
 use std::collections::{BTreeSet, HashMap, HashSet};
 use std::io::BufRead;
 use std::time::Instant;
@@ -154,9 +156,12 @@ struct Solver {
     satisfied: Vec<u32>,
     left: Vec<u32>,
     ready: BTreeSet<usize>,
+    literals: usize,
+    hints: usize,
 }
 
 const NONE: usize = usize::MAX;
+const DEPTH: usize = 500;
 
 fn slot(l: i32) -> usize {
     2 * l.unsigned_abs() as usize + (l < 0) as usize
@@ -186,6 +191,8 @@ impl Solver {
             satisfied: vec![],
             left: vec![],
             ready: BTreeSet::new(),
+            literals: 0,
+            hints: 0,
         };
         s.stamp[0] = 0;
         s
@@ -364,49 +371,76 @@ impl Solver {
         self.stamp[v] = self.clock;
     }
 
-    fn analyse(&mut self, conflict: usize) -> (Vec<i32>, usize) {
+    /// The variables of a clause are seen too, in number order; how many of them are new, and of the level.
+    fn see(&self, clause: usize, level: usize, seen: &mut [bool], touched: &mut Vec<usize>) -> usize {
+        let mut vars: Vec<usize> = self.clauses[clause].iter().map(|l| l.unsigned_abs() as usize).collect();
+        vars.sort();
+        vars.retain(|&v| !seen[v]);
+        for &v in &vars {
+            seen[v] = true;
+            touched.push(v);
+        }
+        vars.iter().filter(|&&v| self.level_of[v] == level).count()
+    }
+
+    /// Whether a variable follows from those that are seen and from level 0, by at most `depth` reasons in a row.
+    fn follows(&self, seen: &[bool], known: &mut [Option<bool>], v: usize, depth: usize) -> bool {
+        if let Some(verdict) = known[v] {
+            return verdict;
+        }
+        if depth == 0 || self.reason[v] == NONE {
+            return false;
+        }
+        let all = self.clauses[self.reason[v]].iter().all(|l| {
+            let w = l.unsigned_abs() as usize;
+            w == v || seen[w] || self.level_of[w] == 0 || self.follows(seen, known, w, depth - 1)
+        });
+        known[v] = Some(all);
+        all
+    }
+
+    /// The clause of the first unique implication point, without what follows from its other literals and from level 0; its
+    /// hints, in the order of the assignments; and the level to go back to.
+    fn analyse(&mut self, conflict: usize) -> (Vec<i32>, Vec<usize>, usize) {
         let level = self.starts.len();
         let mut seen = vec![false; self.vars + 1];
-        let (mut touched, mut pending) = (vec![], 0);
-        let mut clause = conflict;
+        let (mut touched, mut hints) = (vec![], vec![conflict]);
+        let mut pending = self.see(conflict, level, &mut seen, &mut touched);
         let mut place = self.made.len();
-        loop {
-            let mut lits = self.clauses[clause].clone();
-            lits.sort_by_key(|l| l.abs());
-            for l in lits {
-                let v = l.unsigned_abs() as usize;
-                if !seen[v] {
-                    seen[v] = true;
-                    touched.push(v);
-                    if self.level_of[v] == level {
-                        pending += 1;
-                    }
-                }
-            }
-            if clause != conflict {
-                seen[self.made[place].unsigned_abs() as usize] = false;
+        while pending > 1 {
+            place -= 1;
+            let v = self.made[place].unsigned_abs() as usize;
+            if seen[v] {
+                hints.push(self.reason[v]);
+                pending += self.see(self.reason[v], level, &mut seen, &mut touched);
+                seen[v] = false;
                 pending -= 1;
             }
-            if pending <= 1 {
-                break;
-            }
-            loop {
-                place -= 1;
-                if seen[self.made[place].unsigned_abs() as usize] {
-                    break;
+        }
+        let mut known = vec![None; self.vars + 1];
+        let mut passed = hints.len();
+        while place > 0 && passed < touched.len() {
+            place -= 1;
+            let v = self.made[place].unsigned_abs() as usize;
+            if seen[v] && self.level_of[v] < level {
+                passed += 1;
+                if self.follows(&seen, &mut known, v, DEPTH) {
+                    hints.push(self.reason[v]);
+                    self.see(self.reason[v], level, &mut seen, &mut touched);
+                    seen[v] = false;
                 }
             }
-            clause = self.reason[self.made[place].unsigned_abs() as usize];
         }
+        hints.reverse();
         let vars: Vec<usize> = touched.iter().copied().filter(|&v| seen[v]).collect();
         for v in touched {
             self.bump(v);
         }
         let back = vars.iter().map(|&v| self.level_of[v]).filter(|&k| k < level).max().unwrap_or(0);
-        (vars.iter().map(|&v| -(self.value[v] as i32) * v as i32).collect(), back)
+        (vars.iter().map(|&v| -(self.value[v] as i32) * v as i32).collect(), hints, back)
     }
 
-    /// Whether there is a model, and the number of conflicts.
+    /// Whether there is a model, and the number of conflicts; `literals` and `hints` are those learnt.
     fn run(&mut self, most: usize) -> (Option<bool>, usize) {
         let mut conflicts = 0;
         loop {
@@ -418,7 +452,9 @@ impl Solver {
                     return (None, conflicts);
                 }
                 conflicts += 1;
-                let (clause, back) = self.analyse(c);
+                let (clause, hints, back) = self.analyse(c);
+                self.literals += clause.len();
+                self.hints += hints.len();
                 self.back_to(back);
                 if clause.len() == 1 && !self.scan {
                     self.assign(clause[0], self.clauses.len());
@@ -490,6 +526,7 @@ fn main() {
             }
         }
         let (answer, conflicts) = s.run(20000);
-        println!("{vars} {count} {literals}: {answer:?} conflicts {conflicts} {:.2?}", start.elapsed());
+        let took = start.elapsed();
+        println!("{vars} {count} {literals}: {answer:?} conflicts {conflicts} literals {} hints {} {took:.2?}", s.literals, s.hints);
     }
 }

@@ -1,12 +1,15 @@
 -- The first fault of a list text.
 use Rattle.std.proofs.Common.{◌≡◌, ℕ, suc, ◌<◌, ◌≤◌, List, [], ◌∷◌, ◌++◌, length, map, take, drop, get_or, sym, ap, ◌∙◌, arith, inl, inr, append_assoc, append-nil}
 use Rattle.std.specs.Prelude.{Option, Some, None, All}
-use Rattle.std.specs.List.{AllByRecursion}
+use Rattle.std.specs.List.{AllByRecursion, AllZip}
+use Rattle.std.proofs.lemmas.List.Elements.{All-cons}
 use Rattle.std.proofs.Math.Seq.{drop-cons}
 use Rattle.std.proofs.lemmas.List.{take-append-drop, map-append, length-take-le}
-use Rattle.std.proofs.ByRecursion.{All-take}
+use Rattle.std.proofs.ByRecursion.{All-take, All-get_or}
 use Rattle.heesch_grid.specs.declared.Cell.{Cell}
-use Rattle.heesch_grid.specs.Geometry.{Geometry}
+use Rattle.heesch_grid.specs.Geometry.{Geometry, IsGrid}
+use Rattle.heesch_grid.specs.Polyform.{IsCanonicalListOf}
+use Rattle.heesch_grid.proofs.GrowthOfLists.{canonical_of_image}
 use Rattle.heesch_line.specs.declared.list.ListStop.{ListStop}
 use Rattle.heesch_line.specs.declared.list.ListStop.TheVariants as lists
 use Rattle.heesch_line.specs.Lists.{AreCells, AreRead, lines_of}
@@ -15,7 +18,7 @@ use Rattle.heesch_text.specs.Fields.{cells_text}
 use Rattle.heesch_app.specs.declared.given.GivenStop.{GivenStop}
 use Rattle.heesch_app.specs.declared.given.GivenStop.TheVariants.{Fault, NoMemory}
 use Rattle.heesch_app.specs.Given.{IsFirstFault, IsGivenStop, IsListStop, IsShapeStop}
-use Rattle.heesch_app.specs.Inputs.{HasShapeFault}
+use Rattle.heesch_app.specs.Inputs.{HasShapeFault, IsCanonicalOf}
 
 -- a list parts at a place
 parted : (shapes : List (List Cell)) (i : ℕ) → i < length shapes → shapes ≡ take i shapes ++ get_or shapes i [] ∷ drop (suc i) shapes
@@ -60,6 +63,7 @@ first_fault g text shapes line number b f =
         lines = lines_parted text shapes f.place b.rest f.below b.lines;
         cells = All-take AreCells f.place shapes b.cells;
       };
+      cells_are = All-get_or AreCells shapes f.place [] f.below b.cells;
       shapes = f.before;
       in_time = omega (arith, many, f.below, b.most);
       fault = f.fault;
@@ -78,3 +82,11 @@ pub list_stop : (g : Geometry) (text : List ℕ) (shapes : List (List Cell)) (st
 list_stop g text shapes stop (Fault line number) read faultless is =
     inr (record { given = shapes; stop = stop; stops = read; shapes = faultless; line_is = is.0; number_is = is.1 })
 list_stop g text shapes stop NoMemory read faultless is = tt
+
+-- what is the canonical list of a given shape is its own canonical list
+pub given_are_canonical : (g : Geometry) (law : IsGrid g) (given shapes : List (List Cell)) → AllZip (IsCanonicalOf g) given shapes → All (λ s. IsCanonicalListOf g s s) shapes
+given_are_canonical g law [] [] all = λ k d less. absurd (omega (arith, less))
+given_are_canonical g law (cells ∷ given) (s ∷ shapes) (is, all) =
+    All-cons (λ x. IsCanonicalListOf g x x) s shapes (canonical_of_image g law is.shape s s is.polyform.is_set.rising is.is_canonical.is_image is.is_canonical) (given_are_canonical g law given shapes all)
+given_are_canonical g law [] (s ∷ shapes) all = absurd all
+given_are_canonical g law (cells ∷ given) [] all = absurd all

@@ -10,12 +10,12 @@ use Rattle.heesch_grid.specs.Polyform.{IsFreeList}
 use Rattle.heesch_words.specs.declared.requests.Request.TheVariants.{Classify as ClassifyRequest}
 use Rattle.heesch_words.proofs.Forms.{one_request}
 use Rattle.heesch_app.specs.declared.status.Status.{Status}
-use Rattle.heesch_app.specs.Catalogues.{IsCatalogueOfSize}
+use Rattle.heesch_catalogue.specs.Catalogues.{IsCatalogueOfSize}
 use Rattle.heesch_app.specs.Outputs.{IsOutput, IsAnswer, header_of, AsksForCatalogue, IsCatalogued}
 
 entries_catalogued : (grid : GridName) (n : ℕ) (limits : Limits) (text : List ℕ) (old new : Option (List ℕ))
     → IsCatalogueOfSize (geometry_of grid) (header_of grid (Size n) limits false) n text → Appends old new text → IsCatalogued grid n limits old new
-entries_catalogued grid n limits text old new (shapes, free, (entries, are, is)) appends = record {
+entries_catalogued grid n limits text old new (shapes, free, (entries, are, readable, is)) appends = record {
   entries = entries;
   every_shape = subst (λ ss. IsFreeList (geometry_of grid) n ss) (sym are.of_shapes) free;
   are_true = are.are_true;

@@ -1,9 +1,9 @@
 mod Beginnings
-mod EntryLists
 mod GivenLists
+mod GivenOnce
 mod Headline
-mod LimitTests
 mod PlainAnswers
 mod PlainLines
 mod Ranges
 mod ReadingLaws
+mod ValidOutputs

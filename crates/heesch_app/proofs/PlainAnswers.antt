@@ -1,5 +1,5 @@
 -- The answers of a job on each shape, as the plain tilings of a list.
-use Rattle.std.proofs.Common.{◌≡◌, ℕ, List, length, get_or, Option, Result, Ok, Err, IfOk, sym, subst, arith, inl, inr}
+use Rattle.std.proofs.Common.{◌≡◌, ℕ, List, length, get_or, Option, sym, subst, arith, inl, inr}
 use Rattle.std.specs.Prelude.{Some, slice_get}
 use Rattle.std.proofs.lemmas.Option.{slice_get_cases, get_or_from_slice_get}
 use Rattle.heesch_grid.specs.declared.Cell.{Cell}
@@ -8,11 +8,6 @@ use Rattle.heesch_grid.specs.Tiling.{IsPlain}
 use Rattle.heesch_tiling.specs.declared.found.Plain.{Plain}
 use Rattle.heesch_tiling.specs.PlainAnswer.{answered}
 use Rattle.heesch_app.specs.Tilings.{ArePlain}
-
--- two facts of an answer give a third
-pub if_both : {T E : Type 0} {P Q S : T → Type 0} (r : Result T E) → ((x : T) → P x → Q x → S x) → IfOk r P → IfOk r Q → IfOk r S
-if_both (Ok x) f p q = f x p q
-if_both (Err e) f p q = p
 
 -- as many answers as shapes, each on the shape of its place
 pub plain_each : (g : Geometry) (shapes : List (List Cell)) (tilings : List (Option Plain)) → length tilings ≡ length shapes → ((i : ℕ) (x : Option Plain) → slice_get tilings i ≡ Some x → (d : List Cell) → IsPlain g (get_or shapes i d) (answered x)) → ArePlain g shapes tilings

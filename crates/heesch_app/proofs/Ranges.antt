@@ -4,7 +4,7 @@ use Rattle.heesch_cert.specs.declared.header.Subject.TheVariants.{Size, Given}
 use Rattle.heesch_grid.specs.declared.GridName.{GridName}
 use Rattle.heesch_grid.specs.declared.GridName.TheVariants.{Square, Hex, Iamond}
 use Rattle.heesch_words.specs.declared.requests.Request.{Request}
-use Rattle.heesch_words.specs.declared.requests.Request.TheVariants.{List as ListRequest, Plain as PlainRequest, Classify as ClassifyRequest}
+use Rattle.heesch_words.specs.declared.requests.Request.TheVariants.{List as ListRequest, Plain as PlainRequest, Classify as ClassifyRequest, Check as CheckRequest, Table as TableRequest, Sample as SampleRequest}
 use Rattle.heesch_words.specs.Requests.{Asks, most_cells}
 use Rattle.heesch_words.proofs.Ranges.{asked_in_range as words_in_range}
 use Rattle.heesch_app.specs.Ranges.{IsInRange}
@@ -27,3 +27,8 @@ asked_in_range words (ClassifyRequest grid (Size n) limits workers brief) asks =
 asked_in_range words (ClassifyRequest grid Given limits workers brief) asks =
     let (_, limits_are, some, few) = words_in_range words (ClassifyRequest grid Given limits workers brief) asks in
     (tt, limits_are, some, few)
+asked_in_range words (CheckRequest workers) asks = words_in_range words (CheckRequest workers) asks
+asked_in_range words TableRequest asks = tt
+asked_in_range words (SampleRequest grid n count seed limits workers) asks =
+    let (sample, limits_are, some, few) = words_in_range words (SampleRequest grid n count seed limits workers) asks in
+    (sample.cells.0, sample.cells.1, sample.shapes.1, limits_are, some, few)

@@ -3,7 +3,7 @@ use Rattle.std.proofs.Common.{ℕ, ◌≤◌, List, [], ◌++◌, sym, ap, ◌�
 use Rattle.std.specs.Prelude.{Option, Some, None}
 use Rattle.std.specs.Io.KnownBytes.{Consumes, IsAtEnd}
 use Rattle.heesch_io.specs.Causes.{Rose}
-use Rattle.heesch_app.specs.Reading.{IsAllOf}
+use Rattle.heesch_stream.specs.Input.{IsAllOf}
 
 -- known bytes lose what two reads give
 pub consumes_both : (old between new : Option (List ℕ)) (xs ys : List ℕ) → Consumes old between xs → Consumes between new ys → Consumes old new (xs ++ ys)

@@ -7,7 +7,7 @@ use Rattle.heesch_grid.specs.Geometry.{Geometry}
 use Rattle.heesch_grid.specs.Polyform.{IsPolyform, IsCanonicalListOf}
 use Rattle.heesch_line.specs.declared.list.ListStop.{ListStop}
 use Rattle.heesch_line.specs.declared.list.ListStop.TheVariants.{NotText, TooManyShapes, NoMemory}
-use Rattle.heesch_line.specs.Lists.{IsListText, GoesOn, StopsAfter}
+use Rattle.heesch_line.specs.Lists.{AreCells, IsListText, GoesOn, StopsAfter}
 use Rattle.heesch_shape.specs.declared.faults.ShapeFault.{ShapeFault}
 use Rattle.heesch_shape.specs.Faults.{IsFault, IsFaultless, number_of}
 use Rattle.heesch_text.specs.Fields.{cells_text}
@@ -24,6 +24,7 @@ pub record IsCanonicalOf (g : Geometry) (cells canonical : List Cell) : Type 0 w
 pub record AreGiven (g : Geometry) (text : List ℕ) (shapes : List (List Cell)) : Type 0 where
   pub given : List (List Cell)
   pub listed : IsListText text given
+  pub are_shapes : All (IsFaultless g) given
   pub canonical : AllZip (IsCanonicalOf g) given shapes
 
 -- the number of a list text's own fault
@@ -43,6 +44,7 @@ pub record HasShapeFault (g : Geometry) (text : List ℕ) (line number : ℕ) : 
   pub given : List (List Cell)
   pub cells : List Cell
   pub goes_on : GoesOn text given (cells_text cells)
+  pub cells_are : AreCells cells
   pub shapes : All (IsFaultless g) given
   pub in_time : length given < 10000
   pub fault : ShapeFault
@@ -66,3 +68,7 @@ HasFault g text line number = HasShapeFault g text line number ⊎ HasListFault 
 -- `bad input LINE FAULT`
 abbrev pub bad_input_text : ℕ → ℕ → List ℕ
 bad_input_text line number = codes "bad input " ++ decimal line ++ codes " " ++ decimal number ++ codes "\n"
+
+-- no text is both a list of shapes and at fault
+abbrev pub ListsHaveNoFault : Type 0
+ListsHaveNoFault = (g : Geometry) (text : List ℕ) (shapes : List (List Cell)) (line number : ℕ) → AreGiven g text shapes → HasFault g text line number → ⊥

@@ -1,8 +1,7 @@
-pub mod Catalogues
-pub mod Entries
+pub mod Checks
 pub mod Given
 pub mod Inputs
 pub mod Outputs
 pub mod Ranges
-pub mod Reading
+pub mod Tables
 pub mod Tilings

@@ -1,5 +1,5 @@
 -- What a run writes, by its words.
-use Rattle.std.specs.Prelude.{◌≡◌, ℕ, Bool, false, List, map, Option, Some, None, ◌⊎◌, All, ⊤}
+use Rattle.std.specs.Prelude.{◌≡◌, ℕ, Bool, false, List, map, Option, ◌⊎◌, All, ⊤}
 use Rattle.std.specs.Io.KnownBytes.{Appends, Keeps}
 use Rattle.heesch_io.specs.Contents.{AppendsPrefix}
 use Rattle.heesch_cert.specs.declared.entry.Entry.{Entry}
@@ -19,13 +19,21 @@ use Rattle.heesch_text.specs.Plains.{plain_list_text}
 use Rattle.heesch_text.specs.Shapes.{list_text}
 use Rattle.heesch_tiling.specs.declared.found.Plain.{Plain}
 use Rattle.heesch_words.specs.declared.requests.Request.{Request}
-use Rattle.heesch_words.specs.declared.requests.Request.TheVariants.{List as ListRequest, Plain as PlainRequest, Classify as ClassifyRequest}
+use Rattle.heesch_words.specs.declared.requests.Request.TheVariants.{List as ListRequest, Plain as PlainRequest, Classify as ClassifyRequest, Check as CheckRequest, Table as TableRequest, Sample as SampleRequest}
 use Rattle.heesch_words.specs.Requests.{Asks}
 use Rattle.heesch_app.specs.declared.status.Status.{Status}
 use Rattle.heesch_app.specs.declared.status.Status.TheVariants.{Done, BadInput}
-use Rattle.heesch_app.specs.Catalogues.{IsCatalogue, IsBegunCatalogue, IsCatalogueOfSize, IsBegunCatalogueOfSize}
+use Rattle.heesch_catalogue.specs.Catalogues.{IsCatalogue, IsBegunCatalogue, IsCatalogueOfSize, IsBegunCatalogueOfSize}
 use Rattle.heesch_app.specs.Inputs.{AreGiven, HasFault, bad_input_text}
+use Rattle.heesch_app.specs.Checks.{check_status, check_text}
+use Rattle.heesch_app.specs.Tables.{table_status, table_text}
 use Rattle.heesch_app.specs.Tilings.{ArePlain}
+use Rattle.heesch_check.specs.Answers.{IsChecked, IsValid}
+use Rattle.heesch_check.specs.declared.answers.Checked.{Checked}
+use Rattle.heesch_sample.specs.Samples.{IsSample}
+use Rattle.heesch_stream.specs.Input.{IsAllOf}
+use Rattle.heesch_tabulate.specs.declared.answers.Tabulated.{Tabulated}
+use Rattle.heesch_tabulate.specs.Tabulating.{IsTabulated}
 
 -- The words have one of the forms.
 abbrev pub IsAccepted : List (List ℕ) → Type 0
@@ -46,21 +54,33 @@ header_of grid subject limits brief = record { brief = brief; grid = grid; subje
 -- the request reads what the source has left
 abbrev pub Reads : Request → Type 0
 Reads (ClassifyRequest grid Given limits workers brief) = ⊤
+Reads (CheckRequest workers) = ⊤
+Reads TableRequest = ⊤
 Reads _ = ⊥
 
--- what is answered of a list text: the catalogue text of its shapes, or its first fault; nothing is said where the source doesn't tell its bytes
-abbrev pub IsGivenAnswer : Geometry → Header → Option (List ℕ) → Status → List ℕ → Type 0
-IsGivenAnswer g header None status output = (status ≡ Done) ⊎ (status ≡ BadInput)
-IsGivenAnswer g header (Some input) status output =
+-- this holds of the bytes that the source had left, or of some bytes where it doesn't tell them
+abbrev pub OfInput : Option (List ℕ) → (List ℕ → Type 0) → Type 0
+OfInput left P = (input : List ℕ) × IsAllOf left input × P input
+
+-- what is answered of a list text: the catalogue text of its shapes, or its first fault
+abbrev pub IsGivenAnswer : Geometry → Header → Status → List ℕ → List ℕ → Type 0
+IsGivenAnswer g header status output input =
     ((status ≡ Done) × ((shapes : List (List Cell)) × AreGiven g input shapes × IsCatalogue g header shapes output))
     ⊎ ((status ≡ BadInput) × ((line : ℕ) × (number : ℕ) × HasFault g input line number × (output ≡ bad_input_text line number)))
 
 -- the same of a beginning: of a catalogue as much as some first entries decide
-abbrev pub IsBegunGivenAnswer : Geometry → Header → Option (List ℕ) → List ℕ → Type 0
-IsBegunGivenAnswer g header None output = ⊤
-IsBegunGivenAnswer g header (Some input) output =
+abbrev pub IsBegunGivenAnswer : Geometry → Header → List ℕ → List ℕ → Type 0
+IsBegunGivenAnswer g header output input =
     ((shapes : List (List Cell)) × AreGiven g input shapes × IsBegunCatalogue g header shapes output)
     ⊎ ((line : ℕ) × (number : ℕ) × HasFault g input line number × (output ≡ bad_input_text line number))
+
+-- what is answered to `check` of the bytes: that they are a valid catalogue, or their first invalid part
+abbrev pub IsCheckAnswer : Status → List ℕ → List ℕ → Type 0
+IsCheckAnswer status output input = (checked : Checked) × IsChecked input checked × (status ≡ check_status checked) × (output ≡ check_text checked)
+
+-- what is answered to `table` of the bytes that the source had left: the tally of a catalogue, or the first fault
+abbrev pub IsTableAnswer : Option (List ℕ) → Status → List ℕ → Type 0
+IsTableAnswer left status output = (told : Tabulated) × IsTabulated left told × (status ≡ table_status told) × (output ≡ table_text told)
 
 -- the status and the output are what the request asks for, over a source that has these bytes left
 abbrev pub IsOutput : Request → Option (List ℕ) → Status → List ℕ → Type 0
@@ -68,14 +88,16 @@ IsOutput (ListRequest grid n workers) left status output = (status ≡ Done) × 
 IsOutput (PlainRequest grid n workers) left status output = (status ≡ Done) × IsPlainListing (geometry_of grid) n output
 IsOutput (ClassifyRequest grid (Size n) limits workers brief) left status output =
     (status ≡ Done) × IsCatalogueOfSize (geometry_of grid) (header_of grid (Size n) limits brief) n output
-IsOutput (ClassifyRequest grid Given limits workers brief) left status output = IsGivenAnswer (geometry_of grid) (header_of grid Given limits brief) left status output
+IsOutput (ClassifyRequest grid Given limits workers brief) left status output = OfInput left (IsGivenAnswer (geometry_of grid) (header_of grid Given limits brief) status output)
+IsOutput (CheckRequest workers) left status output = OfInput left (IsCheckAnswer status output)
+IsOutput TableRequest left status output = IsTableAnswer left status output
+IsOutput (SampleRequest grid n count seed limits workers) left status output = (status ≡ Done) × IsSample (geometry_of grid) n count seed limits output
 
 -- the output is what the request asks to be written, or for a catalogue as much of it as some first entries decide
 abbrev pub IsBegunOutput : Request → Option (List ℕ) → List ℕ → Type 0
-IsBegunOutput (ListRequest grid n workers) left output = IsListing (geometry_of grid) n output
-IsBegunOutput (PlainRequest grid n workers) left output = IsPlainListing (geometry_of grid) n output
 IsBegunOutput (ClassifyRequest grid (Size n) limits workers brief) left output = IsBegunCatalogueOfSize (geometry_of grid) (header_of grid (Size n) limits brief) n output
-IsBegunOutput (ClassifyRequest grid Given limits workers brief) left output = IsBegunGivenAnswer (geometry_of grid) (header_of grid Given limits brief) left output
+IsBegunOutput (ClassifyRequest grid Given limits workers brief) left output = OfInput left (IsBegunGivenAnswer (geometry_of grid) (header_of grid Given limits brief) output)
+IsBegunOutput request left output = (status : Status) × IsOutput request left status output
 
 -- the words ask for something that reads
 abbrev pub AreReading : List (List ℕ) → Type 0
@@ -110,3 +132,9 @@ pub record IsCatalogued (grid : GridName) (n : ℕ) (limits : Limits) (old new :
 -- the words ask for the full catalogue of a size, by so many workers
 abbrev pub AsksForCatalogue : List (List ℕ) → GridName → ℕ → Limits → ℕ → Type 0
 AsksForCatalogue words grid n limits workers = Asks words (ClassifyRequest grid (Size n) limits workers false)
+
+-- ---- what is written can be checked
+
+-- Known bytes grow by a valid catalogue, in the words of `check`.
+abbrev pub WritesValid : Option (List ℕ) → Option (List ℕ) → Type 0
+WritesValid old new = (text : List ℕ) × (count : ℕ) × IsValid text count × Appends old new text

@@ -4,7 +4,7 @@ use Rattle.heesch_cert.specs.declared.header.Subject.{Subject}
 use Rattle.heesch_cert.specs.declared.header.Subject.TheVariants.{Size, Given}
 use Rattle.heesch_cert.specs.Limits.{AreLimits}
 use Rattle.heesch_words.specs.declared.requests.Request.{Request}
-use Rattle.heesch_words.specs.declared.requests.Request.TheVariants.{List as ListRequest, Plain as PlainRequest, Classify as ClassifyRequest}
+use Rattle.heesch_words.specs.declared.requests.Request.TheVariants.{List as ListRequest, Plain as PlainRequest, Classify as ClassifyRequest, Check as CheckRequest, Table as TableRequest, Sample as SampleRequest}
 
 -- a size of 1 to 31 cells, or any shapes that are given
 abbrev pub IsSubjectInRange : Subject → Type 0
@@ -16,3 +16,6 @@ abbrev pub IsInRange : Request → Type 0
 IsInRange (ListRequest grid n workers) = (1 ≤ n) × (n ≤ 31) × (1 ≤ workers) × (workers ≤ 64)
 IsInRange (PlainRequest grid n workers) = (1 ≤ n) × (n ≤ 31) × (1 ≤ workers) × (workers ≤ 64)
 IsInRange (ClassifyRequest grid subject limits workers brief) = IsSubjectInRange subject × AreLimits limits × (1 ≤ workers) × (workers ≤ 64)
+IsInRange (CheckRequest workers) = (1 ≤ workers) × (workers ≤ 64)
+IsInRange TableRequest = ⊤
+IsInRange (SampleRequest grid n count seed limits workers) = (1 ≤ n) × (n ≤ 32) × (count ≤ 1000) × AreLimits limits × (1 ≤ workers) × (workers ≤ 64)

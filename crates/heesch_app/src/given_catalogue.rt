@@ -1,15 +1,14 @@
 //! The catalogue of the shapes of a list text.
-ghost use Rattle.std.specs.Prelude.{◌≡◌, ◌≤◌, Some, IfOk};
+ghost use Rattle.std.specs.Prelude.{◌≡◌, ◌≤◌, IfOk};
 ghost use Rattle.heesch_cert.specs.Limits.{AreLimits};
 ghost use Rattle.heesch_grid.specs.Names.{geometry_of};
 ghost use Rattle.heesch_app.specs.Outputs.{IsGivenAnswer};
 
 use crate::Status;
 use crate::bad_input::bad_input;
-use crate::catalogue::text_of;
-use crate::entries::entries_of;
 use crate::given::{GivenStop, shapes_given};
 use crate::reply::Reply;
+use heesch_catalogue::{entries_of, text_of};
 use heesch_cert::Header;
 use heesch_grid::{Grid, GridName, Hex, Iamond, Square};
 use heesch_io::NoMemory;
@@ -29,7 +28,7 @@ pub fn given_catalogue<T: Threads + Sync, H: Gate + Sync>(
 ) -> Result<Reply, NoMemory>
     requires limits { AreLimits header.now.limits }
     requires workers { (1 ≤ workers) × (workers ≤ 64) }
-    ensures { IfOk result (λ r. IsGivenAnswer (geometry_of header.now.grid) header.now (Some input.now) r.status r.text.items) }
+    ensures { IfOk result (λ r. IsGivenAnswer (geometry_of header.now.grid) header.now r.status r.text.items input.now) }
 {
     match header.grid {
         GridName::Square => catalogue_of::<Square, T, H>(rt, alloc, header, input, workers, gate),
@@ -48,7 +47,7 @@ fn catalogue_of<G: Grid + Send + Sync, T: Threads + Sync, H: Gate + Sync>(
 ) -> Result<Reply, NoMemory>
     requires limits { AreLimits header.now.limits }
     requires workers { (1 ≤ workers) × (workers ≤ 64) }
-    ensures { IfOk result (λ r. IsGivenAnswer G.geometry header.now (Some input.now) r.status r.text.items) }
+    ensures { IfOk result (λ r. IsGivenAnswer G.geometry header.now r.status r.text.items input.now) }
 {
     let shapes = match shapes_given::<G>(alloc, input) {
         Ok(shapes) => shapes,

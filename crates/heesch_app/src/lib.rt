@@ -2,15 +2,16 @@
 #![tactic(auto)]
 
 mod bad_input;
-mod catalogue;
-mod entries;
+mod checks;
 mod given;
 mod given_catalogue;
+pub mod laws;
 mod listing;
 mod program;
 mod reading;
 mod reply;
 mod status;
+mod tables;
 mod tilings;
 
 pub use program::run;

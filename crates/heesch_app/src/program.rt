@@ -1,21 +1,27 @@
-ghost use Rattle.std.specs.Prelude.{◌≡◌, ◌≢◌, ◌≤◌, ◌⊎◌, ℕ, map, string_bytes, IfOk, Err};
+ghost use Rattle.std.specs.Prelude.{◌≡◌, ◌≢◌, ◌≤◌, ◌^◌, ◌⊎◌, ℕ, List, length, map, string_bytes, false, Some, IfOk, Err};
+ghost use Rattle.heesch_cert.specs.declared.header.Subject.{Subject};
 ghost use Rattle.heesch_cert.specs.declared.limits.Limits.{Limits};
+ghost use Rattle.heesch_check.specs.Answers.{IsValid};
 ghost use Rattle.heesch_grid.specs.declared.GridName.{GridName};
 ghost use Rattle.heesch_io.specs.Causes.{Rose};
+ghost use Rattle.heesch_words.specs.declared.requests.Request.TheVariants.{Classify as ClassifyRequest, Check as CheckRequest};
 ghost use Rattle.heesch_words.specs.Requests.{Asks};
-ghost use Rattle.heesch_app.specs.Outputs.{IsAccepted, IsOutput, Reads, AreReading, Writes, WritesPrefix, AsksForCatalogue, IsCatalogued};
+ghost use Rattle.heesch_app.specs.Outputs.{IsAccepted, IsOutput, Reads, AreReading, Writes, WritesPrefix, AsksForCatalogue, IsCatalogued, WritesValid};
 ghost use Rattle.heesch_app.specs.Ranges.{IsInRange};
 
 use crate::Status;
-use crate::catalogue::catalogue;
+use crate::checks::checked_reply;
 use crate::given_catalogue::given_catalogue;
 use crate::listing::listing;
 use crate::reading::{ReadStop, read_all};
 use crate::reply::Reply;
+use crate::tables::table_reply;
 use crate::tilings::plain_listing;
+use heesch_catalogue::catalogue;
 use heesch_cert::{Header, Subject};
 use heesch_io::{Failed, NoMemory, Sink, Source, put};
 use heesch_pool::Gate;
+use heesch_sample::sample;
 use heesch_words::{Request, Usage, parse};
 use std::alloc::Global;
 use std::thread::Threads;
@@ -45,8 +51,18 @@ pub fn run<T: Threads + Sync, R: Source, W: Sink, H: Gate + Sync>(
     ensures headline { result ≡ Status.Done → (grid : GridName) (n workers : ℕ) (limits : Limits)
         → AsksForCatalogue (map string_bytes words.now) grid n limits workers
         → IsCatalogued grid n limits (W.held sink.old) (W.held sink.new) }
+    // A full catalogue that was written is valid, in the words of `check`.
+    ensures checkable { result ≡ Status.Done → (grid : GridName) (subject : Subject) (workers : ℕ) (limits : Limits)
+        → Asks (map string_bytes words.now) (ClassifyRequest grid subject limits workers false)
+        → WritesValid (W.held sink.old) (W.held sink.new) }
+    // No valid catalogue of at most 2^40 bytes is refused by `check`.
+    ensures passes { (input : List ℕ) (workers count : ℕ) → R.left source.old ≡ Some input → length input ≤ 2 ^ 40
+        → Asks (map string_bytes words.now) (CheckRequest workers) → IsValid input count
+        → (result ≢ Status.Invalid) × (result ≢ Status.BadInput) }
     ensures bad_input { result ≡ Status.BadInput →
         Writes (map string_bytes words.now) (R.left source.old) Status.BadInput (W.held sink.old) (W.held sink.new) }
+    ensures invalid { result ≡ Status.Invalid →
+        Writes (map string_bytes words.now) (R.left source.old) Status.Invalid (W.held sink.old) (W.held sink.new) }
     ensures read_fault { result ≡ Status.ReadFault → AreReading (map string_bytes words.now) × (sink.new ≡ sink.old) }
     ensures read_cause { result ≡ Status.ReadFault → Rose (R.faults source.old) (R.faults source.new) }
     ensures write_fault { result ≡ Status.WriteFault →
@@ -57,11 +73,8 @@ pub fn run<T: Threads + Sync, R: Source, W: Sink, H: Gate + Sync>(
 
     // Where no count rose, what the words ask for is done, or a fault of the input is told, or memory was refused.
     ensures complete { IsAccepted (map string_bytes words.now) →
-        (result ≡ Status.Done) ⊎ (result ≡ Status.BadInput) ⊎ (result ≡ Status.NoMemory)
+        (result ≡ Status.Done) ⊎ (result ≡ Status.Invalid) ⊎ (result ≡ Status.BadInput) ⊎ (result ≡ Status.NoMemory)
         ⊎ Rose (R.faults source.old) (R.faults source.new) ⊎ Rose (W.faults sink.old) (W.faults sink.new) }
-
-    // No form that is built ends in another way.
-    ensures no_invalid { result ≢ Status.Invalid }
 {
     let request = match parse(words) {
         Ok(request) => request,
@@ -98,6 +111,16 @@ fn reply<T: Threads + Sync, R: Source, H: Gate + Sync>(
         Request::Plain { grid, n, workers } => {
             Reply::done(plain_listing(rt, alloc, grid, n, workers, gate))
         }
+        Request::Check { workers } => checked_reply(rt, alloc, source, workers, gate),
+        Request::Table => table_reply(alloc, source),
+        Request::Sample {
+            grid,
+            n,
+            count,
+            seed,
+            limits,
+            workers,
+        } => Reply::done(sample(rt, alloc, grid, n, count, seed, limits, workers, gate)),
         Request::Classify {
             grid,
             subject,

@@ -1,7 +1,7 @@
 //! All bytes of a source.
 ghost use Rattle.std.specs.Prelude.{◌≡◌, ◌≤◌, Err, IfOk};
 ghost use Rattle.heesch_io.specs.Causes.{Rose};
-ghost use Rattle.heesch_app.specs.Reading.{IsAllOf};
+ghost use Rattle.heesch_stream.specs.Input.{IsAllOf};
 
 use heesch_io::Source;
 use std::alloc::Global;

@@ -12,14 +12,14 @@ use Rattle.heesch_trail.specs.declared.step.Step.{Step}
 use Rattle.heesch_trail.specs.Fixpoint.{HasTwoOpen}
 use Rattle.heesch_trail.specs.State.{State, IsTrail, values_of, fact_of, level_of, up_to}
 use Rattle.heesch_cdcl.specs.declared.analysis.Learnt.{Learnt}
-use Rattle.heesch_cdcl.specs.Derivation.{AreAmong, Matches}
+use Rattle.heesch_cdcl.specs.Derivation.{Matches}
 use Rattle.heesch_cdcl.specs.Marking.{marked}
 use Rattle.heesch_cdcl.specs.Marked.{falsified, IsClauseOfMarked, IsLevelIn}
 use Rattle.heesch_cdcl.specs.Learning.{IsLearnt}
-use Rattle.heesch_cdcl.specs.Resolved.{IsResolving, IsResolved}
+use Rattle.heesch_cdcl.specs.Resolved.{IsDerived, IsResolved}
 use Rattle.heesch_cdcl.specs.Searching.{IsSearching}
 use Rattle.heesch_cdcl.proofs.MarkLemmas.{same_or_not, some_marked}
-use Rattle.heesch_cdcl.proofs.Facts.{Trail-apart, assigned-fact, fact-level, value-take, value-low, value-high}
+use Rattle.heesch_cdcl.proofs.Facts.{Trail-apart, assigned-fact, fact-level, value-low, value-high}
 use Rattle.heesch_cdcl.proofs.Resolving.{HasHere, here_facts, only_marked, positive_count, level_of_some}
 
 -- the values that refute a clause
@@ -58,34 +58,25 @@ falsified-false steps v some = by_value (values_of steps v) some
     by_value (Some true) some = refl
     by_value (Some false) some = refl
 
--- each marked variable has a value
-marked_value : (trail : State) (place : ℕ) (seen here : List Bool) (pending : ℕ) (hints : List ℕ) (v : ℕ) → IsResolving trail place seen here pending hints → marked seen v ≡ true → values_of trail.steps v ≢ None
-marked_value trail place seen here pending hints v r m none =
-    r.assigned v m (value-take place trail.steps v (r.assigned v m) ∙ none)
-
--- the values that refute the clause are among those of the assignments
-among_refuting : (trail : State) (place : ℕ) (seen here : List Bool) (pending : ℕ) (hints : List ℕ) (clause : List Lit) → IsResolving trail place seen here pending hints → IsClauseOfMarked trail.vars trail.steps seen clause →
-    AreAmong (refuting clause) (values_of (take place trail.steps))
-among_refuting trail place seen here pending hints clause r read v b e =
-    let s = refuting-sound clause v b e in
-    let l = s.0 in
-    let is = All-contains (λ (l : Lit). (l ≡ falsified trail.steps l.var) × (marked seen l.var ≡ true)) clause l read.each s.1.0 in
-    let m : marked seen v ≡ true = subst (λ w. marked seen w ≡ true) s.1.1.0 is.1 in
-    let sign : not (not (unwrap_or (values_of trail.steps v) false)) ≡ b = ap (λ w. not (not (unwrap_or (values_of trail.steps w) false))) (sym s.1.1.0) ∙ ap (λ (x : Lit). not x.positive) (sym is.0) ∙ s.1.1.1 in
-    value-take place trail.steps v (r.assigned v m) ∙ value_again (values_of trail.steps v) b (marked_value trail place seen here pending hints v r m) sign
-
--- they are those of the assignments at the marked variables
-Matches-refuting : (trail : State) (place : ℕ) (seen here : List Bool) (pending : ℕ) (hints : List ℕ) (clause : List Lit) → IsTrail trail → IsResolving trail place seen here pending hints → IsClauseOfMarked trail.vars trail.steps seen clause →
-    Matches (refuting clause) (marked seen) (take place trail.steps)
-Matches-refuting trail place seen here pending hints clause valid r read = record {
-  same = λ v m.
-      by_value v (refuting clause v) refl (refuting-complete clause (falsified trail.steps v) (read.has v m)) (among_refuting trail place seen here pending hints clause r read v);
-  among = among_refuting trail place seen here pending hints clause r read;
+-- the values that refute the clause are those of the assignments at the marked variables
+Matches-refuting : (trail : State) (place : ℕ) (seen here : List Bool) (pending : ℕ) (hints : List ℕ) (clause : List Lit) → IsDerived trail place seen here pending hints → IsClauseOfMarked trail.vars trail.steps seen clause →
+    Matches (refuting clause) (marked seen) (take place trail.steps) trail.steps
+Matches-refuting trail place seen here pending hints clause r read = record {
+  same = λ v m. by_value v (refuting clause v) refl (refuting-complete clause (falsified trail.steps v) (read.has v m));
+  others = λ v b e. inl (from_clause v b e).0;
 }
   where
-    by_value : (v : ℕ) (o : Option Bool) → refuting clause v ≡ o → refuting clause v ≢ None → ((b : Bool) → refuting clause v ≡ Some b → values_of (take place trail.steps) v ≡ Some b) → refuting clause v ≡ values_of (take place trail.steps) v
-    by_value v None e some among = absurd (some e)
-    by_value v (Some b) e some among = e ∙ sym (among b e)
+    from_clause : (v : ℕ) (b : Bool) → refuting clause v ≡ Some b → (marked seen v ≡ true) × (values_of trail.steps v ≡ Some b)
+    from_clause v b e =
+        let s = refuting-sound clause v b e in
+        let is = All-contains (λ (l : Lit). (l ≡ falsified trail.steps l.var) × (marked seen l.var ≡ true)) clause s.0 read.each s.1.0 in
+        let m : marked seen v ≡ true = subst (λ w. marked seen w ≡ true) s.1.1.0 is.1 in
+        let sign : not (not (unwrap_or (values_of trail.steps v) false)) ≡ b = ap (λ w. not (not (unwrap_or (values_of trail.steps w) false))) (sym s.1.1.0) ∙ ap (λ (x : Lit). not x.positive) (sym is.0) ∙ s.1.1.1 in
+        (m, value_again (values_of trail.steps v) b (r.valued v m) sign)
+
+    by_value : (v : ℕ) (o : Option Bool) → refuting clause v ≡ o → refuting clause v ≢ None → refuting clause v ≡ values_of trail.steps v
+    by_value v None e some = absurd (some e)
+    by_value v (Some b) e some = e ∙ sym (from_clause v b e).1
 
 signed_none : (p : Bool) → signed p None ≡ None
 signed_none true = refl
@@ -102,16 +93,15 @@ pub Learnt-resolved : (trail : State) (seen here : List Bool) (pending : ℕ) (l
     IsClauseOfMarked trail.vars trail.steps seen learnt.clause → learnt.back < level_of trail.steps → IsLevelIn trail.steps learnt.clause learnt.back → IsLearnt trail learnt
 Learnt-resolved trail seen here pending learnt valid above res read below reached =
     let k = level_of trail.steps in
-    let r = res.resolving in
-    let hints = learnt.hints in
+    let r = res.derived in
     let one = res.some above in
     let w = some_marked here (omega (arith, one, r.marks.counted)) in
-    let h = here_facts trail res.place seen here pending hints w.0 r w.1 in
+    let h = here_facts trail 0 seen here pending learnt.hints w.0 r w.1 in
     let m = (r.marks.here_seen w.0 w.1).0 in
     record {
       top = falsified trail.steps w.0;
       form = read.form;
-      shown = record { numbers = r.numbers; conflict = r.derives (refuting learnt.clause) (Matches-refuting trail res.place seen here pending hints learnt.clause valid r read) };
+      shown = record { numbers = r.numbers; conflict = r.derives (refuting learnt.clause) (Matches-refuting trail 0 seen here pending learnt.hints learnt.clause r read) };
       asserting = record {
         has_top = read.has w.0 m;
         top_open = open_above trail (k - 1) w.0 h.step valid h.fact (omega (arith, h.level));
@@ -125,8 +115,8 @@ Learnt-resolved trail seen here pending learnt valid above res read below reache
     others v m l is = elim (same_or_not v l.var) [
       | inl e ↦ inl (is.0 ∙ ap (falsified trail.steps) (sym e))
       | inr ne ↦
-          let r = res.resolving in
-          let some = marked_value trail res.place seen here pending learnt.hints l.var r is.1 in
+          let r = res.derived in
+          let some = r.valued l.var is.1 in
           let f = assigned-fact trail.steps l.var some in
           let high = fact-level trail l.var f.0 valid f.1 in
           elim (cases_lt (level_of trail.steps - 1) f.0.level) [
@@ -140,14 +130,14 @@ Learnt-resolved trail seen here pending learnt valid above res read below reache
           ]
     ]
 
-    settled : (v : ℕ) → HasHere trail res.place v → Contains learnt.clause (falsified trail.steps v) → (j : ℕ) → j < learnt.back → IsLevelIn trail.steps learnt.clause learnt.back →
+    settled : (v : ℕ) → HasHere trail v → Contains learnt.clause (falsified trail.steps v) → (j : ℕ) → j < learnt.back → IsLevelIn trail.steps learnt.clause learnt.back →
         HasTwoOpen (values_of (up_to j trail.steps)) learnt.clause
     settled v h has j lt (inl zero_back) = absurd (omega arith)
     settled v h has j lt (inr at) =
-        let r = res.resolving in
+        let r = res.derived in
         let w = at.0.var in
         let is = All-contains (λ (l : Lit). (l ≡ falsified trail.steps l.var) × (marked seen l.var ≡ true)) learnt.clause at.0 read.each at.1.0 in
-        let some = marked_value trail res.place seen here pending learnt.hints w r is.1 in
+        let some = r.valued w is.1 in
         let f = assigned-fact trail.steps w some in
         let level = level_of_some (fact_of trail.steps w) f.0 learnt.back f.1 at.1.1 in
         record {
@@ -168,16 +158,16 @@ Learnt-resolved trail seen here pending learnt valid above res read below reache
 pub Final-resolved : (vars : ℕ) (clauses : List (List Lit)) (lines : List Line) (trail : State) (seen here : List Bool) (pending : ℕ) (hints : List ℕ) → IsSearching vars clauses lines trail → level_of trail.steps ≡ 0 → IsResolved trail 0 seen here pending hints →
     FinalHolds (clauses_with clauses lines) hints
 Final-resolved vars clauses lines trail seen here pending hints s ground_level res =
-    let r = res.resolving in
+    let r = res.derived in
     subst (λ cs. FinalHolds cs hints) s.same_clauses (record {
       numbers = r.numbers;
-      conflict = r.derives (refuting []) (record { same = λ v m. absurd (none v m); among = λ v b e. absurd (let bad : None ≡ Some b = e in cc) });
+      conflict = r.derives (refuting []) (record { same = λ v m. absurd (none v m); others = λ v b e. absurd (let bad : None ≡ Some b = e in cc) });
     })
   where
     none : (v : ℕ) → marked seen v ≡ true → ⊥
     none v m =
-        let r = res.resolving in
-        let f = assigned-fact trail.steps v (marked_value trail res.place seen here pending hints v r m) in
+        let r = res.derived in
+        let f = assigned-fact trail.steps v (r.valued v m) in
         let high = fact-level trail v f.0 s.valid f.1 in
         let level : f.0.level ≡ level_of trail.steps = omega arith in
         let is_here = r.marks.seen_here v m (ap (option_map (λ (x : Step). x.level)) f.1 ∙ ap Some level) in

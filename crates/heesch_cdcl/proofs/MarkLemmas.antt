@@ -20,6 +20,10 @@ same_or_not n v = by_test (eqb n v) (Decides-eqb n v)
     by_test true d = inl (d.0 refl)
     by_test false d = inr (λ e. let bad : false ≡ true = d.1 e in cc)
 
+-- a mark, where the places are the same
+pub marked-same : (old new : List Bool) (v : ℕ) (b : Bool) → new ≡ old → marked old v ≡ b → marked new v ≡ b
+marked-same old new v b same is = ap (λ places. marked places v) same ∙ is
+
 -- a marked variable of at least one
 pub some_marked : (places : List Bool) → 1 ≤ count_by (λ b. b) places → (v : ℕ) × (marked places v ≡ true)
 some_marked [] le = absurd (omega arith)

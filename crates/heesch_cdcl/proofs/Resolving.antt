@@ -1,8 +1,8 @@
 use Rattle.std.proofs.Common.{◌≡◌, ◌≢◌, ℕ, zero, suc, ◌+◌, ◌-◌, ◌<◌, ◌≤◌, Bool, true, false, not, cond, eqb, Option, None, Some, option_map, option_and_then, reverse, List, [], ◌∷◌, ◌++◌, length, get_or, set, take, Decides, MatchOption, count_by, sym, ap, ◌∙◌, subst, inl, inr, ◌⊎◌, refl, arith}
 use Rattle.std.specs.List.{Contains}
 use Rattle.std.proofs.lemmas.List.Sums.{sum_by-set}
-use Rattle.std.proofs.lemmas.List.{take_all, get_or_past, get_or-map, get_or_read, reverse-append}
-use Rattle.std.proofs.lemmas.List.Elements.{All-nil, All-cons}
+use Rattle.std.proofs.lemmas.List.{ext_get_or, take_all, get_or_past, get_or-map, get_or_read, reverse-append}
+use Rattle.std.proofs.lemmas.List.Elements.{All-nil, All-cons, All-contains}
 use Rattle.std.proofs.lemmas.Bool.{cases_lt}
 use Rattle.std.proofs.lemmas.Bool.Decides.{Decides-eqb}
 use Rattle.heesch_cnf.specs.declared.literal.Lit.{Lit}
@@ -12,17 +12,17 @@ use Rattle.heesch_cnf.specs.Lines.{numbered, is_empty, IsNumber, clauses_with}
 use Rattle.heesch_cnf.proofs.Lists.{Contains-none, Contains-cases, Contains-filter}
 use Rattle.heesch_trail.specs.declared.step.Step.{Step}
 use Rattle.heesch_trail.specs.Fixpoint.{IsFalse, IsSettled}
-use Rattle.heesch_trail.specs.State.{State, IsTrail, made_by, values_of, fact_of, level_of, up_to}
+use Rattle.heesch_trail.specs.State.{State, IsTrail, StepHolds, made_by, values_of, fact_of, level_of, up_to}
 use Rattle.heesch_cdcl.specs.Derivation.{Matches, Derives}
 use Rattle.heesch_cdcl.specs.Marking.{marked, level_in, AreMarks, MarksClause}
-use Rattle.heesch_cdcl.specs.Resolved.{IsResolving, IsBegun}
+use Rattle.heesch_cdcl.specs.Resolved.{IsDerived, IsResolving, IsBegun}
 use Rattle.heesch_cdcl.specs.Learning.{IsConflict}
 use Rattle.heesch_cdcl.specs.Search.{LowerFixpoints}
 use Rattle.heesch_cdcl.specs.Searching.{IsSearching}
 use Rattle.heesch_cnf.specs.declared.log.Line.{Line}
-use Rattle.heesch_cdcl.proofs.Derive.{Derives-start, Derives-skip, Derives-resolve, values_of-push}
+use Rattle.heesch_cdcl.proofs.Derive.{Derives-start, Derives-earlier, Derives-resolve, values_of-push}
 use Rattle.heesch_cdcl.proofs.MarkLemmas.{some_marked, same_or_not, marked-set_same, marked-set_other}
-use Rattle.heesch_cdcl.proofs.Facts.{AtStep, at_step, Trail-apart, assigned-fact, fact-take, fact-level, fact-level_take, value-low}
+use Rattle.heesch_cdcl.proofs.Facts.{AtStep, at_step, Trail-apart, assigned-fact, fact-is, fact-take, fact-level, fact-level_take, fact-value, value-take, value-low}
 
 -- a marked variable has a place
 marked-room : (places : List Bool) (v : ℕ) → marked places v ≡ true → v < length places
@@ -61,32 +61,38 @@ pub level_of_some : (o : Option Step) (s : Step) (k : ℕ) → o ≡ Some s → 
 level_of_some o s k e at = let both : Some s.level ≡ Some k = sym (ap (option_map (λ (x : Step). x.level)) e) ∙ at in cc
 
 -- a variable of the present level that is marked
-pub record HasHere (trail : State) (place : ℕ) (v : ℕ) : Type 0 where
+pub record HasHere (trail : State) (v : ℕ) : Type 0 where
   pub step : Step
-  pub fact_before : fact_of (take place trail.steps) v ≡ Some step
   pub fact : fact_of trail.steps v ≡ Some step
   pub level : step.level ≡ level_of trail.steps
 
-pub here_facts : (trail : State) (place : ℕ) (seen here : List Bool) (pending : ℕ) (hints : List ℕ) (v : ℕ) → IsResolving trail place seen here pending hints → marked here v ≡ true → HasHere trail place v
+pub here_facts : (trail : State) (place : ℕ) (seen here : List Bool) (pending : ℕ) (hints : List ℕ) (v : ℕ) → IsDerived trail place seen here pending hints → marked here v ≡ true → HasHere trail v
 here_facts trail place seen here pending hints v r m =
     let at = r.marks.here_seen v m in
-    let f = assigned-fact (take place trail.steps) v (r.assigned v at.0) in
-    let fact = fact-take place trail.steps v f.0 f.1 in
-    record { step = f.0; fact_before = f.1; fact = fact; level = level_of_some (fact_of trail.steps v) f.0 (level_of trail.steps) fact at.1 }
+    let f = assigned-fact trail.steps v (r.valued v at.0) in
+    record { step = f.0; fact = f.1; level = level_of_some (fact_of trail.steps v) f.0 (level_of trail.steps) f.1 at.1 }
+
+-- during the resolution its assignment stands before the place
+fact_before : (trail : State) (place : ℕ) (seen here : List Bool) (pending : ℕ) (hints : List ℕ) (v : ℕ) → IsResolving trail place seen here pending hints → marked here v ≡ true → (h : HasHere trail v) →
+    fact_of (take place trail.steps) v ≡ Some h.step
+fact_before trail place seen here pending hints v r m h =
+    let f = assigned-fact (take place trail.steps) v (r.assigned v (r.derived.marks.here_seen v m).0) in
+    let same : Some f.0 ≡ Some h.step = sym (fact-take place trail.steps v f.0 f.1) ∙ h.fact in
+    f.1 ∙ same
 
 -- while variables of the level are marked, there are assignments before
 pub place_left : (trail : State) (place : ℕ) (seen here : List Bool) (pending : ℕ) (hints : List ℕ) → IsResolving trail place seen here pending hints → 1 ≤ pending → 1 ≤ place
 place_left trail zero seen here pending hints r le =
-    let w = some_marked here (omega (arith, r.marks.counted)) in
-    absurd (r.assigned w.0 (r.marks.here_seen w.0 w.1).0 refl)
+    let w = some_marked here (omega (arith, r.derived.marks.counted)) in
+    absurd (r.assigned w.0 (r.derived.marks.here_seen w.0 w.1).0 refl)
 place_left trail (suc p) seen here pending hints r le = omega arith
 
 -- the last assignment before the place is of the present level
 top_level : (trail : State) (p : ℕ) (s : Step) (seen here : List Bool) (pending : ℕ) (hints : List ℕ) → IsTrail trail → AtStep trail p s → IsResolving trail (p + 1) seen here pending hints → 1 ≤ pending → s.level ≡ level_of trail.steps
 top_level trail p s seen here pending hints valid at r le =
-    let w = some_marked here (omega (arith, r.marks.counted)) in
-    let h = here_facts trail (p + 1) seen here pending hints w.0 r w.1 in
-    let low = fact-level_take trail (p + 1) w.0 h.step valid (omega (arith, at.place_in)) h.fact_before in
+    let w = some_marked here (omega (arith, r.derived.marks.counted)) in
+    let h = here_facts trail (p + 1) seen here pending hints w.0 r.derived w.1 in
+    let low = fact-level_take trail (p + 1) w.0 h.step valid (omega (arith, at.place_in)) (fact_before trail (p + 1) seen here pending hints w.0 r w.1 h) in
     let high = fact-level trail s.lit.var s valid at.fact in
     omega (arith, low, high, h.level, at.level)
 
@@ -94,7 +100,7 @@ top_level trail p s seen here pending hints valid at r le =
 pub top_here : (trail : State) (p : ℕ) (s : Step) (seen here : List Bool) (pending : ℕ) (hints : List ℕ) → IsTrail trail → AtStep trail p s → IsResolving trail (p + 1) seen here pending hints → 1 ≤ pending →
     marked seen s.lit.var ≡ true → marked here s.lit.var ≡ true
 top_here trail p s seen here pending hints valid at r le m =
-    r.marks.seen_here s.lit.var m (ap (option_map (λ (x : Step). x.level)) at.fact ∙ ap Some (top_level trail p s seen here pending hints valid at r le))
+    r.derived.marks.seen_here s.lit.var m (ap (option_map (λ (x : Step). x.level)) at.fact ∙ ap Some (top_level trail p s seen here pending hints valid at r le))
 
 -- a variable with another assignment has its value before
 assigned-before : (trail : State) (p : ℕ) (s : Step) (v : ℕ) → AtStep trail p s → (s.lit.var ≡ v → ⊥) → values_of (take (p + 1) trail.steps) v ≢ None → values_of (take p trail.steps) v ≢ None
@@ -116,9 +122,9 @@ has_reason trail p s seen here pending hints valid at r (inr zero_level) m none 
 has_reason trail p s seen here pending hints valid at r (inl two) m none =
     let level = top_level trail p s seen here pending hints valid at r (omega arith) in
     let here_s = top_here trail p s seen here pending hints valid at r (omega arith) m in
-    let w = another_marked here s.lit.var here_s (omega (arith, r.marks.counted)) in
-    let h = here_facts trail (p + 1) seen here pending hints w.0 r w.1.0 in
-    let before = assigned-before trail p s w.0 at w.1.1 (r.assigned w.0 (r.marks.here_seen w.0 w.1.0).0) in
+    let w = another_marked here s.lit.var here_s (omega (arith, r.derived.marks.counted)) in
+    let h = here_facts trail (p + 1) seen here pending hints w.0 r.derived w.1.0 in
+    let before = assigned-before trail p s w.0 at w.1.1 (r.assigned w.0 (r.derived.marks.here_seen w.0 w.1.0).0) in
     let f = assigned-fact (take p trail.steps) w.0 before in
     let same_step : Some f.0 ≡ Some h.step = sym (fact-take p trail.steps w.0 f.0 f.1) ∙ h.fact in
     let same : f.0 ≡ h.step = cc in
@@ -150,23 +156,48 @@ value_of_false values l e = by_sign l.positive (values l.var) e
 some_not_none : {A : Type 0} (o : Option A) (x : A) → o ≡ Some x → o ≢ None
 some_not_none o x e none = let bad : Some x ≡ None = sym e ∙ none in cc
 
--- the values of the assignments match themselves
-Matches-itself : (marks : ℕ → Bool) (steps : List Step) → Matches (values_of steps) marks steps
-Matches-itself marks steps = record { same = λ v m. refl; among = λ v b e. e }
+-- the values of the marked variables
+abbrev picked : (ℕ → Bool) → List Step → Values
+picked marks steps v = cond (marks v) (values_of steps v) None
 
-hints_more : (clauses : List (List Lit)) (marks : ℕ → Bool) (steps : List Step) (hints : List ℕ) → Derives clauses marks steps hints → is_empty hints ≡ false
-hints_more clauses marks steps [] derives = absurd (let bad : false ≡ true = derives (values_of steps) (Matches-itself marks steps) in cc)
-hints_more clauses marks steps (h ∷ hints) derives = refl
+Matches-picked : (marks : ℕ → Bool) (earlier steps : List Step) → Matches (picked marks steps) marks earlier steps
+Matches-picked marks earlier steps = record {
+  same = λ v m. ap (λ t. cond t (values_of steps v) None) m;
+  others = λ v b e. inl (of_value (marks v) (values_of steps v) b e);
+}
+  where
+    of_value : (t : Bool) (o : Option Bool) (b : Bool) → cond t o None ≡ Some b → t ≡ true
+    of_value true o b e = refl
+    of_value false o b e = absurd (let bad : None ≡ Some b = e in cc)
 
--- an assignment that isn't marked is passed over
+hints_more : (clauses : List (List Lit)) (marks : ℕ → Bool) (earlier steps : List Step) (hints : List ℕ) → Derives clauses marks earlier steps hints → is_empty hints ≡ false
+hints_more clauses marks earlier steps [] derives = absurd (let bad : false ≡ true = derives (picked marks steps) (Matches-picked marks earlier steps) in cc)
+hints_more clauses marks earlier steps (h ∷ hints) derives = refl
+
+-- an assignment is passed over
+pub Derived-skip : (trail : State) (p : ℕ) (s : Step) (seen here : List Bool) (pending : ℕ) (hints : List ℕ) → AtStep trail p s → IsDerived trail (p + 1) seen here pending hints → IsDerived trail p seen here pending hints
+Derived-skip trail p s seen here pending hints at r = record {
+  place_in = omega (arith, r.place_in);
+  marks = r.marks;
+  valued = r.valued;
+  numbers = r.numbers;
+  derives = Derives-earlier trail.clauses (marked seen) (take p trail.steps) s trail.steps hints at.holds.was_open (subst (λ ss. Derives trail.clauses (marked seen) ss trail.steps hints) at.split r.derives);
+}
+
+-- the same marks, as they are read
+pub Derived-same : (trail : State) (place : ℕ) (seen here new_seen new_here : List Bool) (pending new_pending : ℕ) (hints : List ℕ) → IsDerived trail place seen here pending hints →
+    new_seen ≡ seen → new_here ≡ here → new_pending ≡ pending → IsDerived trail place new_seen new_here new_pending hints
+Derived-same trail place seen here new_seen new_here pending new_pending hints r same_seen same_here same_pending =
+    subst (λ ps. IsDerived trail place ps new_here new_pending hints) (sym same_seen)
+    (subst (λ ps. IsDerived trail place seen ps new_pending hints) (sym same_here)
+    (subst (λ n. IsDerived trail place seen here n hints) (sym same_pending) r))
+
+-- one that isn't marked is passed over by the resolution
 pub Resolving-skip : (trail : State) (p : ℕ) (s : Step) (seen here : List Bool) (pending : ℕ) (hints : List ℕ) → AtStep trail p s → IsResolving trail (p + 1) seen here pending hints → marked seen s.lit.var ≡ false →
     IsResolving trail p seen here pending hints
 Resolving-skip trail p s seen here pending hints at r unmarked = record {
-  place_in = omega (arith, r.place_in);
-  marks = r.marks;
+  derived = Derived-skip trail p s seen here pending hints at r.derived;
   assigned = λ v m. assigned-before trail p s v at (λ e. let bad : false ≡ true = sym unmarked ∙ ap (marked seen) e ∙ m in cc) (r.assigned v m);
-  numbers = r.numbers;
-  derives = Derives-skip trail.clauses (marked seen) (take p trail.steps) s hints at.holds.was_open unmarked (subst (λ ss. Derives trail.clauses (marked seen) ss hints) at.split r.derives);
 }
 
 -- what a reason says
@@ -179,57 +210,85 @@ reason_says trail p s n at is =
     let both = subst (λ o. MatchOption o (Unit {0}) (λ n. IsNumber trail.clauses n × (left_of (values_of (take p trail.steps)) (numbered trail.clauses n) ≡ s.lit ∷ []))) is at.holds.reason in
     record { number = both.0; alone = both.1 }
 
--- a marked assignment is resolved with its reason
-pub Resolving-resolve : (trail : State) (p n : ℕ) (s : Step) (seen here mid after : List Bool) (pending less : ℕ) (hints : List ℕ) → AtStep trail p s → IsResolving trail (p + 1) seen here pending hints → s.reason ≡ Some n →
+-- the other variables of a reason have values before
+pub reason_before : (trail : State) (p n : ℕ) (s : Step) (l : Lit) → HasReason trail p s n → Contains (numbered trail.clauses n) l → (s.lit.var ≡ l.var → ⊥) → values_of (take p trail.steps) l.var ≢ None
+reason_before trail p n s l reason has ne = elim (false_or_left (values_of (take p trail.steps)) (numbered trail.clauses n) l has) [
+  | inl f ↦ some_not_none _ _ (value_of_false (values_of (take p trail.steps)) l f)
+  | inr left ↦ elim (Contains-cases s.lit [] l (subst (λ ls. Contains ls l) reason.alone left)) [
+    | inl e ↦ absurd (ne (ap (λ (x : Lit). x.var) e))
+    | inr none ↦ absurd (Contains-none l none)
+  ]
+]
+
+-- the marks where an assignment is resolved: those that were, or of the reason
+resolved_marks : (trail : State) (p n : ℕ) (s : Step) (seen mid : List Bool) (v : ℕ) → HasReason trail p s n → MarksClause seen mid (numbered trail.clauses n) → s.lit.var < length mid → marked (set mid s.lit.var false) v ≡ true →
+    (s.lit.var ≡ v → ⊥) × ((marked seen v ≡ true) ⊎ (values_of (take p trail.steps) v ≢ None))
+resolved_marks trail p n s seen mid v reason marks room m = elim (same_or_not s.lit.var v) [
+  | inl e ↦ absurd (let bad : false ≡ true = sym (marked-set_same mid s.lit.var v false room e) ∙ m in cc)
+  | inr ne ↦ elim (marks.others v (sym (marked-set_other mid s.lit.var v false ne) ∙ m)) [
+    | inl was ↦ (ne, inl was)
+    | inr w ↦ (ne, inr (subst (λ x. values_of (take p trail.steps) x ≢ None) w.1.1 (reason_before trail p n s w.0 reason w.1.0 (λ e. ne (e ∙ w.1.1)))))
+  ]
+]
+
+-- an assignment is resolved with its reason
+pub Derived-resolve : (trail : State) (p n : ℕ) (s : Step) (seen here mid after : List Bool) (pending less : ℕ) (hints : List ℕ) → AtStep trail p s → IsDerived trail (p + 1) seen here pending hints → s.reason ≡ Some n →
     MarksClause seen mid (numbered trail.clauses n) → s.lit.var < length mid → AreMarks trail.vars (level_of trail.steps) trail.steps (set mid s.lit.var false) after less →
-    IsResolving trail p (set mid s.lit.var false) after less (n ∷ hints)
-Resolving-resolve trail p n s seen here mid after pending less hints at r is marks room new_marks =
+    IsDerived trail p (set mid s.lit.var false) after less (n ∷ hints)
+Derived-resolve trail p n s seen here mid after pending less hints at r is marks room new_marks =
     let reason = reason_says trail p s n at is in
     record {
       place_in = omega (arith, r.place_in);
       marks = new_marks;
-      assigned = λ v m. elim (same_or_not s.lit.var v) [
-        | inl e ↦ absurd (let bad : false ≡ true = sym (marked-set_same mid s.lit.var v false room e) ∙ m in cc)
-        | inr ne ↦ elim (marks.others v (sym (marked-set_other mid s.lit.var v false ne) ∙ m)) [
-          | inl was ↦ assigned-before trail p s v at ne (r.assigned v was)
-          | inr w ↦ subst (λ x. values_of (take p trail.steps) x ≢ None) w.1.1 (in_reason reason w.0 w.1.0 (λ e. ne (e ∙ w.1.1)))
-        ]
+      valued = λ v m. elim (resolved_marks trail p n s seen mid v reason marks room m).1 [
+        | inl was ↦ r.valued v was
+        | inr some ↦ λ none. some (value-take p trail.steps v some ∙ none)
       ];
       numbers = All-cons (IsNumber trail.clauses) n hints reason.number r.numbers;
-      derives = Derives-resolve trail.clauses (marked seen) (marked (set mid s.lit.var false)) (take p trail.steps) s n hints (hints_more trail.clauses (marked seen) (take (p + 1) trail.steps) hints r.derives) at.holds.was_open reason.alone
-          (λ v ne m. marked-set_other mid s.lit.var v false ne ∙ marks.kept v m) (λ l has ne. marked-set_other mid s.lit.var l.var false ne ∙ marks.added l has)
-          (subst (λ ss. Derives trail.clauses (marked seen) ss hints) at.split r.derives);
+      derives = Derives-resolve trail.clauses (marked seen) (marked (set mid s.lit.var false)) (take p trail.steps) trail.steps s n hints (hints_more trail.clauses (marked seen) (take (p + 1) trail.steps) trail.steps hints r.derives)
+          at.holds.was_open (fact-value trail.steps s.lit.var s at.fact) reason.alone (marked-set_same mid s.lit.var s.lit.var false room refl)
+          (λ v ne m. marked-set_other mid s.lit.var v false ne ∙ marks.kept v m)
+          (λ l has ne. (marked-set_other mid s.lit.var l.var false ne ∙ marks.added l has, value-take p trail.steps l.var (reason_before trail p n s l reason has ne)))
+          (λ v b m e. elim (resolved_marks trail p n s seen mid v reason marks room m).1 [ inl was ↦ inl was | inr some ↦ inr (value-take p trail.steps v some ∙ e) ])
+          (subst (λ ss. Derives trail.clauses (marked seen) ss trail.steps hints) at.split r.derives);
     }
-  where
-    in_reason : HasReason trail p s n → (l : Lit) → Contains (numbered trail.clauses n) l → (s.lit.var ≡ l.var → ⊥) → values_of (take p trail.steps) l.var ≢ None
-    in_reason reason l has ne = elim (false_or_left (values_of (take p trail.steps)) (numbered trail.clauses n) l has) [
-      | inl f ↦ some_not_none _ _ (value_of_false (values_of (take p trail.steps)) l f)
-      | inr left ↦ elim (Contains-cases s.lit [] l (subst (λ ls. Contains ls l) reason.alone left)) [
-        | inl e ↦ absurd (ne (ap (λ (x : Lit). x.var) e))
-        | inr none ↦ absurd (Contains-none l none)
-      ]
-    ]
+
+-- a marked assignment is resolved with its reason
+pub Resolving-resolve : (trail : State) (p n : ℕ) (s : Step) (seen here mid after : List Bool) (pending less : ℕ) (hints : List ℕ) → AtStep trail p s → IsResolving trail (p + 1) seen here pending hints → s.reason ≡ Some n →
+    MarksClause seen mid (numbered trail.clauses n) → s.lit.var < length mid → AreMarks trail.vars (level_of trail.steps) trail.steps (set mid s.lit.var false) after less →
+    IsResolving trail p (set mid s.lit.var false) after less (n ∷ hints)
+Resolving-resolve trail p n s seen here mid after pending less hints at r is marks room new_marks = record {
+  derived = Derived-resolve trail p n s seen here mid after pending less hints at r.derived is marks room new_marks;
+  assigned = λ v m.
+      let new = resolved_marks trail p n s seen mid v (reason_says trail p s n at is) marks room m in
+      elim new.1 [ inl was ↦ assigned-before trail p s v at new.0 (r.assigned v was) | inr some ↦ some ];
+}
 
 -- the conflict begins the resolution
 pub Begun-conflict : (trail : State) (n : ℕ) (none seen here : List Bool) (pending : ℕ) → IsTrail trail → LowerFixpoints trail → IsConflict trail n → ((v : ℕ) → marked none v ≡ true → ⊥) →
     MarksClause none seen (numbered trail.clauses n) → AreMarks trail.vars (level_of trail.steps) trail.steps seen here pending → IsBegun trail n seen here pending
 Begun-conflict trail n none seen here pending valid lower conflict empty marks are =
-    let clause = numbered trail.clauses n in
     let all = take_all (length trail.steps) trail.steps (omega arith) in
     record {
       resolving = record {
-        place_in = omega arith;
-        marks = are;
-        assigned = λ v m. elim (marks.others v m) [
-          | inl was ↦ absurd (empty v was)
-          | inr w ↦ subst (λ ss. values_of ss v ≢ None) (sym all) (subst (λ x. values_of trail.steps x ≢ None) w.1.1 (some_not_none _ _ (value_of_false (values_of trail.steps) w.0 (conflict_false (values_of trail.steps) clause w.0 conflict.1 w.1.0))))
-        ];
-        numbers = All-cons (IsNumber trail.clauses) n [] conflict.0 (All-nil (IsNumber trail.clauses));
-        derives = Derives-start trail.clauses (marked seen) (take (length trail.steps) trail.steps) n (subst (λ ss. IsFalse (values_of ss) clause) (sym all) conflict.1) marks.added;
+        derived = record {
+          place_in = omega arith;
+          marks = are;
+          valued = valued;
+          numbers = All-cons (IsNumber trail.clauses) n [] conflict.0 (All-nil (IsNumber trail.clauses));
+          derives = Derives-start trail.clauses (marked seen) (take (length trail.steps) trail.steps) trail.steps n conflict.1 marks.added;
+        };
+        assigned = λ v m. subst (λ ss. values_of ss v ≢ None) (sym all) (valued v m);
       };
       some = λ above. by_settled above (lower (level_of trail.steps - 1) (omega arith) (n - 1) [] (let num = conflict.0 in omega arith));
     }
   where
+    valued : (v : ℕ) → marked seen v ≡ true → values_of trail.steps v ≢ None
+    valued v m = elim (marks.others v m) [
+      | inl was ↦ absurd (empty v was)
+      | inr w ↦ subst (λ x. values_of trail.steps x ≢ None) w.1.1 (some_not_none _ _ (value_of_false (values_of trail.steps) w.0 (conflict_false (values_of trail.steps) (numbered trail.clauses n) w.0 conflict.1 w.1.0)))
+    ]
+
     -- a literal that isn't false below the present level is counted
     counted : 1 ≤ level_of trail.steps → (l : Lit) → Contains (numbered trail.clauses n) l → (lit_value (values_of (up_to (level_of trail.steps - 1) trail.steps)) l ≡ Some false → ⊥) → 1 ≤ pending
     counted above l has not_false =
@@ -309,3 +368,82 @@ Resolving-read trail p n reason seen here mid after after_here pending less hint
     (subst (λ ps. IsResolving trail p ps after_here less (reason ∷ reverse hints)) (sym written)
     (Resolving-resolve trail p reason r.step seen here mid after_here pending less (reverse hints) r.at going is marks (subst (λ v. v < length mid) (sym r.var) room)
     (subst (λ ps. AreMarks trail.vars (level_of trail.steps) trail.steps ps after_here less) written are)))
+
+-- a variable that is marked, and not as one of the present level, isn't of it
+not_here : (vars level : ℕ) (steps : List Step) (seen here : List Bool) (pending v : ℕ) → AreMarks vars level steps seen here pending → marked seen v ≡ true → marked here v ≡ false → level_in steps v ≡ Some level → ⊥
+not_here vars level steps seen here pending v are m off at = let bad : false ≡ true = sym off ∙ are.seen_here v m at in cc
+
+-- the other variables of its reason aren't either
+reason_below : (trail : State) (p n : ℕ) (s : Step) (l : Lit) → IsTrail trail → AtStep trail p s → s.reason ≡ Some n → (level_in trail.steps s.lit.var ≡ Some (level_of trail.steps) → ⊥) → Contains (numbered trail.clauses n) l →
+    level_in trail.steps l.var ≡ Some (level_of trail.steps) → ⊥
+reason_below trail p n s l valid at is lower has level = elim (same_or_not s.lit.var l.var) [
+  | inl e ↦ lower (ap (level_in trail.steps) e ∙ level)
+  | inr ne ↦
+      let f = assigned-fact (take p trail.steps) l.var (reason_before trail p n s l (reason_says trail p s n at is) has ne) in
+      let low = fact-level_take trail p l.var f.0 valid (omega (arith, at.place_in)) f.1 in
+      let high = level_of_some (fact_of trail.steps l.var) f.0 (level_of trail.steps) (fact-take p trail.steps l.var f.0 f.1) level in
+      let follows : s.level ≡ level_of (take p trail.steps) = subst (λ o. MatchOption o (s.level ≡ level_of (take p trail.steps) + 1) (λ n. s.level ≡ level_of (take p trail.steps))) is at.holds.level in
+      let most = fact-level trail s.lit.var s valid at.fact in
+      let same : s.level ≡ level_of trail.steps = omega (arith, low, high, follows, most) in
+      lower (ap (option_map (λ (x : Step). x.level)) at.fact ∙ ap Some same)
+]
+
+both_ways : (a b : Bool) → (a ≡ true → b ≡ true) → (b ≡ true → a ≡ true) → a ≡ b
+both_ways true b there back = sym (there refl)
+both_ways false true there back = back refl
+both_ways false false there back = refl
+
+-- where the reason of a lower level's assignment is marked, no more variables of the present level are
+here_stays : (trail : State) (p n : ℕ) (s : Step) (seen here mid mid_here : List Bool) (pending more : ℕ) → IsTrail trail → AtStep trail p s → s.reason ≡ Some n → AreMarks trail.vars (level_of trail.steps) trail.steps seen here pending →
+    AreMarks trail.vars (level_of trail.steps) trail.steps mid mid_here more → MarksClause seen mid (numbered trail.clauses n) → marked seen s.lit.var ≡ true → marked here s.lit.var ≡ false → mid_here ≡ here
+here_stays trail p n s seen here mid mid_here pending more valid at is are new marks m off =
+    ext_get_or false mid_here here (new.here_room ∙ sym are.here_room) (λ v lt. both_ways (marked mid_here v) (marked here v) (back v) (there v))
+  where
+    there : (v : ℕ) → marked here v ≡ true → marked mid_here v ≡ true
+    there v h = let old = are.here_seen v h in new.seen_here v (marks.kept v old.0) old.1
+
+    back : (v : ℕ) → marked mid_here v ≡ true → marked here v ≡ true
+    back v h =
+        let now = new.here_seen v h in
+        elim (marks.others v now.0) [
+          | inl was ↦ are.seen_here v was now.1
+          | inr w ↦
+              let lower = not_here trail.vars (level_of trail.steps) trail.steps seen here pending s.lit.var are m off in
+              absurd (reason_below trail p n s w.0 valid at is lower w.1.0 (ap (level_in trail.steps) w.1.1 ∙ now.1))
+        ]
+
+-- the same, as it is read
+pub pending_stays : (trail : State) (p v n : ℕ) (seen here mid mid_here : List Bool) (pending more : ℕ) → IsTrail trail → (r : IsRead trail p v) → r.step.reason ≡ Some n → AreMarks trail.vars (level_of trail.steps) trail.steps seen here pending →
+    AreMarks trail.vars (level_of trail.steps) trail.steps mid mid_here more → MarksClause seen mid (numbered trail.clauses n) → marked seen v ≡ true → marked here v ≡ false → more ≡ pending
+pending_stays trail p v n seen here mid mid_here pending more valid r is are new marks m off =
+    let same = here_stays trail p n r.step seen here mid mid_here pending more valid r.at is are new marks (ap (marked seen) r.var ∙ m) (ap (marked here) r.var ∙ off) in
+    new.counted ∙ ap (count_by (λ b. b)) same ∙ sym are.counted
+
+pub Derived-read : (trail : State) (p v n : ℕ) (seen here mid after after_here : List Bool) (pending less : ℕ) (hints more : List ℕ) → (r : IsRead trail p v) → IsDerived trail (p + 1) seen here pending (reverse hints) → r.step.reason ≡ Some n →
+    MarksClause seen mid (numbered trail.clauses n) → v < length mid → after ≡ set mid v false → more ≡ hints ++ n ∷ [] → AreMarks trail.vars (level_of trail.steps) trail.steps after after_here less →
+    IsDerived trail p after after_here less (reverse more)
+Derived-read trail p v n seen here mid after after_here pending less hints more r going is marks room write push are =
+    let written : after ≡ set mid r.step.lit.var false = write ∙ ap (λ w. set mid w false) (sym r.var) in
+    let turned : reverse more ≡ n ∷ reverse hints = ap reverse push ∙ reverse-append hints (n ∷ []) in
+    subst (λ hs. IsDerived trail p after after_here less hs) (sym turned)
+    (subst (λ ps. IsDerived trail p ps after_here less (n ∷ reverse hints)) (sym written)
+    (Derived-resolve trail p n r.step seen here mid after_here pending less (reverse hints) r.at going is marks (subst (λ w. w < length mid) (sym r.var) room)
+    (subst (λ ps. AreMarks trail.vars (level_of trail.steps) trail.steps ps after_here less) written are)))
+
+number_of : (trail : State) (s : Step) (before : List Step) → StepHolds trail.vars trail.clauses before s → MatchOption s.reason (Unit {0}) (IsNumber trail.clauses)
+number_of trail s before holds = by_number s.reason holds.reason
+  where
+    by_number : (o : Option ℕ) → MatchOption o (Unit {0}) (λ n. IsNumber trail.clauses n × (left_of (values_of before) (numbered trail.clauses n) ≡ s.lit ∷ [])) → MatchOption o (Unit {0}) (IsNumber trail.clauses)
+    by_number None h = tt
+    by_number (Some n) h = h.0
+
+-- a variable's reason is a number of the clauses
+pub reason_number : (trail : State) (v n : ℕ) → IsTrail trail → option_and_then (λ (s : Step). s.reason) (fact_of trail.steps v) ≡ Some n → IsNumber trail.clauses n
+reason_number trail v n valid is = by_fact (fact_of trail.steps v) refl is
+  where
+    by_fact : (o : Option Step) → fact_of trail.steps v ≡ o → option_and_then (λ (s : Step). s.reason) o ≡ Some n → IsNumber trail.clauses n
+    by_fact None e none = absurd (let bad : None ≡ Some n = none in cc)
+    by_fact (Some s) e some =
+        let has = (fact-is trail.steps v s e).0 in
+        let all = All-contains (λ (s : Step). MatchOption s.reason (Unit {0}) (IsNumber trail.clauses)) trail.steps s (λ i d lt. number_of trail (get_or trail.steps i d) (take i trail.steps) (valid.steps i d lt)) has in
+        subst (λ o. MatchOption o (Unit {0}) (IsNumber trail.clauses)) some all

@@ -2,7 +2,7 @@ ghost use Rattle.std.specs.Prelude.{◌≡◌, ◌+◌, ◌<◌, ◌≤◌, ◌�
 ghost use Rattle.heesch_cdcl.specs.Marking.{AreListed, AreClear};
 ghost use Rattle.heesch_cdcl.specs.Marked.{IsClauseOfMarked, IsLevelIn};
 ghost use Rattle.heesch_cdcl.specs.Ready.{IsReady, IsInUse};
-ghost use Rattle.heesch_cdcl.specs.Resolved.{IsResolving, IsResolved, IsBegun};
+ghost use Rattle.heesch_cdcl.specs.Resolved.{IsDerived, IsResolving, IsResolved, IsBegun};
 ghost use Rattle.heesch_cnf.specs.Clauses.{IsClause};
 ghost use Rattle.heesch_cnf.specs.Lines.{clauses_with, FinalHolds};
 ghost use Rattle.heesch_trail.specs.State.{level_of};
@@ -76,8 +76,73 @@ fn resolve_at(
     Ok(())
 }
 
+/// The assignment at the place is left out, resolved with its reason, where it is marked, of a lower level, and follows
+/// from the other marked ones and from level 0. Whether it was marked and of a lower level is answered.
+fn shorten_at(
+    formula: &Formula,
+    lines: &[Line],
+    trail: &Trail,
+    place: usize,
+    marks: &mut Marks,
+    hints: &mut Vec<u32>,
+) -> Result<bool, NoMemory>
+    requires searching { IsSearching formula.now.vars formula.now.clauses lines.now trail.now }
+    requires place { place < length trail.now.steps }
+    requires derived { IsDerived trail.now (place + 1) marks.old.seen.items marks.old.here.items marks.old.pending (reverse hints.old.items) }
+    requires listed { AreListed trail.now.vars marks.old.seen.items marks.old.here.items marks.old.touched.items }
+    ensures derived { OnOk result (IsDerived trail.now place marks.new.seen.items marks.new.here.items marks.new.pending (reverse hints.new.items)) }
+    ensures listed { AreListed trail.now.vars marks.new.seen.items marks.new.here.items marks.new.touched.items }
+    ensures same { OnOk result (marks.new.pending ≡ marks.old.pending) }
+{
+    let var = trail.made()[place].var;
+    if !marks.is_below(var) {
+        return Ok(false);
+    }
+    if !marks.follows(formula, lines, trail, var)? {
+        return Ok(true);
+    }
+    let Some(reason) = trail.reason_of(var) else {
+        return Ok(true);
+    };
+    hints.push(reason).map_err(|_| NoMemory)?;
+    let level = trail.level();
+    marks.mark(trail, level, clause_numbered(formula, lines, reason))?;
+    marks.leave_out(trail, level, var);
+    Ok(true)
+}
+
+/// Leaves out what follows from the other literals and from level 0, so what was assigned at level 0 too. The assignments
+/// are passed over from this place down to the earliest of a marked variable: each variable that was marked is either
+/// passed by then or resolved before, which the hints count, or the one of the present level that stays.
+fn shorten(
+    formula: &Formula,
+    lines: &[Line],
+    trail: &Trail,
+    from: usize,
+    marks: &mut Marks,
+    hints: &mut Vec<u32>,
+) -> Result<(), NoMemory>
+    requires searching { IsSearching formula.now.vars formula.now.clauses lines.now trail.now }
+    requires derived { IsDerived trail.now from marks.old.seen.items marks.old.here.items marks.old.pending (reverse hints.old.items) }
+    requires listed { AreListed trail.now.vars marks.old.seen.items marks.old.here.items marks.old.touched.items }
+    ensures derived { OnOk result (IsDerived trail.now 0 marks.new.seen.items marks.new.here.items marks.new.pending (reverse hints.new.items)) }
+    ensures listed { AreListed trail.now.vars marks.new.seen.items marks.new.here.items marks.new.touched.items }
+    ensures same { OnOk result (marks.new.pending ≡ marks.old.pending) }
+{
+    let mut place = from;
+    let mut passed = hints.len();
+    while place > 0 && passed < marks.touched.len() {
+        place -= 1;
+        if shorten_at(formula, lines, trail, place, marks, hints)? {
+            passed = passed.saturating_add(1);
+        }
+    }
+    Ok(())
+}
+
 /// Resolves the conflict with the reasons of the latest assignments, until at most `stop` literals of the present level
-/// are left. The hints are those of the resolved clauses, in the order of the assignments.
+/// are left, and then leaves out what follows from the other literals. The hints are those of the resolved clauses, in the
+/// order of the assignments.
 fn resolve(
     alloc: Global,
     formula: &Formula,
@@ -102,6 +167,7 @@ fn resolve(
         place -= 1;
         resolve_at(formula, lines, trail, place, marks, &mut hints)?;
     }
+    shorten(formula, lines, trail, place, marks, &mut hints)?;
     hints.reverse();
     Ok(Seq::from_vec(hints))
 }
@@ -152,8 +218,9 @@ fn learnt_from(
     })
 }
 
-/// The clause that is learnt from a conflict above level 0. The cost is the lengths of the clauses that are resolved, the
-/// assignments of the present level, and the sorting of the clause's variables.
+/// The clause that is learnt from a conflict above level 0. The cost is the lengths of the clauses that are resolved or
+/// looked at to shorten it, the assignments from the latest down to the earliest of a variable in them that was marked,
+/// and the sorting of the clause's variables.
 pub fn analyse(
     alloc: Global,
     formula: &Formula,

@@ -13,6 +13,7 @@ mod ring;
 mod search;
 mod solver;
 mod values;
+mod verdicts;
 mod workspace;
 
 pub use laws::{clause_is_new, given_is_new, lines_are_few, no_final_line, twelve_variables};

@@ -1,10 +1,12 @@
-ghost use Rattle.std.specs.Prelude.{◌≡◌, ◌<◌, ◌≤◌, ◌+◌, IfOk, OnOk, IsTrue, ◌↔◌, Some, true, false, slice_set, filter};
+ghost use Rattle.std.specs.Prelude.{◌≡◌, ◌<◌, ◌≤◌, ◌+◌, IfOk, OnOk, IsTrue, ◌↔◌, Some, true, false, slice_set, filter, length};
 ghost use Rattle.heesch_cnf.specs.Clauses.{IsClause};
 ghost use Rattle.heesch_trail.specs.State.{level_of};
+ghost use Rattle.heesch_cdcl.specs.Searching.{IsSearching};
 ghost use Rattle.heesch_cdcl.specs.Marking.{AreMarks, AreListed, AreClear, MarksClause, marked, level_in};
 
 use crate::filled::filled;
-use heesch_cnf::Lit;
+use crate::verdicts::Verdicts;
+use heesch_cnf::{Formula, Line, Lit};
 use heesch_io::NoMemory;
 use heesch_trail::Trail;
 use std::alloc::Global;
@@ -17,10 +19,14 @@ pub struct Marks {
     pub here: Vec<bool>,
     pub touched: Vec<u32>,
     pub pending: usize,
+    verdicts: Verdicts,
 }
 
+/// At most as many reasons in a row show that a variable follows from others.
+const DEPTH: u32 = 500;
+
 /// Whether the variable was assigned at the level.
-fn is_at(trail: &Trail, level: u32, var: u32) -> bool
+pub fn is_at(trail: &Trail, level: u32, var: u32) -> bool
     requires { var ≤ trail.now.vars }
     ensures { IsTrue result ↔ (level_in trail.now.steps var ≡ Some level) }
 {
@@ -41,6 +47,7 @@ impl Marks {
             here: filled(alloc, count, false)?,
             touched: Vec::new(alloc),
             pending: 0,
+            verdicts: Verdicts::new(alloc, vars)?,
         })
     }
 
@@ -102,6 +109,49 @@ impl Marks {
         self.pending -= 1;
     }
 
+    /// A variable of a lower level is marked no more.
+    pub fn leave_out(&mut self, trail: &Trail, level: u32, var: u32)
+        requires below { marked self.old.here.items var ≡ false }
+        requires range { var ≤ trail.now.vars }
+        requires marks { AreMarks trail.now.vars level trail.now.steps self.old.seen.items self.old.here.items self.old.pending }
+        requires listed { AreListed trail.now.vars self.old.seen.items self.old.here.items self.old.touched.items }
+        ensures marks { AreMarks trail.now.vars level trail.now.steps self.new.seen.items self.new.here.items self.new.pending }
+        ensures listed { AreListed trail.now.vars self.new.seen.items self.new.here.items self.new.touched.items }
+        ensures seen { self.new.seen.items ≡ slice_set self.old.seen.items var false }
+        ensures same { self.new.pending ≡ self.old.pending }
+    {
+        self.seen[var as usize] = false;
+    }
+
+    /// Whether a variable is marked, and of a lower level.
+    pub fn is_below(&self, var: u32) -> bool
+        requires seen_room { var < length self.now.seen.items }
+        requires here_room { var < length self.now.here.items }
+        ensures { IsTrue result ↔ ((marked self.now.seen.items var ≡ true) × (marked self.now.here.items var ≡ false)) }
+    {
+        self.seen[var as usize] && !self.here[var as usize]
+    }
+
+    /// Whether the variable follows from the marked ones and from level 0.
+    pub fn follows(
+        &mut self,
+        formula: &Formula,
+        lines: &[Line],
+        trail: &Trail,
+        var: u32,
+    ) -> Result<bool, NoMemory>
+        requires searching { IsSearching formula.now.vars formula.now.clauses lines.now trail.now }
+        requires range { var ≤ trail.now.vars }
+        requires room { length self.old.seen.items ≡ trail.now.vars + 1 }
+        ensures seen { self.new.seen.items ≡ self.old.seen.items }
+        ensures here { self.new.here.items ≡ self.old.here.items }
+        ensures touched { self.new.touched.items ≡ self.old.touched.items }
+        ensures pending { self.new.pending ≡ self.old.pending }
+    {
+        self.verdicts
+            .follows(formula, lines, trail, &self.seen, var, DEPTH)
+    }
+
     /// The variables that are marked, in the order in which they were, each at least once.
     pub fn kept(&self, alloc: Global, vars: u32) -> Result<Vec<u32>, NoMemory>
         requires { AreListed vars self.now.seen.items self.now.here.items self.now.touched.items }
@@ -128,5 +178,6 @@ impl Marks {
             self.here[var as usize] = false;
         }
         self.pending = 0;
+        self.verdicts.clear();
     }
 }

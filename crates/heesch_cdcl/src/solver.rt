@@ -92,8 +92,9 @@ impl Solver {
     ///
     /// The cost is a look at each clause of the formula, and then that of the search: for an assignment the clauses
     /// watched by the literal made false; for a decision the variables passed over in a queue; for a conflict the clauses
-    /// resolved, the assignments taken back, the sorting of the learnt clause, and a look at each clause learnt since the
-    /// level gone back to was left. All variables are looked at once, for a model.
+    /// resolved or looked at to shorten the learnt clause, the assignments after the earliest of its variables, the
+    /// assignments taken back, the sorting of the learnt clause, and a look at each clause learnt since the level gone back
+    /// to was left. All variables are looked at once, for a model.
     pub fn next(&mut self) -> Result<Found, NoMemory>
         ensures found { IfOk result (IsFound self.new) }
         ensures ends { 3 ^ self.old.vars < self.old.turns → IfOk result (λ found. found ≢ Found.Spent) }

@@ -3,6 +3,7 @@ pub mod Literals
 pub mod Formulas
 pub mod Cuts
 pub mod Proofs
+pub mod Reduced
 pub mod TrueEntry
 pub mod Parts
 pub mod RightVerdict

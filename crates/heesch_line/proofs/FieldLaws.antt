@@ -24,7 +24,8 @@ use Rattle.heesch_text.specs.declared.line.BareOutcome.TheVariants as bares
 use Rattle.heesch_text.specs.Names.{kind_text, phase_text, subject_text, outcome_text, bare_text}
 use Rattle.heesch_text.specs.Lines.{limits_text}
 use Rattle.heesch_words.specs.Requests.{most_cells}
-use Rattle.heesch_line.specs.Forms.{IsNatural, IsPlace, IsSubject}
+use Rattle.heesch_text.specs.Naturals.{IsNatural}
+use Rattle.heesch_line.specs.Forms.{IsPlace, IsSubject}
 use Rattle.heesch_line.specs.Reading.{◌>>=◌, given, literal_at, number_at, labelled_at, integer_at, iso_at, is_triple, three_numbers_at, grid_at, kind_at, phase_at, outcome_at, bare_outcome_at, subject_at, are_limits, limits_of, limits_at}
 use Rattle.heesch_line.proofs.Steps.{some, some_is, none_some, bind_some, given_some, behind_some, both_true, ◌▸◌, literal_part, IsRead, is_read, word_read}
 use Rattle.heesch_line.proofs.Numbers.{number_read, number_again, integer_read, integer_again, Stops, labelled_parts, eqb_same, BeginsWithDigit, decimal_begins}

@@ -13,7 +13,8 @@ use Rattle.heesch_text.specs.declared.line.Line.TheVariants as lines
 use Rattle.heesch_text.specs.Fields.{triple_text}
 use Rattle.heesch_text.specs.Names.{phase_text}
 use Rattle.heesch_text.specs.Lines.{verdict_text, words_of}
-use Rattle.heesch_line.specs.Forms.{IsNatural, IsVerdict, IsLine}
+use Rattle.heesch_text.specs.Naturals.{IsNatural}
+use Rattle.heesch_line.specs.Forms.{IsVerdict, IsLine}
 use Rattle.heesch_line.specs.Reading.{◌>>=◌, behind, literal_at, number_at, iso_at, lit_at, is_triple, three_numbers_at, triple_of, grid_at, kind_at, phase_at, outcome_at, bare_outcome_at, subject_at, labelled_at, limits_at, more_words_at, some_words_at, cells_at}
 use Rattle.heesch_line.specs.LineReading.{header_at, shape_at, tiles_at, heesch_at, stop_at, verdict_at, verdict_line_at, end_at, lattice_at, tile_at, coronas_at, layer_at, open_at, wall_at, bare_at, triple_line_at, learn_at, cut_at, empty_at, search_line_at, cover_line_at, front_line_at, line_at}
 use Rattle.heesch_line.proofs.Steps.{some, some_is, none_some, bind_some, given_some, behind_some, Takes, ◌▸◌, same_takes, literal_part, IsRead, is_read, word_read}

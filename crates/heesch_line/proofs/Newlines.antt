@@ -35,7 +35,8 @@ use Rattle.heesch_text.specs.declared.line.Line.TheVariants as lines
 use Rattle.heesch_text.specs.Fields.{spaced, cell_text, cells_text, iso_text, place_text, lit_text, triple_text}
 use Rattle.heesch_text.specs.Names.{kind_text, phase_text, subject_text, outcome_text, bare_text}
 use Rattle.heesch_text.specs.Lines.{title_text, limits_text, verdict_text, words_of}
-use Rattle.heesch_line.specs.Forms.{IsNatural, IsInteger, IsPlace, IsLiteral, IsSubject, IsVerdict, IsLine, HasNoNewline}
+use Rattle.heesch_text.specs.Naturals.{IsNatural}
+use Rattle.heesch_line.specs.Forms.{IsInteger, IsPlace, IsLiteral, IsSubject, IsVerdict, IsLine, HasNoNewline}
 use Rattle.heesch_line.proofs.Numbers.{decimal_digits}
 use Rattle.heesch_line.proofs.FieldLaws.{few_cells, triple_natural}
 

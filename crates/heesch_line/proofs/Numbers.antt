@@ -18,7 +18,8 @@ use Rattle.heesch_grid.specs.declared.Cell.{Cell}
 use Rattle.heesch_grid.specs.Vectors.{IsWithin}
 use Rattle.heesch_cnf.specs.declared.literal.Lit.{Lit}
 use Rattle.heesch_text.specs.Fields.{cell_text, lit_text}
-use Rattle.heesch_line.specs.Forms.{IsNatural, IsInteger, IsLiteral}
+use Rattle.heesch_text.specs.Naturals.{IsNatural}
+use Rattle.heesch_line.specs.Forms.{IsInteger, IsLiteral}
 use Rattle.heesch_line.specs.Reading.{◌>>=◌, given, is_plain, digits_len, is_minus, literal_at, number_at, labelled_at, integer_at, cell_at, lit_at}
 use Rattle.heesch_line.proofs.Digits.{digits_pass}
 use Rattle.heesch_line.proofs.Steps.{some, some_is, bind_some, given_some, both_true, Takes, ◌▸◌, same_takes, literal_part, IsRead, is_read}

@@ -14,7 +14,7 @@ use Rattle.heesch_line.proofs.Newlines.{cells_free}
 use Rattle.heesch_line.proofs.ListLaws.{first_line, list_line_again}
 
 -- cells are told by their text
-cells_tell : (a b : List Cell) → AreCells a → AreCells b → cells_text a ≡ cells_text b → a ≡ b
+pub cells_tell : (a b : List Cell) → AreCells a → AreCells b → cells_text a ≡ cells_text b → a ≡ b
 cells_tell a b fits fit same =
     let whole : (cells_text a ++ 10 ∷ []) ≡ cells_text b ++ 10 ∷ [] = ap (λ (t : List ℕ). t ++ 10 ∷ []) same in
     let both : (a, []) ≡ (b, []) = some_is {A = List Cell × List ℕ} (a, []) (b, []) (sym (list_line_again a [] fits) ∙ ap list_line_at whole ∙ list_line_again b [] fit) in

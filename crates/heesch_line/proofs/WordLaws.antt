@@ -12,7 +12,8 @@ use Rattle.heesch_grid.specs.declared.isometries.Iso.{Iso}
 use Rattle.heesch_grid.specs.Vectors.{IsWithin}
 use Rattle.heesch_cnf.specs.declared.literal.Lit.{Lit}
 use Rattle.heesch_text.specs.Fields.{spaced, cell_text, cells_text, place_text, lit_text}
-use Rattle.heesch_line.specs.Forms.{IsNatural, IsInteger, IsPlace, IsLiteral, AreSome}
+use Rattle.heesch_text.specs.Naturals.{IsNatural}
+use Rattle.heesch_line.specs.Forms.{IsInteger, IsPlace, IsLiteral, AreSome}
 use Rattle.heesch_line.specs.Reading.{◌>>=◌, given, number_at, cell_at, iso_at, lit_at, has_word, words_at, more_words_at, some_words_at, cells_at}
 use Rattle.heesch_line.proofs.Steps.{some, some_is, bind_some, given_some, both_true, Takes, ◌▸◌, IsRead, is_read}
 use Rattle.heesch_line.proofs.Numbers.{number_read, number_again, lit_read, lit_again, cell_read, cell_again, Stops, BeginsWithDigit, decimal_begins}

@@ -1,5 +1,5 @@
 -- The forms of a line: the ranges of its numbers, and which of its lists have an item at least.
-use Rattle.std.specs.Prelude.{◌≡◌, ℕ, ◌<◌, ◌≤◌, ◌^◌, ◌≢◌, ◌++◌, List, [], ℤ, pos, neg_ℤ, ◌≤ℤ◌}
+use Rattle.std.specs.Prelude.{◌≡◌, ℕ, ◌<◌, ◌≤◌, ◌≢◌, ◌++◌, List, [], ℤ, pos, neg_ℤ, ◌≤ℤ◌}
 use Rattle.std.specs.List.{AllByRecursion}
 use Rattle.heesch_grid.specs.declared.GridName.{GridName}
 use Rattle.heesch_grid.specs.declared.isometries.Iso.{Iso}
@@ -14,10 +14,7 @@ use Rattle.heesch_cert.specs.Limits.{AreLimits}
 use Rattle.heesch_words.specs.Requests.{most_cells}
 use Rattle.heesch_text.specs.declared.line.Line.{Line}
 use Rattle.heesch_text.specs.declared.line.Line.TheVariants as lines
-
--- the number fits 32 bits
-abbrev pub IsNatural : ℕ → Type 0
-IsNatural n = n < 2 ^ 32
+use Rattle.heesch_text.specs.Naturals.{IsNatural}
 
 -- the integer lies within 100,000 of 0
 abbrev pub IsInteger : ℤ → Type 0

@@ -54,7 +54,7 @@ no_header brief (places.Wider more) header = refl
 no_header brief places.Triples header = refl
 no_header brief places.Ended header = refl
 
-header_first : (p r : Progress) (header : Header) → next p (lines.Header header) ≡ Some r → (p ≡ stages.Start) × (stages.Behind header.brief start ≡ r)
+pub header_first : (p r : Progress) (header : Header) → next p (lines.Header header) ≡ Some r → (p ≡ stages.Start) × (stages.Behind header.brief start ≡ r)
 header_first stages.Start r header e = (refl, cc)
 header_first (stages.Behind brief spot) r header e =
     let none : next (stages.Behind brief spot) (lines.Header header) ≡ None = rw (no_header brief spot.place header) refl in
@@ -83,7 +83,7 @@ no_header_yet : (header : Option Header) (entries : ℕ) (ended : Bool) → prog
 no_header_yet None entries ended e = refl
 no_header_yet (Some header) entries ended e = absurd cc
 
-no_lines : (p q : Progress) (ls : List Line) → ls ≡ [] → walk p ls ≡ Some q → p ≡ q
+pub no_lines : (p q : Progress) (ls : List Line) → ls ≡ [] → walk p ls ≡ Some q → p ≡ q
 no_lines p q [] n e = cc
 no_lines p q (line ∷ ls) n e = absurd cc
 
@@ -105,6 +105,7 @@ header_moves s t before after header reached i may a =
       appended = a.appended;
       numbered = (tt, tt);
       split = rw (w.0, held) refl;
+      apart = inr held;
       is = record {
         lead = record { forms = rw held tt; reached = rw (told, held, a.progress) (ap (λ (q : Progress). Some q) f.1) };
         one_entry = rw held tt;
@@ -182,6 +183,7 @@ end_moves s t before after count reached i settled words room may a =
       appended = a.appended;
       numbered = (tt, tt);
       split = rw (none, held) refl;
+      apart = inr held;
       is = record {
         lead = record { forms = rw held tt; reached = rw (held, a.progress) (ap (λ (q : Progress). Some q) there) };
         one_entry = rw held tt;
@@ -208,6 +210,7 @@ kept_moves s t before after line reached i form may a given held one shapes room
       appended = told;
       numbered = tt;
       split = sym lines_now;
+      apart = inl refl;
       is = record {
         lead = record {
           forms = rw lines_now (all_append IsLine s.lines.items (line ∷ []) i.lead.forms (form, tt));

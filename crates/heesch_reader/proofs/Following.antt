@@ -8,18 +8,24 @@ use Rattle.heesch_cert.specs.declared.header.Header.{Header}
 use Rattle.heesch_text.specs.declared.line.Line.{Line}
 use Rattle.heesch_text.specs.Lines.{words_of, line_text, text_of}
 use Rattle.heesch_line.specs.Forms.{IsLine}
+use Rattle.heesch_grammar.specs.declared.place.Place.TheVariants as places
+use Rattle.heesch_grammar.specs.declared.spot.Spot.{Spot}
+use Rattle.heesch_grammar.specs.Grammar.{is_whole}
+use Rattle.heesch_grammar.specs.Statements.{between_entries}
 use Rattle.heesch_reader.specs.declared.item.Item.{Item}
 use Rattle.heesch_reader.specs.declared.item.Item.TheVariants as items
 use Rattle.heesch_reader.specs.declared.item.Part.{Part}
 use Rattle.heesch_reader.specs.declared.item.Stop.{Stop}
 use Rattle.heesch_reader.specs.declared.progress.Progress.{Progress}
+use Rattle.heesch_reader.specs.declared.progress.Progress.TheVariants as stages
 use Rattle.heesch_reader.specs.declared.scan.Appended.{Appended}
 use Rattle.heesch_reader.specs.declared.scan.Scan.{Scan}
-use Rattle.heesch_reader.specs.Progress.{next, walk, may_end}
+use Rattle.heesch_reader.specs.Progress.{next, walk, may_end, between}
 use Rattle.heesch_reader.specs.Items.{Kept, item_lines, lines_of, with_item, with_items, AreItemsAt, progress_behind, progress_of}
 use Rattle.heesch_reader.specs.Faults.{begins_next, part_of}
-use Rattle.heesch_reader.specs.Feeding.{Stands, Takes, FeedFrom, FeedResult, BeginEntry, IsPrompt, IsPromptAtEnd, IsShown, Refuses, FallsShort}
-use Rattle.heesch_reader.specs.Scanning.{IsScan, MayGoOn, Moves, Settles, EndsLine, FaultsLine, Pushes, Reaches, Completes, rest_of, shows_whole, shows_whole_at_end, is_complete}
+use Rattle.heesch_reader.specs.Feeding.{IsBehindEntry, ItemsLead, Stands, Takes, FeedFrom, FeedResult, BeginEntry, IsPrompt, IsPromptAtEnd, IsShown, IsShownAtEnd, Refuses, FallsShort}
+use Rattle.heesch_reader.specs.Scanning.{IsScan, MayGoOn, Moves, GivesEntry, Settles, EndsLine, FaultsLine, Pushes, Reaches, Completes, rest_of, shows_whole, shows_whole_at_end, is_complete}
+use Rattle.heesch_reader.proofs.Ending.{no_lines}
 use Rattle.heesch_reader.proofs.Walking.{all_append, walk_push, same_next, same_part, outer_words, shows_more, no_first_shape, no_shape_behind_end}
 
 -- ---- items
@@ -38,16 +44,16 @@ pub lines_counted : (a : Appended) (f : List Item) → (with_items a f).lines �
 lines_counted a [] = omega arith
 lines_counted a (item ∷ f) = omega (arith, lines_counted (with_item a item) f, item_counted a item, length-append (item_lines item) (lines_of f))
 
-items_append : (n : ℕ) (f g : List Item) → AreItemsAt n f → AreItemsAt (n + length (lines_of f)) g → AreItemsAt n (f ++ g)
+pub items_append : (n : ℕ) (f g : List Item) → AreItemsAt n f → AreItemsAt (n + length (lines_of f)) g → AreItemsAt n (f ++ g)
 items_append n [] g h k = let e : n + 0 ≡ n = omega arith in subst (λ (m : ℕ). AreItemsAt m g) e k
 items_append n (item ∷ f) g h k =
     let e : n + length (item_lines item ++ lines_of f) ≡ n + length (item_lines item) + length (lines_of f) = omega (arith, length-append (item_lines item) (lines_of f)) in
     (h.0, items_append (n + length (item_lines item)) f g h.1 (subst (λ (m : ℕ). AreItemsAt m g) e k))
 
-lines_append : (f g : List Item) → lines_of (f ++ g) ≡ lines_of f ++ lines_of g
+pub lines_append : (f g : List Item) → lines_of (f ++ g) ≡ lines_of f ++ lines_of g
 lines_append f g = flat_map-append item_lines f g
 
-text_append : (a b : List Line) → text_of (a ++ b) ≡ text_of a ++ text_of b
+pub text_append : (a b : List Line) → text_of (a ++ b) ≡ text_of a ++ text_of b
 text_append a b = flat_map-append line_text a b
 
 -- ---- moves
@@ -73,14 +79,21 @@ same_lines s t before after found read m =
     ap (λ (x : List Line). x ++ t.lines.items) (lines_append found m.found) ∙ append_assoc (lines_of found) (lines_of m.found) t.lines.items
     ∙ ap (λ (x : List Line). lines_of found ++ x) (sym m.split) ∙ sym (append_assoc (lines_of found) s.lines.items read)
 
+-- with none at hand
+last_lines : (s t : Scan) (before after : List Item) (found : List Item) (read : List Line) → (m : Moves s t before after read) → t.lines.items ≡ []
+    → lines_of (found ++ m.found) ≡ (lines_of found ++ s.lines.items) ++ read
+last_lines s t before after found read m none =
+    sym (append-nil (lines_of (found ++ m.found))) ∙ ap (λ (x : List Line). lines_of (found ++ m.found) ++ x) (sym none) ∙ same_lines s t before after found read m
+
 -- the same lines, in other groups
 regroup : (first : Appended) (bytes : List ℕ) (found other : List Item) (held more : List Line) (left line : List ℕ) (reached : Progress) → Stands first bytes found held left reached
-    → lines_of other ++ more ≡ lines_of found ++ held → line ≡ left → AreItemsAt first.lines other → BeginEntry more → Stands first bytes other more line reached
-regroup first bytes found other held more left line reached s e f n b = record {
+    → lines_of other ++ more ≡ lines_of found ++ held → line ≡ left → AreItemsAt first.lines other → BeginEntry more → ItemsLead first other → Stands first bytes other more line reached
+regroup first bytes found other held more left line reached s e f n b l = record {
   text = rw (e, f) s.text;
   lead = record { forms = rw e s.lead.forms; reached = rw e s.lead.reached };
   numbered = n;
   one_entry = b;
+  items_lead = l;
 }
 
 -- ---- settling
@@ -90,18 +103,41 @@ pub record Settled (s t : Scan) (before after : List Item) : Type 0 where
   pub moves : Moves s t before after []
   pub line : t.line.items ≡ s.line.items
   pub part : (bytes : List ℕ) → part_of s.progress bytes ≡ part_of t.progress bytes
+  pub behind : (moves.found ≡ []) ⊎ ((t.lines.items ≡ []) × IsBehindEntry s.progress t.appended)
 
 nothing_moves : (s : Scan) (items : List Item) → IsScan s → Moves s s items items []
-nothing_moves s items i = record { found = []; after_is = sym (append-nil items); appended = refl; numbered = tt; split = append-nil s.lines.items; is = i }
+nothing_moves s items i = record { found = []; after_is = sym (append-nil items); appended = refl; numbered = tt; split = append-nil s.lines.items; apart = inl refl; is = i }
+
+-- behind an end no entry may end
+not_ended : (p : Progress) (header : Option Header) (entries : ℕ) (ended : Bool) → may_end p ≡ true → between p ≡ progress_behind header entries ended → ended ≡ false
+not_ended stages.Start header entries ended w e = absurd cc
+not_ended (stages.Behind brief spot) None entries ended w e = absurd cc
+not_ended (stages.Behind brief spot) (Some header) entries true w e =
+    let f : between_entries spot ≡ record { shapes = entries; place = places.Ended } = cc in
+    let g = ap (λ (s : Spot). is_whole s.place) f in
+    absurd cc
+not_ended (stages.Behind brief spot) (Some header) entries false w e = refl
+
+behind_given : (s t : Scan) (before after : List Item) → may_end s.progress ≡ true → GivesEntry s t before after → IsBehindEntry s.progress t.appended
+behind_given s t before after w g =
+    let there : between s.progress ≡ progress_of t.appended = sym g.progress ∙ sym (no_lines (progress_of t.appended) t.progress t.lines.items g.none_held g.moves.is.lead.reached) in
+    record {
+      whole = w;
+      between = there;
+      some = omega (arith, g.one_more);
+      unended = not_ended s.progress t.appended.header t.appended.entries t.appended.ended w there;
+    }
 
 pub settled : (b : Bool) (s t : Scan) (before after : List Item) → IsScan s → (b ≡ true → may_end s.progress ≡ true) → Settles b s t before after → Settled s t before after
+unfolding nothing_moves
 settled true s t before after i w g = record {
   moves = g.moves;
   line = g.line;
   part = λ bytes. same_part s.progress bytes (w refl) ∙ ap (λ (p : Progress). part_of p bytes) (sym g.progress);
+  behind = inr (g.none_held, behind_given s t before after (w refl) g);
 }
 settled false s t before after i w g =
-    let none : Settled s s before before = record { moves = nothing_moves s before i; line = refl; part = λ bytes. refl } in
+    let none : Settled s s before before = record { moves = nothing_moves s before i; line = refl; part = λ bytes. refl; behind = inl refl } in
     subst (λ (x : Scan). Settled s x before after) (sym g.0) (subst (λ (x : List Item). Settled s s before x) (sym g.1) none)
 
 both : (a b : Bool) → (a && b) ≡ true → (a ≡ true) × (b ≡ true)
@@ -176,6 +212,18 @@ settled_shown false s t before after e g shown = subst (λ (x : Scan). IsShown x
 shown_after : (s t : Scan) (before after : List Item) → Settles (shows_whole s) s t before after → IsShown s.appended (rest_of s) → IsShown t.appended (rest_of t)
 shown_after s t before after g shown = settled_shown (shows_whole s) s t before after refl g shown
 
+none_or : (line : List ℕ) (b c : Bool) → (length line == 0) ≡ b → (b || c) ≡ true → (line ≡ []) ⊎ (c ≡ true)
+none_or line true c e f = inl (nil_from_length line (eqb-true (length line) 0 e))
+none_or line false c e f = inr f
+
+settled_shown_at_end : (b : Bool) (s t : Scan) (before after : List Item) → shows_whole_at_end s ≡ b → Settles b s t before after → IsShown s.appended (rest_of s) → IsShownAtEnd t.appended (rest_of t)
+settled_shown_at_end true s t before after e g shown = λ some unended.
+    rw (g.none_held, g.line) (none_or s.line.items (length s.line.items == 0) (begins_next s.line.items) refl (tests (length s.lines.items) (may_end s.progress) (length s.line.items == 0 || begins_next s.line.items) e).1)
+settled_shown_at_end false s t before after e g shown = subst (λ (x : Scan). IsShownAtEnd x.appended (rest_of x)) (sym g.0) (λ some unended. inr (shown some unended))
+
+shown_at_end : (s t : Scan) (before after : List Item) → Settles (shows_whole_at_end s) s t before after → IsShown s.appended (rest_of s) → IsShownAtEnd t.appended (rest_of t)
+shown_at_end s t before after g shown = settled_shown_at_end (shows_whole_at_end s) s t before after refl g shown
+
 shown_more : (a : Appended) (front line back : List ℕ) → IsShown a (front ++ line) → IsShown a (front ++ (line ++ back))
 shown_more a front line back shown = λ some unended. subst (λ (x : List ℕ). begins_next x ≡ true) (append_assoc front line back) (shows_more (front ++ line) back (shown some unended))
 
@@ -203,7 +251,7 @@ pub starts : (s : Scan) (items : List Item) → MayGoOn s → Follows s.appended
 starts s items i = record {
   found = [];
   stood = record { after_is = sym (append-nil items); appended = refl; numbered = tt };
-  stands = record { text = refl; lead = i.is.lead; numbered = tt; one_entry = i.is.one_entry };
+  stands = record { text = refl; lead = i.is.lead; numbered = tt; one_entry = i.is.one_entry; items_lead = record { behind = progress_of s.appended; walked = refl; alike = inl refl } };
   is = i;
 }
 
@@ -230,9 +278,21 @@ pushes first s t before after bytes b h f p = record {
     lead = rw (p.lines, p.progress) f.stands.lead;
     numbered = f.stands.numbered;
     one_entry = rw p.lines f.stands.one_entry;
+    items_lead = f.stands.items_lead;
   };
   is = record { is = pushed_is s t b h p f.is.is; shown = pushed_shown s t b p f.is.shown };
 }
+
+-- where items lead behind a settling
+settled_lead : (first : Appended) (s t : Scan) (before middle after : List Item) (bytes : List ℕ) → (f : Follows first s before middle bytes) → (g : Settled s t middle after) → ItemsLead first (f.found ++ g.moves.found)
+settled_lead first s t before middle after bytes f g = elim g.behind [
+  | inl none ↦ subst (λ (x : List Item). ItemsLead first x) (sym (ap (λ (x : List Item). f.found ++ x) none ∙ append-nil f.found)) f.stands.items_lead
+  | inr b ↦ record {
+    behind = s.progress;
+    walked = ap (walk (progress_of first)) (last_lines s t middle after f.found [] g.moves b.0 ∙ append-nil (lines_of f.found ++ s.lines.items)) ∙ f.stands.lead.reached;
+    alike = inr (subst (λ (a : Appended). IsBehindEntry s.progress a) (stood_on first s t before middle after f.found [] f.stood g.moves).appended b.1);
+  }
+]
 
 -- behind a settling
 settled_stands : (first : Appended) (s t : Scan) (before middle after : List Item) (bytes : List ℕ) → (f : Follows first s before middle bytes) → (g : Settled s t middle after)
@@ -240,7 +300,7 @@ settled_stands : (first : Appended) (s t : Scan) (before middle after : List Ite
 settled_stands first s t before middle after bytes f g =
     let n = stood_on first s t before middle after f.found [] f.stood g.moves in
     regroup first bytes f.found (f.found ++ g.moves.found) s.lines.items t.lines.items s.line.items t.line.items s.progress f.stands
-    (same_lines s t middle after f.found [] g.moves ∙ append-nil (lines_of f.found ++ s.lines.items)) g.line n.numbered g.moves.is.one_entry
+    (same_lines s t middle after f.found [] g.moves ∙ append-nil (lines_of f.found ++ s.lines.items)) g.line n.numbered g.moves.is.one_entry (settled_lead first s t before middle after bytes f g)
 
 pub reaches : (first : Appended) (s t : Scan) (before middle after : List Item) (bytes : List ℕ) → Follows first s before middle bytes → Settles (shows_whole s) s t middle after → Reaches first t before after bytes
 reaches first s t before middle after bytes f g =
@@ -261,6 +321,18 @@ read_text bytes words line ls read e f =
     ap (λ (x : List ℕ). x ++ 10 ∷ []) e ∙ append_assoc (text_of ls) line (10 ∷ []) ∙ ap (λ (x : List ℕ). text_of ls ++ (x ++ 10 ∷ [])) (sym f)
     ∙ ap (λ (x : List ℕ). text_of ls ++ x) (sym (append-nil (line_text read))) ∙ sym (text_append ls (read ∷ [])) ∙ sym (append-nil (text_of (ls ++ read ∷ [])))
 
+-- where items lead behind a line
+line_lead : (first : Appended) (s t : Scan) (before middle after : List Item) (found : List Item) (read : Line) → Stood first s before middle found → (m : Moves s t middle after (read ∷ [])) → ItemsLead first found
+    → walk (progress_of first) ((lines_of found ++ s.lines.items) ++ read ∷ []) ≡ Some t.progress → ItemsLead first (found ++ m.found)
+line_lead first s t before middle after found read n m l e = elim m.apart [
+  | inl none ↦ subst (λ (x : List Item). ItemsLead first x) (sym (ap (λ (x : List Item). found ++ x) none ∙ append-nil found)) l
+  | inr none ↦ record {
+    behind = t.progress;
+    walked = ap (walk (progress_of first)) (last_lines s t middle after found (read ∷ []) m none) ∙ e;
+    alike = inl (sym (no_lines (progress_of t.appended) t.progress t.lines.items none m.is.lead.reached) ∙ ap progress_of (stood_on first s t before middle after found (read ∷ []) n m).appended);
+  }
+]
+
 pub ends_line : (first : Appended) (s t : Scan) (before middle after : List Item) (bytes : List ℕ) → Follows first s before middle bytes → EndsLine s t middle after → Follows first t before after (bytes ++ 10 ∷ [])
 ends_line first s t before middle after bytes f e =
     let mid = e.middle in
@@ -272,6 +344,7 @@ ends_line first s t before middle after bytes f e =
     let n_then = stood_on first mid t before e.between after found (en.read ∷ []) n en.moves in
     let same = same_lines mid t e.between after found (en.read ∷ []) en.moves in
     let goes : next s.progress en.read ≡ Some t.progress = judged_alike s mid middle e.between en.read e.settled (en.words ∙ h.line) ∙ en.may_stand in
+    let walked = walk_push (progress_of first) s.progress t.progress (lines_of found ++ mid.lines.items) en.read there.lead.reached goes in
     record {
       found = found ++ en.moves.found;
       stood = n_then;
@@ -279,10 +352,11 @@ ends_line first s t before middle after bytes f e =
         text = rw (same, en.emptied) (read_text bytes [] mid.line.items (lines_of found ++ mid.lines.items) en.read there.text en.words);
         lead = record {
           forms = rw same (all_append IsLine (lines_of found ++ mid.lines.items) (en.read ∷ []) there.lead.forms (en.form, tt));
-          reached = rw same (walk_push (progress_of first) s.progress t.progress (lines_of found ++ mid.lines.items) en.read there.lead.reached goes);
+          reached = rw same walked;
         };
         numbered = n_then.numbered;
         one_entry = en.moves.is.one_entry;
+        items_lead = line_lead first mid t before e.between after found en.read n en.moves there.items_lead walked;
       };
       is = record { is = en.moves.is; shown = en.shown (shown_after s mid middle e.between e.settled f.is.shown) };
     }
@@ -312,6 +386,7 @@ refuses first s before middle after bytes back line part f e =
         lead = there.lead;
         numbered = there.numbered;
         one_entry = there.one_entry;
+        items_lead = there.items_lead;
       };
       fault = record {
         words = mid.line.items;
@@ -400,6 +475,7 @@ falls_short s t items after line part i g c e p =
       stands = settled_stands s.appended s t items items after (rest_of s) f h;
       one_line = h.moves.is.one_line;
       prompt = subst (λ (x : List ℕ). IsPromptAtEnd t.lines.items x s.progress) (sym h.line) (prompt_at_end s t items after g);
+      shown = subst (λ (a : Appended). IsShownAtEnd a (rest_of t)) n.appended (shown_at_end s t items after g i.shown);
       short = subst (λ (a : Appended). (t.line.items ≢ []) ⊎ (a.ended ≡ false)) n.appended (too_short t.appended.ended t.line.items c);
       line_is = line_number s.appended t items after h.moves.found line n e;
       part_is = p ∙ sym (h.part t.line.items);

@@ -96,9 +96,11 @@ gives s t before after item brief spot i some p g e n a =
         appended = g.appended ∙ counted;
         numbered = (n, tt);
         split = append-nil s.lines.items ∙ sym (rw g.lines (append-nil (lines_of (item ∷ [])) ∙ append-nil (item_lines item) ∙ e));
+        apart = inr g.lines;
         is = given_is s t brief spot i some p g;
       };
       none_held = g.lines;
+      one_more = ap (λ (a : Appended). a.entries) g.appended ∙ one_more s brief spot i some p;
       progress = g.progress;
       line = g.line;
     }

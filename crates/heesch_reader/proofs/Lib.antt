@@ -2,7 +2,8 @@ mod Bytes
 mod Ending
 pub mod Following
 mod Giving
-mod Inner
+pub mod Inner
 pub mod NoFault
 mod PartNames
+pub mod Pieces
 pub mod Walking

@@ -11,7 +11,7 @@ use Rattle.heesch_reader.specs.declared.item.Stop.{Stop}
 use Rattle.heesch_reader.specs.declared.item.Stop.TheVariants as stops
 use Rattle.heesch_reader.specs.declared.progress.Progress.{Progress}
 use Rattle.heesch_reader.specs.declared.scan.Appended.{Appended}
-use Rattle.heesch_reader.specs.Progress.{Lead, may_end}
+use Rattle.heesch_reader.specs.Progress.{Lead, walk, may_end, between}
 use Rattle.heesch_reader.specs.Items.{Kept, lines_of, AreItemsAt, with_items, progress_of}
 use Rattle.heesch_reader.specs.Faults.{begins_next, part_of, FaultsAt}
 
@@ -27,12 +27,26 @@ abbrev pub BeginEntry : List Line → Type 0
 BeginEntry [] = Unit {0}
 BeginEntry (line ∷ ls) = IsShape line × AllByRecursion IsInside ls
 
+-- an entry may end there, and a reader goes on as between two entries
+pub record IsBehindEntry (p : Progress) (a : Appended) : Type 0 where
+  pub whole : may_end p ≡ true
+  pub between : between p ≡ progress_of a
+  pub some : 0 < a.entries
+  pub unended : a.ended ≡ false
+
+-- the lines of the items lead to the place that a reader goes on from, or to one where the last entry may end
+pub record ItemsLead (old : Appended) (found : List Item) : Type 0 where
+  pub behind : Progress
+  pub walked : walk (progress_of old) (lines_of found) ≡ Some behind
+  pub alike : (behind ≡ progress_of (with_items old found)) ⊎ IsBehindEntry behind (with_items old found)
+
 -- the bytes are the text of these items, then lines of one entry, then the bytes left; all of those lines may stand
 pub record Stands (old : Appended) (bytes : List ℕ) (found : List Item) (held : List Line) (left : List ℕ) (reached : Progress) : Type 0 where
   pub text : bytes ≡ text_of (lines_of found ++ held) ++ left
   pub lead : Lead (progress_of old) (lines_of found ++ held) reached
   pub numbered : AreItemsAt old.lines found
   pub one_entry : BeginEntry held
+  pub items_lead : ItemsLead old found
 
 -- no whole item is held back: where an entry may end, the bytes left don't show that the next one begins
 abbrev pub IsPrompt : List Line → List ℕ → Progress → Type 0
@@ -101,6 +115,10 @@ pub record Finishes (old new : Kept) (before after : List Item) (bytes : List �
 abbrev pub IsPromptAtEnd : List Line → List ℕ → Progress → Type 0
 IsPromptAtEnd held left reached = IsPrompt held left reached × (may_end reached ≡ true → left ≡ [] → held ≡ [])
 
+-- behind an entry, and before an end, the bytes left are none, or show that the next entry or the end begins
+abbrev pub IsShownAtEnd : Appended → List ℕ → Type 0
+IsShownAtEnd a rest = 0 < a.entries → a.ended ≡ false → (rest ≡ []) ⊎ (begins_next rest ≡ true)
+
 -- each line that ended may stand, but the bytes left are a line without its newline, or no end was read
 pub record FallsShort (old : Appended) (before after : List Item) (bytes : List ℕ) (line : ℕ) (part : Part) : Type 0 where
   pub found : List Item
@@ -110,6 +128,7 @@ pub record FallsShort (old : Appended) (before after : List Item) (bytes : List 
   pub stands : Stands old bytes found held left reached
   pub one_line : HasNoNewline left
   pub prompt : IsPromptAtEnd held left reached
+  pub shown : IsShownAtEnd (with_items old found) (text_of held ++ left)
   pub short : (left ≢ []) ⊎ ((with_items old found).ended ≡ false)
   pub line_is : line ≡ old.lines + length (lines_of found ++ held) + 1
   pub part_is : part ≡ part_of reached left

@@ -51,13 +51,15 @@ IsRefusedOrScan (Some stop) s = Unit {0}
 abbrev pub kept_of : Option Stop → Scan → Kept
 kept_of refusal s = record { refusal = refusal; appended = s.appended; rest = rest_of s }
 
--- items were appended, and lines read: the lines of those items, then those at hand, are the lines that were at hand and those read
+-- items were appended, and lines read: the lines of those items, then those at hand, are the lines that were at hand and those read;
+-- behind an item just appended there is no line at hand
 pub record Moves (s t : Scan) (before after : List Item) (read : List Line) : Type 0 where
   pub found : List Item
   pub after_is : after ≡ before ++ found
   pub appended : t.appended ≡ with_items s.appended found
   pub numbered : AreItemsAt s.appended.lines found
   pub split : s.lines.items ++ read ≡ lines_of found ++ t.lines.items
+  pub apart : (found ≡ []) ⊎ (t.lines.items ≡ [])
   pub is : IsScan t
 
 -- ---- an entry
@@ -66,6 +68,7 @@ pub record Moves (s t : Scan) (before after : List Item) (read : List Line) : Ty
 pub record GivesEntry (s t : Scan) (before after : List Item) : Type 0 where
   pub moves : Moves s t before after []
   pub none_held : t.lines.items ≡ []
+  pub one_more : t.appended.entries ≡ s.appended.entries + 1
   pub progress : t.progress ≡ between s.progress
   pub line : t.line.items ≡ s.line.items
 

@@ -4,6 +4,8 @@
 #[cfg(test)]
 mod catalogues;
 #[cfg(test)]
+mod checks;
+#[cfg(test)]
 mod given;
 #[cfg(test)]
 mod lists;
@@ -13,3 +15,5 @@ mod plains;
 mod running;
 #[cfg(test)]
 mod solver;
+#[cfg(test)]
+mod tables;

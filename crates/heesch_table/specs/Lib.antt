@@ -3,3 +3,4 @@ pub mod Counts
 pub mod Steps
 pub mod Texts
 pub mod Statements
+pub mod Holed

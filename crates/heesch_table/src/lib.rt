@@ -3,6 +3,7 @@
 
 mod fields;
 mod heesch;
+mod holes;
 pub mod laws;
 mod tally;
 #[cfg(test)]

@@ -2,14 +2,18 @@
 ghost use Rattle.std.specs.Prelude.{◌≡◌, ◌+◌, ◌<◌, ◌^◌, ◌++◌, ◌∷◌, [], Bool, List, length, take, OnOk, OnErr};
 ghost use Rattle.heesch_cert.specs.declared.verdict.Verdict.{Verdict};
 ghost use Rattle.heesch_table.specs.Counts.{counts_of};
+ghost use Rattle.heesch_table.specs.Holed.{IsHoled};
 ghost use Rattle.heesch_table.specs.Texts.{counts_text};
 
 use crate::fields::append_count;
 use crate::heesch::HeeschCounts;
+use crate::holes::has_hole;
 use crate::tilings::TilingCounts;
 use crate::undecided::UndecidedCounts;
 use heesch_cert::Verdict;
+use heesch_grid::Grid;
 use heesch_io::NoMemory;
+use heesch_shape::Shape;
 use std::alloc::Global;
 use std::marker::Model;
 
@@ -67,6 +71,26 @@ impl Tally {
         self.tilings.add(verdict);
         self.undecided.add(verdict);
         Ok(())
+    }
+
+    /// One more shape, by its cells and its verdict. Fewer than 2^32 shapes were added before.
+    ///
+    /// Errors: at `NoMemory` the tally is as it was before. Whether the shape has a hole is found by
+    /// a flood of the window around it, with memory for that window; else its cost is that of `add`.
+    pub fn add_shape<G: Grid>(
+        &mut self,
+        alloc: Global,
+        shape: &Shape<G>,
+        verdict: &Verdict,
+    ) -> Result<(), NoMemory>
+        requires { self.old.shapes < 2 ^ 32 }
+        ensures ok { (found : List (Bool × Verdict)) → self.old ≡ counts_of found
+            → OnOk result ((holed : Bool) × IsHoled G.geometry shape.now holed × (self.new ≡ counts_of (found ++ (holed, verdict.now) ∷ []))) }
+        ensures shapes { OnOk result (self.new.shapes ≡ self.old.shapes + 1) }
+        ensures err { OnErr result (self.new ≡ self.old) }
+    {
+        let holed = has_hole(alloc, shape)?;
+        self.add(holed, verdict)
     }
 
     /// Appends the lines `shapes N`, `holed N`, `translation N`, `halfturn N`, `periodic N` and

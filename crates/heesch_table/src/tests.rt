@@ -3,7 +3,9 @@ ghost use Rattle.std.specs.Prelude.{◌≤◌, length};
 
 use crate::Tally;
 use heesch_cert::{Kind, Phase, Verdict};
+use heesch_grid::{Cell, Square};
 use heesch_io::NoMemory;
+use heesch_shape::Shape;
 use std::alloc::Global;
 use std::test::Fail;
 
@@ -125,5 +127,29 @@ undecided size 1
 ";
     let text = text_of(rt.alloc(), &found)?;
     assert_eq!(rt; text.as_slice(), expected.as_slice());
+    Ok(())
+}
+
+macro_rules! cells {
+    ($($a:literal, $b:literal);*) => {
+        [$(Cell { a: $a, b: $b }),*]
+    };
+}
+
+/// Seven squares around an eighth have a hole, and a single square has none.
+#[test]
+fn holes_of_shapes(rt: HostRuntime) -> Result<(), Fail> {
+    let alloc = rt.alloc();
+    let ring = Shape::<Square>::of(&cells![0, 0; 1, 0; 2, 0; 0, 1; 2, 1; 0, 2; 1, 2])?;
+    let square = Shape::<Square>::of(&cells![-5, 5])?;
+    let mut tally = Tally::new(alloc);
+    tally.add_shape(alloc, &ring, &Verdict::Heesch { h: 0, m: 1 })?;
+    tally.add_shape(alloc, &square, &tiling(Kind::Translation, 1).1)?;
+    let mut text = Vec::new(alloc);
+    tally.write(&mut text)?;
+    assert!(rt;
+        text.as_slice()
+            .starts_with(b"shapes 2\nholed 1\ntranslation 1\n")
+    );
     Ok(())
 }

@@ -2,5 +2,6 @@ pub mod Catalogue
 pub mod Fields
 pub mod Lines
 pub mod Names
+pub mod Naturals
 pub mod Plains
 pub mod Shapes

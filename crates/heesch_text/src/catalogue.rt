@@ -1,6 +1,8 @@
 //! The texts of a catalogue's parts.
 ghost use Rattle.std.specs.Prelude.{◌≡◌, ◌++◌, length, take, OnOk, OnErr};
+ghost use Rattle.std.specs.List.{AllByRecursion};
 ghost use Rattle.heesch_text.specs.Lines.{text_of};
+ghost use Rattle.heesch_text.specs.Naturals.{HasNaturals};
 ghost use Rattle.heesch_text.specs.Catalogue.{brief_lines, entry_lines, header_text, entry_text, brief_text, end_text};
 
 use crate::evidence::append_evidence;
@@ -24,12 +26,15 @@ pub fn write_header(header: &Header, out: &mut Vec<u8>) -> Result<(), NoMemory>
     written
 }
 
-/// Appends the lines of an entry: its shape, its verdict and its evidence.
+/// Appends the lines of an entry: its shape, its verdict and its evidence. The natural numbers of each line that it wrote
+/// fit 32 bits.
 ///
-/// Errors: at `NoMemory` the text is as it was before. Its cost is the length of what it appends.
+/// Errors: at `NoMemory` the text is as it was before. A count of layers or a level that doesn't fit 32 bits is want of memory
+/// too. Its cost is the length of what it appends.
 pub fn write_entry(entry: &Entry, out: &mut Vec<u8>) -> Result<(), NoMemory>
     ensures ok { OnOk result (out.new.items ≡ out.old.items ++ entry_text entry.now) }
     ensures err { OnErr result (out.new.items ≡ out.old.items) }
+    ensures naturals { OnOk result (AllByRecursion HasNaturals (entry_lines entry.now)) }
 {
     let before = out.len();
     let written = append_entry(entry, out);
@@ -39,12 +44,14 @@ pub fn write_entry(entry: &Entry, out: &mut Vec<u8>) -> Result<(), NoMemory>
     written
 }
 
-/// Appends the first two lines of an entry: its shape and its verdict.
+/// Appends the first two lines of an entry: its shape and its verdict. The natural numbers of each line that it wrote fit 32
+/// bits.
 ///
 /// Errors: at `NoMemory` the text is as it was before. Its cost is the length of what it appends.
 pub fn write_brief(entry: &Entry, out: &mut Vec<u8>) -> Result<(), NoMemory>
     ensures ok { OnOk result (out.new.items ≡ out.old.items ++ brief_text entry.now) }
     ensures err { OnErr result (out.new.items ≡ out.old.items) }
+    ensures naturals { OnOk result (AllByRecursion HasNaturals (brief_lines entry.now)) }
 {
     let before = out.len();
     let written = append_brief(entry, out);
@@ -72,6 +79,7 @@ pub fn write_end(count: u32, out: &mut Vec<u8>) -> Result<(), NoMemory>
 fn append_brief(entry: &Entry, out: &mut Vec<u8>) -> Result<(), NoMemory>
     ensures ok { OnOk result (out.new.items ≡ out.old.items ++ text_of (brief_lines entry.now)) }
     ensures kept { take (length out.old.items) out.new.items ≡ out.old.items }
+    ensures naturals { OnOk result (AllByRecursion HasNaturals (brief_lines entry.now)) }
 {
     append_shape_line(entry.cells.as_slice(), out)?;
     append_verdict_line(entry.verdict, out)
@@ -80,6 +88,7 @@ fn append_brief(entry: &Entry, out: &mut Vec<u8>) -> Result<(), NoMemory>
 fn append_entry(entry: &Entry, out: &mut Vec<u8>) -> Result<(), NoMemory>
     ensures ok { OnOk result (out.new.items ≡ out.old.items ++ text_of (entry_lines entry.now)) }
     ensures kept { take (length out.old.items) out.new.items ≡ out.old.items }
+    ensures naturals { OnOk result (AllByRecursion HasNaturals (entry_lines entry.now)) }
 {
     append_brief(entry, out)?;
     append_evidence(entry.verdict, &entry.evidence, out)

@@ -1,9 +1,10 @@
 //! The lines of an entry's evidence, added at the end of a text.
-ghost use Rattle.std.specs.Prelude.{◌≡◌, ◌+◌, ◌++◌, ◌∷◌, [], length, map, take, OnOk};
-ghost use Rattle.std.specs.List.{flat_map};
+ghost use Rattle.std.specs.Prelude.{◌≡◌, ◌+◌, ◌^◌, ◌≤◌, ◌++◌, ◌∷◌, [], length, map, take, OnOk, OnErr, IfOk};
+ghost use Rattle.std.specs.List.{flat_map, AllByRecursion};
 ghost use Rattle.heesch_text.specs.declared.line.Line.TheVariants as lines;
 ghost use Rattle.heesch_text.specs.declared.line.BareOutcome.TheVariants as bare_outcomes;
 ghost use Rattle.heesch_text.specs.Lines.{line_text, text_of};
+ghost use Rattle.heesch_text.specs.Naturals.{HasNaturals};
 ghost use Rattle.heesch_text.specs.Catalogue.{
   layer_lines,
   proof_lines,
@@ -42,6 +43,7 @@ pub fn append_evidence(
 ) -> Result<(), NoMemory>
     ensures ok { OnOk result (out.new.items ≡ out.old.items ++ text_of (evidence_lines verdict evidence.now)) }
     ensures kept { take (length out.old.items) out.new.items ≡ out.old.items }
+    ensures naturals { OnOk result (AllByRecursion HasNaturals (evidence_lines verdict evidence.now)) }
 {
     match evidence {
         Evidence::Cover { tiling, classes } => append_cover(tiling, classes, out),
@@ -53,12 +55,11 @@ pub fn append_evidence(
             triples,
         } => {
             let layers = free.layers.as_slice();
-            let last = last_of(verdict) as usize;
-            append_coronas_line(layers.len(), out)?;
+            append_coronas_line(number_of(layers.len())?, out)?;
             append_layers(layers, out)?;
             append_after_layers(
-                layers.len() + 1,
-                last,
+                number_of(layers.len() + 1)?,
+                last_of(verdict),
                 wall,
                 bare,
                 wider,
@@ -69,10 +70,21 @@ pub fn append_evidence(
     }
 }
 
+/// A count as a number of a line. The numbers of lines fit 32 bits, and a count that doesn't is answered as want of memory.
+fn number_of(count: usize) -> Result<u32, NoMemory>
+    ensures ok { IfOk result (λ number. number ≡ count) }
+    ensures err { OnErr result (2 ^ 32 ≤ count) }
+{
+    let Ok(number) = u32::try_from(count) else {
+        return Err(NoMemory);
+    };
+    Ok(number)
+}
+
 /// What follows the hole-free coronas, with the level of the wall and the last number of the verdict.
 fn append_after_layers(
-    level: usize,
-    last: usize,
+    level: u32,
+    last: u32,
     wall: &Wall,
     bare: &Bare,
     wider: &Option<Layers>,
@@ -82,9 +94,10 @@ fn append_after_layers(
     ensures ok { OnOk result (out.new.items
         ≡ out.old.items ++ text_of (after_layers level last wall.now bare.now wider.now triples.now)) }
     ensures kept { take (length out.old.items) out.new.items ≡ out.old.items }
+    ensures naturals { OnOk result (AllByRecursion HasNaturals (after_layers level last wall.now bare.now wider.now triples.now)) }
 {
     append_wall(level, wall, out)?;
-    append_bare(level, count_wider(wider), last, bare, out)?;
+    append_bare(level, count_wider(wider)?, last, bare, out)?;
     append_wider(wider, out)?;
     append_triples(triples, out)
 }
@@ -110,6 +123,7 @@ fn last_of(verdict: Verdict) -> u32
 fn append_cover(tiling: &Tiling, classes: &Classes, out: &mut Vec<u8>) -> Result<(), NoMemory>
     ensures ok { OnOk result (out.new.items ≡ out.old.items ++ text_of (cover_lines tiling.now classes.now)) }
     ensures kept { take (length out.old.items) out.new.items ≡ out.old.items }
+    ensures naturals { OnOk result (AllByRecursion HasNaturals (cover_lines tiling.now classes.now)) }
 {
     append_lattice_line(&tiling.triple, out)?;
     append_tiles(tiling.places.as_slice(), classes.members.as_slice(), out)
@@ -118,6 +132,7 @@ fn append_cover(tiling: &Tiling, classes: &Classes, out: &mut Vec<u8>) -> Result
 fn append_tiles(places: &[Iso], members: &[Member], out: &mut Vec<u8>) -> Result<(), NoMemory>
     ensures ok { OnOk result (out.new.items ≡ out.old.items ++ text_of (tile_lines places.now members.now)) }
     ensures kept { take (length out.old.items) out.new.items ≡ out.old.items }
+    ensures naturals { OnOk result (AllByRecursion HasNaturals (tile_lines places.now members.now)) }
 {
     let count = places.len().min(members.len());
     for i in 0..count {
@@ -129,6 +144,7 @@ fn append_tiles(places: &[Iso], members: &[Member], out: &mut Vec<u8>) -> Result
 fn append_layers(layers: &[Isos], out: &mut Vec<u8>) -> Result<(), NoMemory>
     ensures ok { OnOk result (out.new.items ≡ out.old.items ++ text_of (layer_lines layers.now)) }
     ensures kept { take (length out.old.items) out.new.items ≡ out.old.items }
+    ensures naturals { OnOk result (AllByRecursion HasNaturals (layer_lines layers.now)) }
 {
     for places in layers {
         append_layer_line(places.as_slice(), out)?;
@@ -136,9 +152,10 @@ fn append_layers(layers: &[Isos], out: &mut Vec<u8>) -> Result<(), NoMemory>
     Ok(())
 }
 
-fn append_wall(level: usize, wall: &Wall, out: &mut Vec<u8>) -> Result<(), NoMemory>
+fn append_wall(level: u32, wall: &Wall, out: &mut Vec<u8>) -> Result<(), NoMemory>
     ensures ok { OnOk result (out.new.items ≡ out.old.items ++ text_of (wall_lines level wall.now)) }
     ensures kept { take (length out.old.items) out.new.items ≡ out.old.items }
+    ensures naturals { OnOk result (AllByRecursion HasNaturals (wall_lines level wall.now)) }
 {
     match wall {
         Wall::Absent => Ok(()),
@@ -155,14 +172,15 @@ fn append_wall(level: usize, wall: &Wall, out: &mut Vec<u8>) -> Result<(), NoMem
 }
 
 fn append_bare(
-    level: usize,
-    found: usize,
-    last: usize,
+    level: u32,
+    found: u32,
+    last: u32,
     bare: &Bare,
     out: &mut Vec<u8>,
 ) -> Result<(), NoMemory>
     ensures ok { OnOk result (out.new.items ≡ out.old.items ++ text_of (bare_lines level found last bare.now)) }
     ensures kept { take (length out.old.items) out.new.items ≡ out.old.items }
+    ensures naturals { OnOk result (AllByRecursion HasNaturals (bare_lines level found last bare.now)) }
 {
     match bare {
         Bare::Absent => Ok(()),
@@ -181,36 +199,39 @@ fn append_bare(
 
 /// A search with holes allowed, and its proof.
 fn append_searched(
-    level: usize,
+    level: u32,
     outcome: Outcome,
     proof: &Proof,
     out: &mut Vec<u8>,
 ) -> Result<(), NoMemory>
     ensures ok { OnOk result (out.new.items ≡ out.old.items ++ text_of (lines.Bare level (bare_outcomes.Searched outcome) ∷ proof_lines proof.now)) }
     ensures kept { take (length out.old.items) out.new.items ≡ out.old.items }
+    ensures naturals { OnOk result (AllByRecursion HasNaturals (lines.Bare level (bare_outcomes.Searched outcome) ∷ proof_lines proof.now)) }
 {
     append_bare_line(level, BareOutcome::Searched { outcome }, out)?;
     append_proof(proof, out)
 }
 
 /// The number of layers that were found with holes allowed, or 0.
-fn count_wider(wider: &Option<Layers>) -> usize
-    ensures { result ≡ wider_count wider.now }
+fn count_wider(wider: &Option<Layers>) -> Result<u32, NoMemory>
+    ensures ok { IfOk result (λ count. count ≡ wider_count wider.now) }
+    ensures err { OnErr result (2 ^ 32 ≤ wider_count wider.now) }
 {
     match wider {
-        None => 0,
-        Some(wider) => wider.layers.len(),
+        None => Ok(0),
+        Some(wider) => number_of(wider.layers.len()),
     }
 }
 
 fn append_wider(wider: &Option<Layers>, out: &mut Vec<u8>) -> Result<(), NoMemory>
     ensures ok { OnOk result (out.new.items ≡ out.old.items ++ text_of (wider_lines wider.now)) }
     ensures kept { take (length out.old.items) out.new.items ≡ out.old.items }
+    ensures naturals { OnOk result (AllByRecursion HasNaturals (wider_lines wider.now)) }
 {
     match wider {
         None => Ok(()),
         Some(wider) => {
-            append_open_line(wider.layers.len(), out)?;
+            append_open_line(number_of(wider.layers.len())?, out)?;
             append_layers(wider.layers.as_slice(), out)
         }
     }
@@ -219,6 +240,7 @@ fn append_wider(wider: &Option<Layers>, out: &mut Vec<u8>) -> Result<(), NoMemor
 fn append_triples(triples: &[TripleProof], out: &mut Vec<u8>) -> Result<(), NoMemory>
     ensures ok { OnOk result (out.new.items ≡ out.old.items ++ text_of (flat_map triple_lines triples.now)) }
     ensures kept { take (length out.old.items) out.new.items ≡ out.old.items }
+    ensures naturals { OnOk result (AllByRecursion HasNaturals (flat_map triple_lines triples.now)) }
 {
     for triple in triples {
         append_triple_proof(triple, out)?;
@@ -229,6 +251,7 @@ fn append_triples(triples: &[TripleProof], out: &mut Vec<u8>) -> Result<(), NoMe
 fn append_triple_proof(triple: &TripleProof, out: &mut Vec<u8>) -> Result<(), NoMemory>
     ensures ok { OnOk result (out.new.items ≡ out.old.items ++ text_of (triple_lines triple.now)) }
     ensures kept { take (length out.old.items) out.new.items ≡ out.old.items }
+    ensures naturals { OnOk result (AllByRecursion HasNaturals (triple_lines triple.now)) }
 {
     append_triple_line(&triple.triple, triple.proof.last.is_some(), out)?;
     append_proof(&triple.proof, out)
@@ -237,6 +260,7 @@ fn append_triple_proof(triple: &TripleProof, out: &mut Vec<u8>) -> Result<(), No
 fn append_proof(proof: &Proof, out: &mut Vec<u8>) -> Result<(), NoMemory>
     ensures ok { OnOk result (out.new.items ≡ out.old.items ++ text_of (proof_lines proof.now)) }
     ensures kept { take (length out.old.items) out.new.items ≡ out.old.items }
+    ensures naturals { OnOk result (AllByRecursion HasNaturals (proof_lines proof.now)) }
 {
     append_steps(proof.steps.as_slice(), out)?;
     append_last(&proof.last, out)
@@ -245,6 +269,7 @@ fn append_proof(proof: &Proof, out: &mut Vec<u8>) -> Result<(), NoMemory>
 fn append_steps(steps: &[Step], out: &mut Vec<u8>) -> Result<(), NoMemory>
     ensures ok { OnOk result (out.new.items ≡ out.old.items ++ text_of (map step_line steps.now)) }
     ensures kept { take (length out.old.items) out.new.items ≡ out.old.items }
+    ensures naturals { OnOk result (AllByRecursion HasNaturals (map step_line steps.now)) }
 {
     for step in steps {
         append_step(step, out)?;
@@ -255,6 +280,7 @@ fn append_steps(steps: &[Step], out: &mut Vec<u8>) -> Result<(), NoMemory>
 fn append_step(step: &Step, out: &mut Vec<u8>) -> Result<(), NoMemory>
     ensures ok { OnOk result (out.new.items ≡ out.old.items ++ line_text (step_line step.now)) }
     ensures kept { take (length out.old.items) out.new.items ≡ out.old.items }
+    ensures naturals { OnOk result (HasNaturals (step_line step.now)) }
 {
     match step {
         Step::Learn { clause, hints } => {
@@ -267,6 +293,7 @@ fn append_step(step: &Step, out: &mut Vec<u8>) -> Result<(), NoMemory>
 fn append_last(last: &Option<Hints>, out: &mut Vec<u8>) -> Result<(), NoMemory>
     ensures ok { OnOk result (out.new.items ≡ out.old.items ++ line_text (last_line last.now)) }
     ensures kept { take (length out.old.items) out.new.items ≡ out.old.items }
+    ensures naturals { OnOk result (HasNaturals (last_line last.now)) }
 {
     match last {
         None => append_spent_line(out),

@@ -1,6 +1,8 @@
 //! The fields of a line, added at the end of a text. Where memory runs out, the text keeps what it had.
-ghost use Rattle.std.specs.Prelude.{◌≡◌, ◌++◌, ◌∷◌, [], ℕ, List, length, take, OnOk, codes, decimal};
+ghost use Rattle.std.specs.Prelude.{◌≡◌, ◌++◌, ◌∷◌, [], ℕ, List, length, take, OnOk, ⊤, codes, decimal};
+ghost use Rattle.std.specs.List.{AllByRecursion};
 ghost use Rattle.std.specs.Fmt.{signed_decimal};
+ghost use Rattle.heesch_text.specs.Naturals.{IsNatural};
 ghost use Rattle.heesch_text.specs.Fields.{spaced, cell_text, cells_text, triple_text, iso_text, place_text, lit_text};
 
 use heesch_cnf::Lit;
@@ -47,18 +49,10 @@ pub fn append_integer(number: i32, out: &mut Vec<u8>) -> Result<(), NoMemory>
 pub fn append_labelled(label: &[u8], number: u32, out: &mut Vec<u8>) -> Result<(), NoMemory>
     ensures ok { OnOk result (out.new.items ≡ out.old.items ++ (label.now ++ decimal number)) }
     ensures kept { take (length out.old.items) out.new.items ≡ out.old.items }
+    ensures natural { IsNatural number }
 {
     append_bytes(label, out)?;
     append_number(number, out)
-}
-
-/// The bytes, and a count behind them.
-pub fn append_count(label: &[u8], count: usize, out: &mut Vec<u8>) -> Result<(), NoMemory>
-    ensures ok { OnOk result (out.new.items ≡ out.old.items ++ (label.now ++ decimal count)) }
-    ensures kept { take (length out.old.items) out.new.items ≡ out.old.items }
-{
-    append_bytes(label, out)?;
-    append_bytes(Buffer::new().format(count).as_bytes(), out)
 }
 
 /// An isometry as `TURN DA DB`.
@@ -73,18 +67,23 @@ pub fn append_iso(iso: Iso, out: &mut Vec<u8>) -> Result<(), NoMemory>
     append_integer(iso.db, out)
 }
 
-/// A word of a list within a line.
+/// A word of a list within a line: its text, and that its natural number, if it has one, fits 32 bits.
 pub trait Word: Copy {
     ghost text: { Self → List ℕ };
 
+    ghost fits: { Self → Type 0 };
+
     fn append_word(self, out: &mut Vec<u8>) -> Result<(), NoMemory>
         ensures ok { OnOk result (out.new.items ≡ out.old.items ++ text self) }
-        ensures kept { take (length out.old.items) out.new.items ≡ out.old.items };
+        ensures kept { take (length out.old.items) out.new.items ≡ out.old.items }
+        ensures natural { fits self };
 }
 
 /// A natural number.
 impl Word for u32 {
     ghost text = { decimal };
+
+    ghost fits = { IsNatural };
 
     fn append_word(self, out: &mut Vec<u8>) -> Result<(), NoMemory> {
         append_number(self, out)
@@ -94,6 +93,8 @@ impl Word for u32 {
 /// A cell as `A,B`.
 impl Word for Cell {
     ghost text = { cell_text };
+
+    ghost fits = { λ _. ⊤ };
 
     fn append_word(self, out: &mut Vec<u8>) -> Result<(), NoMemory> {
         append_integer(self.a, out)?;
@@ -106,6 +107,8 @@ impl Word for Cell {
 impl Word for Lit {
     ghost text = { lit_text };
 
+    ghost fits = { λ l. IsNatural l.var };
+
     fn append_word(self, out: &mut Vec<u8>) -> Result<(), NoMemory> {
         if !self.positive {
             append_byte(b'-', out)?;
@@ -117,6 +120,8 @@ impl Word for Lit {
 /// A place as `TURN,DA,DB`.
 impl Word for Iso {
     ghost text = { place_text };
+
+    ghost fits = { λ i. IsNatural i.turn };
 
     fn append_word(self, out: &mut Vec<u8>) -> Result<(), NoMemory> {
         append_number(self.turn, out)?;
@@ -132,6 +137,7 @@ impl Word for Iso {
 pub fn append_spaced<W: Word>(items: &[W], out: &mut Vec<u8>) -> Result<(), NoMemory>
     ensures ok { OnOk result (out.new.items ≡ out.old.items ++ spaced W.text items.now) }
     ensures kept { take (length out.old.items) out.new.items ≡ out.old.items }
+    ensures fit { OnOk result (AllByRecursion W.fits items.now) }
 {
     for item in items {
         append_byte(b' ', out)?;

@@ -4,10 +4,11 @@ ghost use Rattle.heesch_text.specs.declared.line.Line.TheVariants as lines;
 ghost use Rattle.heesch_cert.specs.declared.verdict.Verdict.TheVariants as verdicts;
 ghost use Rattle.heesch_text.specs.Names.{phase_text, subject_text};
 ghost use Rattle.heesch_text.specs.Lines.{line_text, title_text, limits_text, verdict_text};
+ghost use Rattle.heesch_text.specs.Naturals.{VerdictHasNaturals, HasNaturals};
 
 use crate::fields::{
-    append_byte, append_bytes, append_cells, append_count, append_iso, append_labelled,
-    append_number, append_spaced, append_triple,
+    append_byte, append_bytes, append_cells, append_iso, append_labelled, append_number,
+    append_spaced, append_triple,
 };
 use crate::line::{BareOutcome, Outcome};
 use crate::names::{bare_word, grid_word, kind_word, outcome_word, phase_word};
@@ -122,6 +123,7 @@ fn append_verdict(verdict: Verdict, out: &mut Vec<u8>) -> Result<(), NoMemory>
 pub fn append_verdict_line(verdict: Verdict, out: &mut Vec<u8>) -> Result<(), NoMemory>
     ensures ok { OnOk result (out.new.items ≡ out.old.items ++ line_text (lines.Verdict verdict)) }
     ensures kept { take (length out.old.items) out.new.items ≡ out.old.items }
+    ensures naturals { HasNaturals (lines.Verdict verdict) }
 {
     append_bytes(b"verdict ", out)?;
     append_verdict(verdict, out)?;
@@ -142,6 +144,7 @@ pub fn append_lattice_line(triple: &Triple, out: &mut Vec<u8>) -> Result<(), NoM
 pub fn append_tile_line(place: Iso, member: &Member, out: &mut Vec<u8>) -> Result<(), NoMemory>
     ensures ok { OnOk result (out.new.items ≡ out.old.items ++ line_text (lines.Tile place member.now)) }
     ensures kept { take (length out.old.items) out.new.items ≡ out.old.items }
+    ensures naturals { OnOk result (HasNaturals (lines.Tile place member.now)) }
 {
     append_bytes(b"tile ", out)?;
     append_iso(place, out)?;
@@ -152,11 +155,12 @@ pub fn append_tile_line(place: Iso, member: &Member, out: &mut Vec<u8>) -> Resul
 }
 
 /// The number of hole-free coronas.
-pub fn append_coronas_line(count: usize, out: &mut Vec<u8>) -> Result<(), NoMemory>
+pub fn append_coronas_line(count: u32, out: &mut Vec<u8>) -> Result<(), NoMemory>
     ensures ok { OnOk result (out.new.items ≡ out.old.items ++ line_text (lines.Coronas count)) }
     ensures kept { take (length out.old.items) out.new.items ≡ out.old.items }
+    ensures naturals { HasNaturals (lines.Coronas count) }
 {
-    append_count(b"coronas ", count, out)?;
+    append_labelled(b"coronas ", count, out)?;
     append_byte(b'\n', out)
 }
 
@@ -171,37 +175,36 @@ pub fn append_layer_line(places: &[Iso], out: &mut Vec<u8>) -> Result<(), NoMemo
 }
 
 /// How the search for one corona more ended.
-pub fn append_wall_line(level: usize, outcome: Outcome, out: &mut Vec<u8>) -> Result<(), NoMemory>
+pub fn append_wall_line(level: u32, outcome: Outcome, out: &mut Vec<u8>) -> Result<(), NoMemory>
     ensures ok { OnOk result (out.new.items ≡ out.old.items ++ line_text (lines.Wall level outcome)) }
     ensures kept { take (length out.old.items) out.new.items ≡ out.old.items }
+    ensures naturals { HasNaturals (lines.Wall level outcome) }
 {
-    append_count(b"wall ", level, out)?;
+    append_labelled(b"wall ", level, out)?;
     append_byte(b' ', out)?;
     append_bytes(outcome_word(outcome), out)?;
     append_byte(b'\n', out)
 }
 
 /// How the search with holes allowed ended.
-pub fn append_bare_line(
-    level: usize,
-    outcome: BareOutcome,
-    out: &mut Vec<u8>,
-) -> Result<(), NoMemory>
+pub fn append_bare_line(level: u32, outcome: BareOutcome, out: &mut Vec<u8>) -> Result<(), NoMemory>
     ensures ok { OnOk result (out.new.items ≡ out.old.items ++ line_text (lines.Bare level outcome)) }
     ensures kept { take (length out.old.items) out.new.items ≡ out.old.items }
+    ensures naturals { HasNaturals (lines.Bare level outcome) }
 {
-    append_count(b"bare ", level, out)?;
+    append_labelled(b"bare ", level, out)?;
     append_byte(b' ', out)?;
     append_bytes(bare_word(outcome), out)?;
     append_byte(b'\n', out)
 }
 
 /// The number of layers that were found with holes allowed.
-pub fn append_open_line(count: usize, out: &mut Vec<u8>) -> Result<(), NoMemory>
+pub fn append_open_line(count: u32, out: &mut Vec<u8>) -> Result<(), NoMemory>
     ensures ok { OnOk result (out.new.items ≡ out.old.items ++ line_text (lines.Open count)) }
     ensures kept { take (length out.old.items) out.new.items ≡ out.old.items }
+    ensures naturals { HasNaturals (lines.Open count) }
 {
-    append_count(b"open ", count, out)?;
+    append_labelled(b"open ", count, out)?;
     append_byte(b'\n', out)
 }
 
@@ -221,6 +224,7 @@ pub fn append_triple_line(triple: &Triple, refuted: bool, out: &mut Vec<u8>) -> 
 pub fn append_learn_line(clause: &[Lit], hints: &[u32], out: &mut Vec<u8>) -> Result<(), NoMemory>
     ensures ok { OnOk result (out.new.items ≡ out.old.items ++ line_text (lines.Learn clause.now hints.now)) }
     ensures kept { take (length out.old.items) out.new.items ≡ out.old.items }
+    ensures naturals { OnOk result (HasNaturals (lines.Learn clause.now hints.now)) }
 {
     append_bytes(b"learn", out)?;
     append_spaced(clause, out)?;
@@ -233,6 +237,7 @@ pub fn append_learn_line(clause: &[Lit], hints: &[u32], out: &mut Vec<u8>) -> Re
 pub fn append_cut_line(cut: &Cut, out: &mut Vec<u8>) -> Result<(), NoMemory>
     ensures ok { OnOk result (out.new.items ≡ out.old.items ++ line_text (lines.Cut cut.now)) }
     ensures kept { take (length out.old.items) out.new.items ≡ out.old.items }
+    ensures naturals { OnOk result (HasNaturals (lines.Cut cut.now)) }
 {
     append_labelled(b"cut ", cut.level, out)?;
     append_bytes(b" : ", out)?;
@@ -246,6 +251,7 @@ pub fn append_cut_line(cut: &Cut, out: &mut Vec<u8>) -> Result<(), NoMemory>
 pub fn append_empty_line(hints: &[u32], out: &mut Vec<u8>) -> Result<(), NoMemory>
     ensures ok { OnOk result (out.new.items ≡ out.old.items ++ line_text (lines.Empty hints.now)) }
     ensures kept { take (length out.old.items) out.new.items ≡ out.old.items }
+    ensures naturals { OnOk result (HasNaturals (lines.Empty hints.now)) }
 {
     append_bytes(b"empty", out)?;
     append_spaced(hints, out)?;

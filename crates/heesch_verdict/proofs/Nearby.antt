@@ -1,4 +1,4 @@
--- Canonical shapes, and the places of covers of small domains, lie near 0.
+-- Canonical shapes, and the places of covers of small domains, lie near 0; the places of plain tilings are reduced.
 use Rattle.std.proofs.Common.{◌≡◌, ◌*◌, ◌≤◌, ℕ, ℤ, pos, ◌≤ℤ◌, ◌<ℤ◌, List, arith, All}
 use Rattle.std.proofs.Math.Nat.{mul-le-mul_left, mul-le-mul_right}
 use Rattle.std.proofs.lemmas.Int.{ints}
@@ -6,12 +6,12 @@ use Rattle.std.proofs.lemmas.List.Elements.{All-weaker}
 use Rattle.heesch_grid.specs.declared.Cell.{Cell}
 use Rattle.heesch_grid.specs.declared.isometries.Iso.{Iso}
 use Rattle.heesch_grid.specs.Cells.{cell}
-use Rattle.heesch_grid.specs.Geometry.{Geometry, IsGrid, IsIsometry}
-use Rattle.heesch_grid.specs.Lattice.{Triple, IsTripleOfDomain}
+use Rattle.heesch_grid.specs.Geometry.{Geometry, IsGrid}
+use Rattle.heesch_grid.specs.Lattice.{Triple, IsTriple, IsTripleOfDomain}
 use Rattle.heesch_grid.specs.Polyform.{IsCanonicalListOf}
 use Rattle.heesch_grid.specs.Tiling.{no_move, half_turned}
-use Rattle.heesch_grid.specs.TorusFormula.{IsWithinTriple}
 use Rattle.heesch_grid.specs.Vectors.{IsWithin}
+use Rattle.heesch_cert.specs.Reduced.{IsReducedPlace}
 use Rattle.heesch_shape.proofs.Near.{canonical_within}
 use Rattle.heesch_shape.specs.Walks.{IsShape}
 use Rattle.heesch_tiling.specs.Counting.{IsInRange}
@@ -40,16 +40,20 @@ near : (da db : ℤ) (p q : ℕ) → p ≤ 384 → q ≤ 384 → pos 0 ≤ℤ da
 near da db p q narrow low a_from a_below b_from b_below = record { a_low = omega (arith, ints); a_high = omega (arith, ints); b_low = omega (arith, ints); b_high = omega (arith, ints) }
 
 module _ (g : Geometry) (law : IsGrid g) where
-  pub still_in_range : IsInRange g no_move
-  still_in_range = let some = law.turns_range.0 in record { turn = omega (arith, some); near = record { a_low = omega (arith, ints); a_high = omega (arith, ints); b_low = omega (arith, ints); b_high = omega (arith, ints) } }
+  pub still_reduced : (t : Triple) → IsTriple t → IsReducedPlace g t no_move
+  still_reduced t h =
+      let some = law.turns_range.0 in
+      let wide = h.p_positive in
+      let high = h.q_positive in
+      (omega (arith, some), record { da_from = omega (arith, ints); da_below = omega (arith, ints, wide); db_from = omega (arith, ints); db_below = omega (arith, ints, high) })
+
+  pub half_turn_reduced : (t : Triple) (da db : ℤ) → pos 0 ≤ℤ da → da <ℤ pos t.p → pos 0 ≤ℤ db → db <ℤ pos t.q → IsReducedPlace g t (half_turned g da db)
+  half_turn_reduced t da db a_from a_below b_from b_below = (law.half_turn_below, record { da_from = a_from; da_below = a_below; db_from = b_from; db_below = b_below })
 
   module _ (n m : ℕ) (few : n ≤ 32) (tiles : m ≤ 12) (t : Triple) (domain : IsTripleOfDomain g n m t) where
     pub sides_of : (t.p ≤ 384) × (t.q ≤ 384)
     sides_of = sides g.per t.p t.q n m law.per_range.0 domain.is_triple.p_positive domain.is_triple.q_positive few tiles domain.area
 
-    pub half_turn_in_range : (da db : ℤ) → pos 0 ≤ℤ da → da <ℤ pos t.p → pos 0 ≤ℤ db → db <ℤ pos t.q → IsInRange g (half_turned g da db)
-    half_turn_in_range da db a_from a_below b_from b_below = record { turn = law.half_turn_below; near = near da db t.p t.q sides_of.0 sides_of.1 a_from a_below b_from b_below }
-
-    pub places_in_range : (places : List Iso) → All (λ by. IsIsometry g by × IsWithinTriple t by) places → All (IsInRange g) places
+    pub places_in_range : (places : List Iso) → All (IsReducedPlace g t) places → All (IsInRange g) places
     places_in_range places h =
-        All-weaker (λ by. IsIsometry g by × IsWithinTriple t by) (IsInRange g) (λ by w. record { turn = w.0; near = near by.da by.db t.p t.q sides_of.0 sides_of.1 w.1.da_from w.1.da_below w.1.db_from w.1.db_below }) places h
+        All-weaker (IsReducedPlace g t) (IsInRange g) (λ by w. record { turn = w.0; near = near by.da by.db t.p t.q sides_of.0 sides_of.1 w.1.da_from w.1.da_below w.1.db_from w.1.db_below }) places h

@@ -1,5 +1,5 @@
 -- Plain tilings that the limit on domains admits, as tilings.
-use Rattle.std.proofs.Common.{◌≡◌, ◌<◌, ◌≤◌, refl, sym, subst, ℕ, ℤ, pos, ◌≤ℤ◌, ◌<ℤ◌, List, [], ◌∷◌, length, arith}
+use Rattle.std.proofs.Common.{◌≡◌, ◌<◌, ◌≤◌, refl, sym, subst, ℕ, ℤ, pos, ◌≤ℤ◌, ◌<ℤ◌, List, [], ◌∷◌, length, arith, All}
 use Rattle.std.specs.Prelude.{Some, None}
 use Rattle.std.proofs.lemmas.Int.{ints}
 use Rattle.std.proofs.lemmas.List.Elements.{All-cons, All-nil}
@@ -11,21 +11,24 @@ use Rattle.heesch_grid.specs.Tiling.{Translation as PlainTranslation, HalfTurn a
 use Rattle.heesch_cert.specs.declared.limits.Limits.{Limits}
 use Rattle.heesch_cert.specs.declared.verdict.Kind.TheVariants.{Translation, HalfTurn}
 use Rattle.heesch_cert.specs.Limits.{AreLimits}
+use Rattle.heesch_cert.specs.Reduced.{IsReducedPlace}
 use Rattle.heesch_cert.specs.TrueEntry.{HasNoPlain}
-use Rattle.heesch_tiling.specs.Counting.{IsInRange}
 use Rattle.heesch_verdict.specs.Shapes.{IsCanonicalShape}
 use Rattle.heesch_verdict.specs.Tilings.{IsTiled}
-use Rattle.heesch_verdict.proofs.Nearby.{sides_of, still_in_range, half_turn_in_range}
+use Rattle.heesch_verdict.proofs.Nearby.{sides_of, still_reduced, half_turn_reduced, places_in_range}
 
 module _ (g : Geometry) (law : IsGrid g) (limits : Limits) (ranges : AreLimits limits) (shape : List Cell) (s : IsCanonicalShape g shape) where
   pub by_translation : (t : Triple) (places : List Iso) → places ≡ no_move ∷ [] → IsPlain g shape (Some (PlainTranslation t)) → IsTiled g limits shape (record { kind = Translation; tiling = record { triple = t; places = places } })
   by_translation t places is p =
+      let h = p.holds in
+      let reduced : All (IsReducedPlace g t) (no_move ∷ []) = All-cons (IsReducedPlace g t) no_move [] (still_reduced g law t h.of_domain.is_triple) (All-nil (IsReducedPlace g t)) in
       subst (λ (ps : List Iso). IsTiled g limits shape (record { kind = Translation; tiling = record { triple = t; places = ps } })) (sym is)
       (record {
         is_cover = record {
-          cover = p.holds.cover;
-          of_domain = p.holds.of_domain;
-          near = All-cons (IsInRange g) no_move [] (still_in_range g law) (All-nil (IsInRange g));
+          cover = h.cover;
+          of_domain = h.of_domain;
+          near = places_in_range g law (length shape) 1 s.is_shape.few (omega arith) t h.of_domain (no_move ∷ []) reduced;
+          reduced = reduced;
         };
         few = ranges.domain_range.0;
         of_kind = (p, refl);
@@ -34,13 +37,15 @@ module _ (g : Geometry) (law : IsGrid g) (limits : Limits) (ranges : AreLimits l
   pub by_half_turn : (t : Triple) (da db : ℤ) (places : List Iso) → places ≡ no_move ∷ half_turned g da db ∷ [] → 2 ≤ limits.domain → IsPlain g shape (Some (PlainHalfTurn t da db)) → IsTiled g limits shape (record { kind = HalfTurn; tiling = record { triple = t; places = places } })
   by_half_turn t da db places is admitted p =
       let h = p.1.holds in
-      let turned : IsInRange g (half_turned g da db) = half_turn_in_range g law (length shape) 2 s.is_shape.few (omega arith) t h.of_domain da db h.da_from h.da_below h.db_from h.db_below in
+      let turned : IsReducedPlace g t (half_turned g da db) = half_turn_reduced g law t da db h.da_from h.da_below h.db_from h.db_below in
+      let reduced : All (IsReducedPlace g t) (no_move ∷ half_turned g da db ∷ []) = All-cons (IsReducedPlace g t) no_move (half_turned g da db ∷ []) (still_reduced g law t h.of_domain.is_triple) (All-cons (IsReducedPlace g t) (half_turned g da db) [] turned (All-nil (IsReducedPlace g t))) in
       subst (λ (ps : List Iso). IsTiled g limits shape (record { kind = HalfTurn; tiling = record { triple = t; places = ps } })) (sym is)
       (record {
         is_cover = record {
           cover = h.cover;
           of_domain = h.of_domain;
-          near = All-cons (IsInRange g) no_move (half_turned g da db ∷ []) (still_in_range g law) (All-cons (IsInRange g) (half_turned g da db) [] turned (All-nil (IsInRange g)));
+          near = places_in_range g law (length shape) 2 s.is_shape.few (omega arith) t h.of_domain (no_move ∷ half_turned g da db ∷ []) reduced;
+          reduced = reduced;
         };
         few = admitted;
         of_kind = ((da, db), (p, admitted, refl));

@@ -16,6 +16,7 @@ use Rattle.heesch_lattice.specs.Listed.{AreTriples, IsTripleOfArea}
 use Rattle.heesch_cert.specs.declared.entry.TripleProof.{TripleProof}
 use Rattle.heesch_cert.specs.declared.tiling.Tiling.{Tiling}
 use Rattle.heesch_cert.specs.Proofs.{SettlesTriple}
+use Rattle.heesch_cert.specs.Reduced.{IsReducedPlace}
 use Rattle.heesch_cert.specs.TrueEntry.{area_before}
 use Rattle.heesch_tiling.proofs.Searching.{exact_quotient}
 use Rattle.heesch_torus.specs.declared.answer.TorusAnswer.TheVariants.{Tiles}
@@ -171,5 +172,6 @@ found_cover g law shape s t d turns tiling h =
         cover = subst (λ (u : Triple). IsPeriodicCover g shape u tiling.places) (sym h.triple) h.cover;
         of_domain = subst (IsTripleOfDomain g (length shape) (length tiling.places)) (sym h.triple) domain;
         near = places_in_range g law (length shape) d.tiles s.is_shape.few d.few t d.of_domain tiling.places h.chosen.within;
+        reduced = subst (λ (u : Triple). All (IsReducedPlace g u) tiling.places) (sym h.triple) h.chosen.within;
       },
     )

@@ -7,14 +7,16 @@ use Rattle.heesch_grid.specs.Tiling.{IsPeriodicCover}
 use Rattle.heesch_tiling.specs.Counting.{IsInRange}
 use Rattle.heesch_cert.specs.declared.limits.Limits.{Limits}
 use Rattle.heesch_cert.specs.declared.tiling.Tiling.{Tiling}
+use Rattle.heesch_cert.specs.Reduced.{IsReducedPlace}
 use Rattle.heesch_cert.specs.TrueEntry.{HasNoPlain, IsOfKind}
 use Rattle.heesch_verdict.specs.declared.tiled.Tiled.{Tiled}
 
--- a periodic cover by places near 0, of the domain of its triple
+-- a periodic cover by places near 0 and within its triple, of the triple's domain
 pub record IsCoverOf (g : Geometry) (shape : List Cell) (tiling : Tiling) : Type 0 where
   pub cover : IsPeriodicCover g shape tiling.triple tiling.places
   pub of_domain : IsTripleOfDomain g (length shape) (length tiling.places) tiling.triple
   pub near : All (IsInRange g) tiling.places
+  pub reduced : All (IsReducedPlace g tiling.triple) tiling.places
 
 -- a cover of a domain from 2 to the most
 pub record IsCoverUpTo (g : Geometry) (shape : List Cell) (most : ℕ) (tiling : Tiling) : Type 0 where

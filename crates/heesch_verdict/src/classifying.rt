@@ -2,6 +2,7 @@
 ghost use Rattle.std.specs.Prelude.{◌≡◌, IfOk};
 ghost use Rattle.heesch_grid.specs.Polyform.{IsCanonicalListOf};
 ghost use Rattle.heesch_cert.specs.Limits.{AreLimits};
+ghost use Rattle.heesch_cert.specs.Reduced.{HasReducedCover};
 ghost use Rattle.heesch_cert.specs.RightVerdict.{HasRightVerdict};
 ghost use Rattle.heesch_cert.specs.TrueEntry.{IsTrueEntry};
 
@@ -18,11 +19,12 @@ use std::alloc::Global;
 /// list, and the limits lie in their ranges.
 ///
 /// The shape tiles by its plain tiling, where the limit on domains admits it; else by the first
-/// periodic cover that is found, by domain from 2 to the limit and then by triple. Otherwise
-/// hole-free coronas are sought at level 1, 2 and so on. Where they end with a refutation that has
-/// cuts, coronas with holes allowed are sought from that level on: without them the refutation says
-/// nothing of tilings. The verdict is undecided where a limit is reached, and then comes with how
-/// the search of each triple ended. `NoMemory` comes only where memory was refused.
+/// periodic cover that is found, by domain from 2 to the limit and then by triple. The places of a
+/// cover are reduced: their translations lie inside the triple. Otherwise hole-free coronas are
+/// sought at level 1, 2 and so on. Where they end with a refutation that has cuts, coronas with
+/// holes allowed are sought from that level on: without them the refutation says nothing of tilings.
+/// The verdict is undecided where a limit is reached, and then comes with how the search of each
+/// triple ended. `NoMemory` comes only where memory was refused.
 ///
 /// Coronas and the Heesch number are Kaplan's ("Heesch Numbers of Unmarked Polyforms", 2021), the
 /// kinds of tilings and their classes Myers's.
@@ -35,6 +37,7 @@ pub fn classify<G: Grid>(alloc: Global, shape: &Shape<G>, limits: Limits) -> Res
     ensures cells { IfOk result (λ e. e.cells ≡ shape.now) }
     ensures entry { IfOk result (λ e. IsTrueEntry G.geometry limits e) }
     ensures right { IfOk result (λ e. HasRightVerdict G.geometry limits e) }
+    ensures reduced { IfOk result (λ e. HasReducedCover G.geometry e.evidence) }
 {
     let cells = cells_of(alloc, shape)?;
     if let Some(tiled) = plain_tiling(alloc, shape, limits)? {

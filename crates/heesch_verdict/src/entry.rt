@@ -2,6 +2,7 @@
 ghost use Rattle.std.specs.Prelude.{◌≡◌, [], IfOk};
 ghost use Rattle.heesch_grid.specs.Polyform.{IsCanonicalListOf};
 ghost use Rattle.heesch_cert.specs.Limits.{AreLimits};
+ghost use Rattle.heesch_cert.specs.Reduced.{HasReducedCover};
 ghost use Rattle.heesch_cert.specs.TrueEntry.{HasNoPlain, IsTrueEntry, IsUndecided};
 ghost use Rattle.heesch_verdict.specs.Domains.{AreSettled};
 ghost use Rattle.heesch_verdict.specs.Shapes.{IsCanonicalShape};
@@ -41,6 +42,7 @@ pub fn tiled_entry<G: Grid>(
     requires tiled { IsTiled G.geometry limits shape.now tiled }
     ensures cells { IfOk result (λ entry. entry.cells ≡ shape.now) }
     ensures entry { IfOk result (IsTrueEntry G.geometry limits) }
+    ensures reduced { IfOk result (λ entry. HasReducedCover G.geometry entry.evidence) }
 {
     let Tiled { kind, tiling } = tiled;
     let classes = classes(alloc, shape, &tiling)?;
@@ -81,6 +83,7 @@ pub fn corona_entry<G: Grid>(
     requires triples { AreSettled G.geometry shape.now limits.turns limits.domain triples }
     ensures cells { IfOk result (λ entry. entry.cells ≡ shape.now) }
     ensures entry { IfOk result (IsTrueEntry G.geometry limits) }
+    ensures reduced { IfOk result (λ entry. HasReducedCover G.geometry entry.evidence) }
 {
     let Walled { h, free, wall } = hole_free(alloc, shape, limits)?;
     let Opened { m, bare, wider } = open_behind(alloc, shape, limits, h, &wall)?;

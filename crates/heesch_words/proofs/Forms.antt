@@ -12,9 +12,9 @@ use Rattle.heesch_grid.specs.declared.GridName.TheVariants.{Square, Hex, Iamond}
 use Rattle.heesch_grid.specs.Names.{grid_word}
 use Rattle.heesch_words.specs.declared.options.Options.{Options}
 use Rattle.heesch_words.specs.declared.requests.Request.{Request}
-use Rattle.heesch_words.specs.declared.requests.Request.TheVariants.{List as ListRequest, Plain as PlainRequest, Classify as ClassifyRequest}
+use Rattle.heesch_words.specs.declared.requests.Request.TheVariants.{List as ListRequest, Plain as PlainRequest, Classify as ClassifyRequest, Check as CheckRequest, Table as TableRequest, Sample as SampleRequest}
 use Rattle.heesch_words.specs.Options.{AreOptions, HasWorkersAlone, workers_of, limits_of}
-use Rattle.heesch_words.specs.Requests.{Asks, HasForm, HaveOptions, HasListForm, IsSize, IsSubject, form_word, most_cells, subject_word}
+use Rattle.heesch_words.specs.Requests.{Asks, HasForm, HaveOptions, HasCheckForm, HasListForm, HasSampleForm, IsSize, IsSubject, form_word, most_cells, subject_word}
 use Rattle.heesch_words.proofs.Settings.{one_reading}
 
 -- Words before options.
@@ -107,6 +107,21 @@ list_not_alone text_of words read given others grid n workers has =
     let same : has.options ≡ read = read_options text_of words 2 _ has.options read refl given has.have in
     others (subst HasWorkersAlone same has.alone)
 
+pub check_not_alone : (words : List (List ℕ)) (read : Options) → AreOptions words read → ¬ HasWorkersAlone read
+    → (workers : ℕ) → ¬ HasCheckForm words workers
+check_not_alone words read given others workers has =
+    let same : has.options ≡ read = one_reading words has.options read has.given given in
+    others (subst HasWorkersAlone same has.alone)
+
+pub sample_is_brief : {X : Type 0} (text_of : X → List ℕ) (words : List X) (read : Options)
+    → AreOptions (map text_of (take (length words - 4) (drop 4 words))) read → read.brief ≡ true
+    → (grid : GridName) (n count seed : ℕ) (limits : Limits) (workers : ℕ) → ¬ HasSampleForm (map text_of words) grid n count seed limits workers
+sample_is_brief text_of words read given brief grid n count seed limits workers has =
+    let same : has.options ≡ read = read_options text_of words 4 _ has.options read refl given has.have in
+    let not_brief : has.options.brief ≡ false = has.not_brief in
+    let both : read.brief ≡ false = subst (λ (o : Options). o.brief ≡ false) same not_brief in
+    cc
+
 -- Words ask for one thing at most.
 
 -- words have one form of a list
@@ -135,6 +150,24 @@ one_of_form words (ClassifyRequest grid subject limits workers brief) (ClassifyR
     let same_limits : limits ≡ limits' = first.limits_is ∙ ap limits_of same ∙ sym second.limits_is in
     let same_workers : workers ≡ workers' = first.workers_is ∙ ap workers_of same ∙ sym second.workers_is in
     let same_brief : brief ≡ brief' = first.brief_is ∙ ap (λ (o : Options). o.brief) same ∙ sym second.brief_is in
+    cc
+one_of_form words (CheckRequest workers) (CheckRequest workers') is first second =
+    let same = one_reading words first.options second.options first.given second.given in
+    let same_workers : workers ≡ workers' = first.workers_is ∙ ap workers_of same ∙ sym second.workers_is in
+    cc
+one_of_form words TableRequest TableRequest is first second = refl
+one_of_form words (SampleRequest grid n count seed limits workers) (SampleRequest grid' n' count' seed' limits' workers') is first second =
+    let (parts, same) = one_choice words _ _ first.options second.options refl first.have second.have in
+    let grids : grid_word grid ≡ grid_word grid' = cc in
+    let sizes : decimal n ≡ decimal n' = cc in
+    let counts : decimal count ≡ decimal count' = cc in
+    let seeds : decimal seed ≡ decimal seed' = cc in
+    let same_grids : grid ≡ grid' = same_grid grid grid' grids in
+    let same_sizes : n ≡ n' = decimal_injective n n' (omega (arith, first.in_range.cells.1)) (omega (arith, second.in_range.cells.1)) sizes in
+    let same_counts : count ≡ count' = decimal_injective count count' (omega (arith, first.in_range.shapes.1)) (omega (arith, second.in_range.shapes.1)) counts in
+    let same_seeds : seed ≡ seed' = decimal_injective seed seed' (omega (arith, first.in_range.seed_range)) (omega (arith, second.in_range.seed_range)) seeds in
+    let same_limits : limits ≡ limits' = first.limits_is ∙ ap limits_of same ∙ sym second.limits_is in
+    let same_workers : workers ≡ workers' = first.workers_is ∙ ap workers_of same ∙ sym second.workers_is in
     cc
 one_of_form words x y is first second = absurd (grind arith)
 

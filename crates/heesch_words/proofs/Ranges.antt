@@ -7,7 +7,7 @@ use Rattle.heesch_cert.specs.Limits.{AreLimits}
 use Rattle.heesch_grid.specs.declared.GridName.{GridName}
 use Rattle.heesch_words.specs.declared.options.Options.{Options}
 use Rattle.heesch_words.specs.declared.requests.Request.{Request}
-use Rattle.heesch_words.specs.declared.requests.Request.TheVariants.{List as ListRequest, Plain as PlainRequest, Classify as ClassifyRequest}
+use Rattle.heesch_words.specs.declared.requests.Request.TheVariants.{List as ListRequest, Plain as PlainRequest, Classify as ClassifyRequest, Check as CheckRequest, Table as TableRequest, Sample as SampleRequest}
 use Rattle.heesch_words.specs.Options.{Name, Workers, Turns, Levels, Domain, Size, Setting, Number, Brief, IsNumberInRange, IsInRange as IsSettingInRange, number_of, held, default_limits, AreOptions, workers_of, limits_of}
 use Rattle.heesch_words.specs.Requests.{Asks, HasForm, HasListForm, IsInRange, IsSize}
 use Rattle.heesch_words.proofs.InRange.{bounds_of, in_bounds}
@@ -57,6 +57,14 @@ form_in_range : (words : List (List ℕ)) (request : Request) → HasForm words 
 form_in_range words (ListRequest grid n workers) has = list_in_range words grid n workers has
 form_in_range words (PlainRequest grid n workers) has = list_in_range words grid n workers has
 form_in_range words (ClassifyRequest grid subject limits workers brief) has =
+    let (low, high) = workers_in_range has.have.others has.options has.have.given in
+    let in_range : AreLimits limits = subst AreLimits (sym has.limits_is) (limits_in_range has.have.others has.options has.have.given) in
+    (has.in_range, in_range, omega (arith, has.workers_is, low), omega (arith, has.workers_is, high))
+form_in_range words (CheckRequest workers) has =
+    let (low, high) = workers_in_range words has.options has.given in
+    (omega (arith, has.workers_is, low), omega (arith, has.workers_is, high))
+form_in_range words TableRequest has = tt
+form_in_range words (SampleRequest grid n count seed limits workers) has =
     let (low, high) = workers_in_range has.have.others has.options has.have.given in
     let in_range : AreLimits limits = subst AreLimits (sym has.limits_is) (limits_in_range has.have.others has.options has.have.given) in
     (has.in_range, in_range, omega (arith, has.workers_is, low), omega (arith, has.workers_is, high))

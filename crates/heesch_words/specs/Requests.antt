@@ -9,7 +9,7 @@ use Rattle.heesch_grid.specs.declared.GridName.TheVariants.{Square, Hex, Iamond}
 use Rattle.heesch_grid.specs.Names.{grid_word}
 use Rattle.heesch_words.specs.declared.options.Options.{Options}
 use Rattle.heesch_words.specs.declared.requests.Request.{Request}
-use Rattle.heesch_words.specs.declared.requests.Request.TheVariants.{List as ListRequest, Plain as PlainRequest, Classify as ClassifyRequest}
+use Rattle.heesch_words.specs.declared.requests.Request.TheVariants.{List as ListRequest, Plain as PlainRequest, Classify as ClassifyRequest, Check as CheckRequest, Table as TableRequest, Sample as SampleRequest}
 use Rattle.heesch_words.specs.Options.{AreOptions, HasWorkersAlone, workers_of, limits_of}
 
 -- the greatest number of cells for which all shapes are listed
@@ -31,6 +31,12 @@ IsSubject grid Given = ⊤
 abbrev pub subject_word : Subject → List ℕ
 subject_word (Size n) = decimal n
 subject_word Given = codes "given"
+
+-- the numbers of a sample: cells, shapes and seed
+pub record IsSample (n count seed : ℕ) : Type 0 where
+  pub cells : (1 ≤ n) × (n ≤ 32)
+  pub shapes : (1 ≤ count) × (count ≤ 1000)
+  pub seed_range : seed ≤ 18446744073709551615
 
 -- the words are the first ones, and options after them
 pub record HaveOptions (first words : List (List ℕ)) (options : Options) : Type 0 where
@@ -55,17 +61,39 @@ pub record HasClassifyForm (words : List (List ℕ)) (grid : GridName) (subject 
   pub workers_is : workers ≡ workers_of options
   pub brief_is : brief ≡ options.brief
 
+-- `--workers` where it is wanted
+pub record HasCheckForm (words : List (List ℕ)) (workers : ℕ) : Type 0 where
+  pub options : Options
+  pub given : AreOptions words options
+  pub alone : HasWorkersAlone options
+  pub workers_is : workers ≡ workers_of options
+
+-- GRID N COUNT SEED, and the options that are wanted, but for `--brief`
+pub record HasSampleForm (words : List (List ℕ)) (grid : GridName) (n count seed : ℕ) (limits : Limits) (workers : ℕ) : Type 0 where
+  pub options : Options
+  pub have : HaveOptions (grid_word grid ∷ decimal n ∷ decimal count ∷ decimal seed ∷ []) words options
+  pub in_range : IsSample n count seed
+  pub not_brief : options.brief ≡ false
+  pub limits_is : limits ≡ limits_of options
+  pub workers_is : workers ≡ workers_of options
+
 -- the first word of a request's form
 abbrev pub form_word : Request → List ℕ
 form_word (ListRequest grid n workers) = codes "list"
 form_word (PlainRequest grid n workers) = codes "plain"
 form_word (ClassifyRequest grid subject limits workers brief) = codes "classify"
+form_word (CheckRequest workers) = codes "check"
+form_word TableRequest = codes "table"
+form_word (SampleRequest grid n count seed limits workers) = codes "sample"
 
 -- The words after the first one have the form of the request, with its values.
 abbrev pub HasForm : List (List ℕ) → Request → Type 0
 HasForm words (ListRequest grid n workers) = HasListForm words grid n workers
 HasForm words (PlainRequest grid n workers) = HasListForm words grid n workers
 HasForm words (ClassifyRequest grid subject limits workers brief) = HasClassifyForm words grid subject limits workers brief
+HasForm words (CheckRequest workers) = HasCheckForm words workers
+HasForm words TableRequest = words ≡ []
+HasForm words (SampleRequest grid n count seed limits workers) = HasSampleForm words grid n count seed limits workers
 
 -- The words ask for this: they have the request's form, with its values.
 pub record Asks (words : List (List ℕ)) (request : Request) : Type 0 where
@@ -78,3 +106,6 @@ abbrev pub IsInRange : Request → Type 0
 IsInRange (ListRequest grid n workers) = IsSize grid n × (1 ≤ workers) × (workers ≤ 64)
 IsInRange (PlainRequest grid n workers) = IsSize grid n × (1 ≤ workers) × (workers ≤ 64)
 IsInRange (ClassifyRequest grid subject limits workers brief) = IsSubject grid subject × AreLimits limits × (1 ≤ workers) × (workers ≤ 64)
+IsInRange (CheckRequest workers) = (1 ≤ workers) × (workers ≤ 64)
+IsInRange TableRequest = ⊤
+IsInRange (SampleRequest grid n count seed limits workers) = IsSample n count seed × AreLimits limits × (1 ≤ workers) × (workers ≤ 64)

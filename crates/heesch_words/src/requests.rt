@@ -2,7 +2,7 @@ ghost use Rattle.std.specs.Prelude.{◌∷◌, ℕ, Bool, map, string_bytes, cod
 ghost use Rattle.heesch_cert.specs.declared.header.Subject.{Subject};
 ghost use Rattle.heesch_cert.specs.declared.limits.Limits.{Limits};
 ghost use Rattle.heesch_grid.specs.declared.GridName.{GridName};
-ghost use Rattle.heesch_words.specs.Requests.{Asks, HasListForm, HasClassifyForm};
+ghost use Rattle.heesch_words.specs.Requests.{Asks, HasListForm, HasClassifyForm, HasCheckForm, HasSampleForm};
 
 use crate::numbers::number;
 use crate::options::Options;
@@ -40,17 +40,43 @@ pub enum Request {
         workers: u32,
         brief: bool,
     },
+    /// Whether a catalogue is valid, found by so many workers.
+    Check {
+        workers: u32,
+    },
+    /// The tally of a catalogue.
+    Table,
+    /// The tally of `count` shapes of `n` cells that are grown from a seed, classified under these
+    /// limits by so many workers.
+    Sample {
+        grid: GridName,
+        n: u32,
+        count: u32,
+        seed: u64,
+        limits: Limits,
+        workers: u32,
+    },
 }
+
+/// The greatest number of cells of a sample's shapes.
+const MOST_SAMPLE_CELLS: u64 = 32;
+
+/// The greatest number of a sample's shapes.
+const MOST_SAMPLE_SHAPES: u64 = 1_000;
 
 /// What the words ask for: the arguments of the program, without its name.
 ///
 /// The forms, with the options that each takes, are
 ///
 /// - `list GRID N` and `plain GRID N`: `--workers`;
-/// - `classify GRID N` and `classify GRID given`: `--workers`, `--turns`, `--levels`, `--domain`, `--size` and `--brief`.
+/// - `classify GRID N` and `classify GRID given`: `--workers`, `--turns`, `--levels`, `--domain`,
+///   `--size` and `--brief`;
+/// - `check`: `--workers`;
+/// - `table`: none;
+/// - `sample GRID N COUNT SEED`: `--workers`, `--turns`, `--levels`, `--domain` and `--size`.
 ///
 /// GRID is `square`, `hex` or `iamond`. N is 1 to 12 for `square`, 1 to 10 for `hex` and 1 to 15 for
-/// `iamond`.
+/// `iamond`; for `sample` N is 1 to 32, COUNT 1 to 1,000 and SEED below 2^64.
 ///
 /// Options follow the other words in any order, each at most once; each but `--brief` is followed by
 /// its number as the next word. `--workers` is 1 to 64, by default 1; `--turns` 1 to 1,000,000, by
@@ -72,6 +98,9 @@ pub fn parse(words: &[String]) -> Result<Request, Usage>
         "list" => list(rest),
         "plain" => plain(rest),
         "classify" => classify(rest),
+        "check" => check(rest),
+        "table" => table(rest),
+        "sample" => sample(rest),
         _ => Err(Usage),
     }
 }
@@ -142,5 +171,59 @@ fn classify(words: &[String]) -> Result<Request, Usage>
         limits: options.limits(),
         workers: options.workers(),
         brief: options.brief,
+    })
+}
+
+/// The request whose words are `check` and these.
+fn check(words: &[String]) -> Result<Request, Usage>
+    ensures ok { IfOk result
+        (λ request. Asks (codes "check" ∷ map string_bytes words.now) request) }
+    ensures usage { OnErr result
+        ((workers : ℕ) → ¬ HasCheckForm (map string_bytes words.now) workers) }
+{
+    let options = Options::read(words)?;
+    let workers = options.workers_alone()?;
+    Ok(Request::Check { workers })
+}
+
+/// The request whose words are `table` and these.
+fn table(words: &[String]) -> Result<Request, Usage>
+    ensures ok { IfOk result
+        (λ request. Asks (codes "table" ∷ map string_bytes words.now) request) }
+    ensures usage { OnErr result (map string_bytes words.now ≢ []) }
+{
+    if words.is_empty() {
+        Ok(Request::Table)
+    } else {
+        Err(Usage)
+    }
+}
+
+/// The request whose words are `sample` and these.
+fn sample(words: &[String]) -> Result<Request, Usage>
+    ensures ok { IfOk result
+        (λ request. Asks (codes "sample" ∷ map string_bytes words.now) request) }
+    ensures usage { OnErr result
+        ((grid : GridName) (n count seed : ℕ) (limits : Limits) (workers : ℕ)
+        → ¬ HasSampleForm (map string_bytes words.now) grid n count seed limits workers) }
+{
+    let [grid, n, count, seed, options @ ..] = words else {
+        return Err(Usage);
+    };
+    let grid = grid_named(grid.as_str())?;
+    let n = number(n.as_str(), 1, MOST_SAMPLE_CELLS)? as u32;
+    let count = number(count.as_str(), 1, MOST_SAMPLE_SHAPES)? as u32;
+    let seed = number(seed.as_str(), 0, u64::MAX)?;
+    let options = Options::read(options)?;
+    if options.brief {
+        return Err(Usage);
+    }
+    Ok(Request::Sample {
+        grid,
+        n,
+        count,
+        seed,
+        limits: options.limits(),
+        workers: options.workers(),
     })
 }

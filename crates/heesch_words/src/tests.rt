@@ -77,6 +77,57 @@ fn classifications_are_asked_for(rt: HostRuntime) -> Result<(), Fail> {
 }
 
 #[test]
+fn other_forms_are_asked_for(rt: HostRuntime) -> Result<(), Fail> {
+    let alloc = rt.alloc();
+    let limits = Limits {
+        turns: 200,
+        levels: 1,
+        domain: 2,
+        size: 60_000_000,
+    };
+    let grid = GridName::Square;
+    let sample = |n, count, seed, workers| Request::Sample {
+        grid,
+        n,
+        count,
+        seed,
+        limits,
+        workers,
+    };
+    for (line, request) in [
+        ("check", Request::Check { workers: 1 }),
+        ("check --workers 64", Request::Check { workers: 64 }),
+        ("table", Request::Table),
+        (
+            "sample square 8 40 1 --domain 2 --levels 1 --turns 200",
+            sample(8, 40, 1, 1),
+        ),
+        (
+            "sample square 32 1000 18446744073709551615 --workers 4 --domain 2 --levels 1 --turns 200",
+            sample(32, 1_000, 18_446_744_073_709_551_615, 4),
+        ),
+        (
+            "sample square 1 1 0 --turns 200 --levels 1 --domain 2",
+            sample(1, 1, 0, 1),
+        ),
+        (
+            "classify square given --brief --turns 200 --levels 1 --domain 2",
+            Request::Classify {
+                grid,
+                subject: Subject::Given,
+                limits,
+                workers: 1,
+                brief: true,
+            },
+        ),
+    ] {
+        let words = words_of(alloc, line)?;
+        assert_eq!(rt; parse(&words), Ok(request), "at {line}");
+    }
+    Ok(())
+}
+
+#[test]
 fn other_words_are_refused(rt: HostRuntime) -> Result<(), Fail> {
     let alloc = rt.alloc();
     for line in [

@@ -1,9 +1,11 @@
 use Rattle.std.specs.Prelude.{map, string_bytes}
-use Rattle.std.proofs.Common.{sym, subst, inr}
+use Rattle.std.proofs.Common.{◌≡◌, Some, sym, subst, inr, ◌∙◌}
+use Rattle.heesch_app.specs.declared.status.Status.TheVariants.{Done}
 use Rattle.heesch_app.specs.Outputs.{IsOutput}
 use Rattle.heesch_app.proofs.Beginnings.{begins_itself}
 use Rattle.heesch_app.proofs.Headline.{catalogued}
 use Rattle.heesch_app.proofs.Ranges.{asked_in_range}
+use Rattle.heesch_app.proofs.ValidOutputs.{valid_is_done, writes_valid}
 use Rattle.heesch_app.proofs.program.run.Goals as goal
 
 pub reply-requires-after_bounds : goal.reply-requires-after_bounds
@@ -32,3 +34,23 @@ returns-clause-write_fault g c = λ _.
     let text = c.deref.result.now in
     let output : IsOutput request left status text = subst (λ t. IsOutput request left status t) (sym c.deref.ensures.value) c.in-Ok-reply.ensures.ok in
     inr (text, (request, c.in-Ok.ensures.ok, begins_itself request left status text output), c.in-Err-put.ensures.err)
+
+pub returns-in-Ok-put-clause-checkable : goal.returns-in-Ok-put-clause-checkable
+returns-in-Ok-put-clause-checkable g c = λ done grid subject workers limits asks.
+    let request = c.in-Ok.request in
+    let left = g.R.Source.left c.args.source.now in
+    let status = c.in-Ok-reply.reply.status in
+    let text = c.deref.result.now in
+    let output : IsOutput request left status text = subst (λ t. IsOutput request left status t) (sym c.deref.ensures.value) c.in-Ok-reply.ensures.ok in
+    writes_valid (map string_bytes c.args.words.now) left status text _ _ grid subject workers limits done (request, c.in-Ok.ensures.ok, output) c.in-Ok-put.ensures.ok asks
+
+pub returns-in-Ok-put-clause-passes : goal.returns-in-Ok-put-clause-passes
+returns-in-Ok-put-clause-passes g c = λ input workers count told short asks valid.
+    let request = c.in-Ok.request in
+    let status = c.in-Ok-reply.reply.status in
+    let text = c.deref.result.now in
+    let left = g.R.Source.left c.args.source.now in
+    let output : IsOutput request left status text = subst (λ t. IsOutput request left status t) (sym c.deref.ensures.value) c.in-Ok-reply.ensures.ok in
+    let of_input : IsOutput request (Some input) status text = subst (λ l. IsOutput request l status text) told output in
+    let is_done : status ≡ Done = valid_is_done (map string_bytes c.args.words.now) input status text workers count asks short valid (request, c.in-Ok.ensures.ok, of_input) in
+    ((λ e. let bad = sym is_done ∙ e in cc), λ e. let bad = sym is_done ∙ e in cc)

@@ -1,7 +1,8 @@
 use Rattle.std.proofs.Common.{◌+◌, slice_index_or, sym, ap, ◌∙◌, subst, zero-add}
 use Rattle.heesch_grid.specs.Tiling.{IsPlain}
 use Rattle.heesch_tiling.specs.PlainAnswer.{answered}
-use Rattle.heesch_app.proofs.PlainAnswers.{if_both, plain_each}
+use Rattle.heesch_catalogue.proofs.EntryLists.{if_both}
+use Rattle.heesch_app.proofs.PlainAnswers.{plain_each}
 use Rattle.heesch_app.proofs.tilings.tilings_of.Goals as goal
 
 pub returns : goal.returns

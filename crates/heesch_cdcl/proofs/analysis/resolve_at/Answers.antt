@@ -7,13 +7,13 @@ use Rattle.heesch_cdcl.proofs.analysis.resolve_at.Goals as goal
 pub index-requires : goal.index-requires
 index-requires c =
     let r = read_step c.args.trail.now c.args.place c.made.result.now c.requires.searching.valid c.made.ensures.made c.requires.place in
-    omega (arith, r.var, r.at.holds.high, c.requires.resolving.marks.seen_room, c.args.marks.now.seen.ok)
+    omega (arith, r.var, r.at.holds.high, c.requires.resolving.derived.marks.seen_room, c.args.marks.now.seen.ok)
 
 pub returns-then-not-index-clause-resolving : goal.returns-then-not-index-clause-resolving
 returns-then-not-index-clause-resolving c =
     let r = read_step c.args.trail.now c.args.place c.made.result.now c.requires.searching.valid c.made.ensures.made c.requires.place in
     let seen = c.args.marks.now.seen.items in
-    let off = read_mark seen _ c.index.result.now false (omega (arith, r.var, r.at.holds.high, c.requires.resolving.marks.seen_room)) c.index.ensures c.if-not-index.true in
+    let off = read_mark seen _ c.index.result.now false (omega (arith, r.var, r.at.holds.high, c.requires.resolving.derived.marks.seen_room)) c.index.ensures c.if-not-index.true in
     Resolving-skip c.args.trail.now c.args.place r.step seen c.args.marks.now.here.items c.args.marks.now.pending (reverse c.args.hints.now.items) r.at c.requires.resolving (ap (marked seen) r.var ∙ off)
 
 pub reason_of-requires : goal.reason_of-requires
@@ -25,7 +25,7 @@ pub unreachable-requires : goal.unreachable-requires
 unreachable-requires c =
     let r = read_step c.args.trail.now c.args.place c.made.result.now c.requires.searching.valid c.made.ensures.made c.requires.place in
     let seen = c.args.marks.now.seen.items in
-    let on = read_mark seen _ c.index.result.now true (omega (arith, r.var, r.at.holds.high, c.requires.resolving.marks.seen_room)) c.index.ensures c.if-not-index.false in
+    let on = read_mark seen _ c.index.result.now true (omega (arith, r.var, r.at.holds.high, c.requires.resolving.derived.marks.seen_room)) c.index.ensures c.if-not-index.false in
     has_reason c.args.trail.now c.args.place r.step seen c.args.marks.now.here.items c.args.marks.now.pending (reverse c.args.hints.now.items) c.requires.searching.valid r.at c.requires.resolving c.requires.many (ap (marked seen) r.var ∙ on)
     (reason_is c.args.trail.now c.args.place _ c.reason_of.result r c.reason_of.ensures ∙ c.in_default.is)
 
@@ -52,7 +52,7 @@ pub mark-requires-clause-marks : goal.mark-requires-clause-marks
 mark-requires-clause-marks c =
     let trail = c.args.trail.now in
     let m = c.args.marks.now in
-    subst (λ k. AreMarks trail.vars k trail.steps m.seen.items m.here.items m.pending) (sym c.level-level.ensures.level) c.requires.resolving.marks
+    subst (λ k. AreMarks trail.vars k trail.steps m.seen.items m.here.items m.pending) (sym c.level-level.ensures.level) c.requires.resolving.derived.marks
 
 pub unmark-requires-clause-is_marked : goal.unmark-requires-clause-is_marked
 unmark-requires-clause-is_marked c =
@@ -60,7 +60,7 @@ unmark-requires-clause-is_marked c =
     let r = read_step trail c.args.place c.made.result.now c.requires.searching.valid c.made.ensures.made c.requires.place in
     let m = c.args.marks.now in
     let n = c.mark.new.self in
-    let on = read_mark m.seen.items _ c.index.result.now true (omega (arith, r.var, r.at.holds.high, c.requires.resolving.marks.seen_room)) c.index.ensures c.if-not-index.false in
+    let on = read_mark m.seen.items _ c.index.result.now true (omega (arith, r.var, r.at.holds.high, c.requires.resolving.derived.marks.seen_room)) c.index.ensures c.if-not-index.false in
     read_here trail c.args.place _ m.seen.items m.here.items n.seen.items n.here.items m.pending n.pending (reverse c.args.hints.now.items) c.clause_numbered.result.now c.requires.searching.valid r c.requires.resolving
     (some_pending m.pending (level_of trail.steps) c.requires.many) on c.in_ok-mark.ensures.seen
     (subst (λ k. AreMarks trail.vars k trail.steps n.seen.items n.here.items n.pending) c.level-level.ensures.level c.mark.ensures.marks)

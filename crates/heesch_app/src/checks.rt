@@ -1,0 +1,53 @@
+//! The answer to `check`.
+ghost use Rattle.std.specs.Prelude.{◌≡◌, ◌≤◌, Err, IfOk};
+ghost use Rattle.heesch_io.specs.Causes.{Rose};
+ghost use Rattle.heesch_app.specs.Checks.{check_status, check_text};
+ghost use Rattle.heesch_app.specs.Outputs.{OfInput, IsCheckAnswer};
+
+use crate::Status;
+use crate::bad_input::bad_input;
+use crate::reading::ReadStop;
+use crate::reply::Reply;
+use heesch_check::{CheckStop, Checked, check, write_checked};
+use heesch_io::{NoMemory, Source};
+use heesch_pool::Gate;
+use std::alloc::Global;
+use std::thread::Threads;
+
+/// What is wrong with a source's bytes beyond the most that are read.
+const TOO_LONG: u32 = 8;
+
+/// Whether the source's bytes are a valid catalogue, else its first invalid part, or that they are too many.
+pub fn checked_reply<T: Threads + Sync, R: Source, H: Gate + Sync>(
+    rt: &T,
+    alloc: Global,
+    source: &mut R,
+    workers: u32,
+    gate: &H,
+) -> Result<Reply, ReadStop>
+    requires workers { (1 ≤ workers) × (workers ≤ 64) }
+    ensures ok { IfOk result (λ r. OfInput (R.left source.old) (IsCheckAnswer r.status r.text.items)) }
+    ensures failed { result ≡ Err ReadStop.Failed → Rose (R.faults source.old) (R.faults source.new) }
+{
+    let checked = match check(rt, alloc, source, workers, gate) {
+        Ok(checked) => checked,
+        Err(CheckStop::Failed) => return Err(ReadStop::Failed),
+        Err(CheckStop::NoMemory) => return Err(ReadStop::NoMemory),
+    };
+    told(alloc, checked).map_err(|_| ReadStop::NoMemory)
+}
+
+/// The line of an answer, and the status that comes with it.
+fn told(alloc: Global, checked: Checked) -> Result<Reply, NoMemory>
+    ensures status { IfOk result (λ r. r.status ≡ check_status checked) }
+    ensures text { IfOk result (λ r. r.text.items ≡ check_text checked) }
+{
+    let status = match checked {
+        Checked::TooLong { line } => return bad_input(alloc, line, TOO_LONG),
+        Checked::Valid { .. } => Status::Done,
+        _ => Status::Invalid,
+    };
+    let mut text = Vec::new(alloc);
+    write_checked(checked, &mut text)?;
+    Ok(Reply { status, text })
+}

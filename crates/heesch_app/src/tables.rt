@@ -1,0 +1,30 @@
+//! The answer to `table`.
+ghost use Rattle.std.specs.Prelude.{◌≡◌, Err, IfOk};
+ghost use Rattle.heesch_io.specs.Causes.{Rose};
+ghost use Rattle.heesch_app.specs.Outputs.{IsTableAnswer};
+
+use crate::Status;
+use crate::bad_input::bad_input;
+use crate::reading::ReadStop;
+use crate::reply::Reply;
+use heesch_io::Source;
+use heesch_tabulate::{TableStop, Tabulated, tabulate};
+use std::alloc::Global;
+
+/// The tally of the catalogue that the source's bytes are, or their first fault.
+pub fn table_reply<R: Source>(alloc: Global, source: &mut R) -> Result<Reply, ReadStop>
+    ensures ok { IfOk result (λ r. IsTableAnswer (R.left source.old) r.status r.text.items) }
+    ensures failed { result ≡ Err ReadStop.Failed → Rose (R.faults source.old) (R.faults source.new) }
+{
+    match tabulate(alloc, source) {
+        Ok(Tabulated::Tally { text }) => Ok(Reply {
+            status: Status::Done,
+            text,
+        }),
+        Ok(Tabulated::Fault { line, number }) => {
+            bad_input(alloc, line, number).map_err(|_| ReadStop::NoMemory)
+        }
+        Err(TableStop::Failed) => Err(ReadStop::Failed),
+        Err(TableStop::NoMemory) => Err(ReadStop::NoMemory),
+    }
+}

@@ -1,0 +1,55 @@
+-- The answers of a job on each shape, as the entries of a list of shapes.
+use Rattle.std.proofs.Common.{◌≡◌, ℕ, suc, ◌<◌, List, [], ◌∷◌, length, map, get_or, Result, Ok, Err, IfOk, refl, sym, subst, arith, inl, inr}
+use Rattle.std.specs.Prelude.{Some, slice_get, All}
+use Rattle.std.proofs.lemmas.Option.{slice_get_cases, get_or_from_slice_get}
+use Rattle.heesch_grid.specs.declared.Cell.{Cell}
+use Rattle.heesch_grid.specs.Geometry.{Geometry, IsGrid}
+use Rattle.heesch_grid.specs.Polyform.{IsCanonicalListOf, IsFreePolyform}
+use Rattle.heesch_grid.proofs.GrowthOfLists.{canonical_of_image}
+use Rattle.heesch_grid.proofs.Pinned.{one_canonical_list}
+use Rattle.heesch_cert.specs.declared.entry.Entry.{Entry}
+use Rattle.heesch_cert.specs.declared.limits.Limits.{Limits}
+use Rattle.heesch_catalogue.specs.Catalogues.{AreEntries}
+use Rattle.heesch_catalogue.specs.Entries.{IsEntryOf}
+
+-- two facts of an answer give a third
+pub if_both : {T E : Type 0} {P Q S : T → Type 0} (r : Result T E) → ((x : T) → P x → Q x → S x) → IfOk r P → IfOk r Q → IfOk r S
+if_both (Ok x) f p q = f x p q
+if_both (Err e) f p q = p
+
+same_cells : (shapes : List (List Cell)) (entries : List Entry) → length entries ≡ length shapes
+    → ((i : ℕ) (d : Entry) → i < length entries → (get_or entries i d).cells ≡ get_or shapes i [])
+    → map (λ (e : Entry). e.cells) entries ≡ shapes
+same_cells [] [] many each = refl
+same_cells [] (e ∷ es) many each = absurd (omega (arith, many))
+same_cells (s ∷ ss) [] many each = absurd (omega (arith, many))
+same_cells (s ∷ ss) (e ∷ es) many each =
+    let first : e.cells ≡ s = each 0 e (omega arith) in
+    let others : map (λ (e : Entry). e.cells) es ≡ ss = same_cells ss es (omega (arith, many)) (λ i d lt. each (suc i) d (omega (arith, lt))) in
+    cc
+
+-- as many entries as shapes, each of the shape of its place, which is canonical
+pub entries_each : (g : Geometry) (limits : Limits) (shapes : List (List Cell)) (entries : List Entry) → length entries ≡ length shapes
+    → All (λ s. IsCanonicalListOf g s s) shapes
+    → ((i : ℕ) (e : Entry) → slice_get entries i ≡ Some e → IsEntryOf g limits (get_or shapes i []) e)
+    → AreEntries g limits shapes entries
+entries_each g limits shapes entries many canonical answers = record {
+  of_shapes = same_cells shapes entries many (λ i d lt. one_canonical_list g (get_or shapes i []) (get_or entries i d).cells (get_or shapes i []) (at i d lt).canonical (canonical i [] (omega (arith, lt, many))));
+  are_true = λ i d lt. (at i d lt).is_true;
+  are_reduced = λ i d lt. (at i d lt).is_reduced;
+  are_right = λ i d lt. (at i d lt).is_right;
+}
+  where
+    at : (i : ℕ) (d : Entry) → i < length entries → IsEntryOf g limits (get_or shapes i []) (get_or entries i d)
+    at i d lt =
+        elim (slice_get_cases entries i).1 [
+          | inl f ↦ subst (λ e. IsEntryOf g limits (get_or shapes i []) e) (sym (get_or_from_slice_get entries i f.0 d f.2)) (answers i f.0 f.2)
+          | inr past ↦ absurd (omega (arith, past.0, lt))
+        ]
+
+-- a free polyform is its own canonical list
+pub free_are_canonical : (g : Geometry) (law : IsGrid g) (n : ℕ) (shapes : List (List Cell)) → All (IsFreePolyform g n) shapes → All (λ s. IsCanonicalListOf g s s) shapes
+free_are_canonical g law n shapes free i d lt =
+    let f = free i d lt in
+    let s = get_or shapes i d in
+    canonical_of_image g law f.cells s s f.polyform.is_set.rising f.canonical.is_image f.canonical

@@ -1,0 +1,3 @@
+pub mod EntryLists
+mod LimitTests
+pub mod Readable

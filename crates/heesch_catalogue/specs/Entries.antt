@@ -1,0 +1,23 @@
+-- The entry of one shape.
+use Rattle.std.specs.Prelude.{List, Bool, ◌&&◌, nat_le}
+use Rattle.heesch_grid.specs.declared.Cell.{Cell}
+use Rattle.heesch_grid.specs.Geometry.{Geometry}
+use Rattle.heesch_grid.specs.Polyform.{IsCanonicalListOf}
+use Rattle.heesch_cert.specs.declared.entry.Entry.{Entry}
+use Rattle.heesch_cert.specs.declared.limits.Limits.{Limits}
+use Rattle.heesch_cert.specs.Reduced.{HasReducedCover}
+use Rattle.heesch_cert.specs.RightVerdict.{HasRightVerdict}
+use Rattle.heesch_cert.specs.TrueEntry.{IsTrueEntry}
+
+-- whether the limits lie in their ranges
+abbrev pub are_limits : Limits → Bool
+are_limits l =
+    nat_le 1 l.turns && nat_le l.turns 1000000 && nat_le 1 l.levels && nat_le l.levels 6
+    && nat_le 1 l.domain && nat_le l.domain 12 && nat_le 1 l.size && nat_le l.size 60000000
+
+-- the entry is of this shape's canonical list, true under the grid and the limits, its cover is reduced, and its verdict is right
+pub record IsEntryOf (g : Geometry) (limits : Limits) (shape : List Cell) (entry : Entry) : Type 0 where
+  pub canonical : IsCanonicalListOf g shape entry.cells
+  pub is_true : IsTrueEntry g limits entry
+  pub is_reduced : HasReducedCover g entry.evidence
+  pub is_right : HasRightVerdict g limits entry

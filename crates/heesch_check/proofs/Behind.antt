@@ -1,0 +1,139 @@
+-- A batch of items behind those that were judged, and how far reading came with it.
+use Rattle.std.proofs.Common.{◌≡◌, inl, inr, ℕ, ◌-◌, ◌<◌, arith, false, List, [], ◌∷◌, ◌++◌, length, take, drop, Option, Some, None, refl, sym, ap, subst, ◌∙◌}
+use Rattle.std.specs.List.{AllByRecursion}
+use Rattle.std.proofs.lemmas.List.{append-nil, take_all}
+use Rattle.heesch_cert.specs.declared.header.Header.{Header}
+use Rattle.heesch_reader.specs.declared.item.Item.{Item}
+use Rattle.heesch_reader.specs.declared.item.Item.TheVariants as items
+use Rattle.heesch_reader.specs.declared.item.Part.TheVariants as parts
+use Rattle.heesch_stream.specs.Taking.{Streamed, HasRead, TakesPiece, TakesEnd, TellsFault, TellsTooLong}
+use Rattle.heesch_reader.specs.declared.item.Part.{Part}
+use Rattle.heesch_check.specs.declared.answers.Checked.{Checked}
+use Rattle.heesch_check.specs.declared.reading.Reading.{Reading}
+use Rattle.heesch_check.specs.declared.reading.Reading.TheVariants as readings
+use Rattle.heesch_check.specs.Judging.{IsFit, AreJudged}
+use Rattle.heesch_check.specs.Reading.{answer_of, IsReading, Reads, JudgesBatch, Underway, BeginWith}
+use Rattle.heesch_check.proofs.Leading.{IsBounded}
+use Rattle.heesch_check.proofs.Batches.{batch_settled, stop_settled}
+use Rattle.heesch_check.proofs.Readings.{Answers, as_reading, reading_answers, batch_fits}
+
+-- ---- one step of reading
+
+pub piece_reads : (before now : Option (List ℕ)) (old new : Streamed) (items after : List Item) → TakesPiece before now old new items after → Reads before now old new items after readings.More
+piece_reads before now old new items after t = record { more = t.more; after_is = t.after_is; grows = λ e. t.grows; goes_on = t.has_read }
+
+pub end_reads : (before now : Option (List ℕ)) (old new : Streamed) (items after : List Item) → TakesEnd before old items after → Reads before now old new items after readings.End
+end_reads before now old new items after t = record { more = t.more; after_is = t.after_is; grows = λ e. absurd cc; goes_on = t.catalogue }
+
+pub fault_reads : (before now : Option (List ℕ)) (old new : Streamed) (items after : List Item) (line : ℕ) (part : Part) → TellsFault before old items after line part → Reads before now old new items after (readings.Fault part)
+fault_reads before now old new items after line part t = record { more = t.more; after_is = t.after_is; grows = λ e. absurd cc; goes_on = λ first found h. (line, t.fault first found h) }
+
+pub long_reads : (before now : Option (List ℕ)) (old new : Streamed) (items after : List Item) (line : ℕ) → TellsTooLong before old items after line → Reads before now old new items after (readings.TooLong line)
+long_reads before now old new items after line t = record {
+  more = [];
+  after_is = t.after_is ∙ sym (append-nil items);
+  grows = λ e. absurd cc;
+  goes_on = λ first found h. subst (λ (x : List Item). IsReading first now x new (readings.TooLong line)) (sym (append-nil found)) (t.too_many first found h);
+}
+
+-- a piece is read within the bound
+pub piece_counts : (before now : Option (List ℕ)) (old new : Streamed) (items after : List Item) (reading : Reading) → Reads before now old new items after reading → reading ≡ readings.More
+    → (first : Option (List ℕ)) (found : List Item) → HasRead first before found old → 1099511627776 - new.count < 1099511627776 - old.count
+piece_counts before now old new items after reading r more first found h =
+    let further : HasRead first now (found ++ r.more) new = subst (λ (x : Reading). IsReading first now (found ++ r.more) new x) more (r.goes_on first found h) in
+    let grows = r.grows more in
+    let count = further.count_is in
+    let most = further.at_most in
+    omega (arith, grows, count, most)
+
+-- ---- a batch
+
+-- a header alone was judged
+pub first_judged : (header : Header) → AreJudged header (items.Header header ∷ []) 0
+first_judged header = record { es = []; body = []; ends = []; split = refl; are = tt; good = tt; count = refl; ends_all = inl refl }
+
+none_more : (n : ℕ) (reading : Reading) → answer_of n reading ≡ None → reading ≡ readings.More
+none_more n readings.More e = refl
+none_more n readings.End e = absurd cc
+none_more n (readings.Fault parts.Header) e = absurd cc
+none_more n (readings.Fault parts.Entry) e = absurd cc
+none_more n (readings.Fault parts.End) e = absurd cc
+none_more n (readings.TooLong line) e = absurd cc
+
+-- the answer of a batch is that of the input
+pub batch_answers : (first now : Option (List ℕ)) (header : Header) (found batch : List Item) (before after : ℕ) (s : Streamed) (reading : Reading) (answer : Checked) → IsBounded header → header.brief ≡ false
+    → AreJudged header found before → IsReading first now (found ++ batch) s reading → JudgesBatch header before after batch reading (Some answer) → Answers first answer
+batch_answers first now header found batch before after s reading answer bound full j h judges =
+    let a = as_reading first now (found ++ batch) s reading h in
+    elim judges [
+      | inl stop ↦ (a.input, a.all_of, stop_settled a.input header found batch before after a.held a.tail a.reached answer bound full j a.read stop)
+      | inr all ↦ reading_answers first now header (found ++ batch) after s reading answer bound full (batch_settled a.input header found batch before after a.held a.tail a.reached bound full j a.read all.0) h all.1
+    ]
+
+-- a batch without an answer: more may follow
+pub batch_goes_on : (first now : Option (List ℕ)) (header : Header) (found batch : List Item) (before after : ℕ) (s : Streamed) (reading : Reading) → IsBounded header → header.brief ≡ false
+    → AreJudged header found before → IsReading first now (found ++ batch) s reading → JudgesBatch header before after batch reading None → Underway header first now s after
+batch_goes_on first now header found batch before after s reading bound full j h judges =
+    let a = as_reading first now (found ++ batch) s reading h in
+    record {
+      all = found ++ batch;
+      has_read = subst (λ (x : Reading). IsReading first now (found ++ batch) s x) (none_more after reading judges.1) h;
+      judged = batch_settled a.input header found batch before after a.held a.tail a.reached bound full j a.read judges.0;
+    }
+
+-- ---- the first batch, whose first item is the header
+
+rest_of : (header : Header) (batch others : List Item) → batch ≡ items.Header header ∷ others → take (length batch - 1) (drop 1 batch) ≡ others
+rest_of header batch others e =
+    let many : length batch - 1 ≡ length others = omega (arith, ap length e) in
+    ap (λ (n : ℕ). take n (drop 1 batch)) many ∙ ap (λ (x : List Item). take (length others) (drop 1 x)) e ∙ take_all (length others) others (omega arith)
+
+from_header : (first now : Option (List ℕ)) (header : Header) (batch others : List Item) (s : Streamed) (reading : Reading) → batch ≡ items.Header header ∷ others → IsReading first now batch s reading → IsReading first now ((items.Header header ∷ []) ++ others) s reading
+from_header first now header batch others s reading e h = subst (λ (x : List Item). IsReading first now x s reading) e h
+
+pub start_fits : (first now : Option (List ℕ)) (header : Header) (batch : List Item) (s : Streamed) (reading : Reading) → BeginWith header batch → IsReading first now batch s reading → AllByRecursion IsFit (take (length batch - 1) (drop 1 batch))
+start_fits first now header batch s reading b h =
+    subst (AllByRecursion IsFit) (sym (rest_of header batch b.0 b.1)) (batch_fits first now (items.Header header ∷ []) b.0 s reading (from_header first now header batch b.0 s reading b.1 h))
+
+start_judges : (header : Header) (batch : List Item) (before after : ℕ) (reading : Reading) (result : Option Checked) → (b : BeginWith header batch) → before ≡ 0 → JudgesBatch header before after (take (length batch - 1) (drop 1 batch)) reading result → JudgesBatch header 0 after b.0 reading result
+start_judges header batch before after reading result b none judges =
+    subst (λ (n : ℕ). JudgesBatch header n after b.0 reading result) none (subst (λ (x : List Item). JudgesBatch header before after x reading result) (rest_of header batch b.0 b.1) judges)
+
+pub start_answers : (first now : Option (List ℕ)) (header : Header) (batch : List Item) (before after : ℕ) (s : Streamed) (reading : Reading) (result : Option Checked) (answer : Checked) → IsBounded header → header.brief ≡ false
+    → BeginWith header batch → before ≡ 0 → IsReading first now batch s reading → JudgesBatch header before after (take (length batch - 1) (drop 1 batch)) reading result → result ≡ Some answer → Answers first answer
+start_answers first now header batch before after s reading result answer bound full b none h judges is =
+    batch_answers first now header (items.Header header ∷ []) b.0 0 after s reading answer bound full (first_judged header) (from_header first now header batch b.0 s reading b.1 h)
+    (subst (JudgesBatch header 0 after b.0 reading) is (start_judges header batch before after reading result b none judges))
+
+pub start_goes_on : (first now : Option (List ℕ)) (header : Header) (batch : List Item) (before after : ℕ) (s : Streamed) (reading : Reading) (result : Option Checked) → IsBounded header → header.brief ≡ false
+    → BeginWith header batch → before ≡ 0 → IsReading first now batch s reading → JudgesBatch header before after (take (length batch - 1) (drop 1 batch)) reading result → result ≡ None → Underway header first now s after
+start_goes_on first now header batch before after s reading result bound full b none h judges is =
+    batch_goes_on first now header (items.Header header ∷ []) b.0 0 after s reading bound full (first_judged header) (from_header first now header batch b.0 s reading b.1 h)
+    (subst (JudgesBatch header 0 after b.0 reading) is (start_judges header batch before after reading result b none judges))
+
+-- ---- a further batch
+
+next_reading : (first before now : Option (List ℕ)) (header : Header) (old new : Streamed) (n : ℕ) (after : List Item) (reading : Reading) → (u : Underway header first before old n) → Reads before now old new [] after reading → IsReading first now (u.all ++ after) new reading
+next_reading first before now header old new n after reading u r = subst (λ (x : List Item). IsReading first now (u.all ++ x) new reading) (sym r.after_is) (r.goes_on first u.all u.has_read)
+
+pub next_fits : (first before now : Option (List ℕ)) (header : Header) (old new : Streamed) (n : ℕ) (after : List Item) (reading : Reading) → Underway header first before old n → Reads before now old new [] after reading → AllByRecursion IsFit after
+next_fits first before now header old new n after reading u r = batch_fits first now u.all after new reading (next_reading first before now header old new n after reading u r)
+
+pub next_answers : (first before now : Option (List ℕ)) (header own : Header) (old new : Streamed) (n m : ℕ) (after : List Item) (reading : Reading) (result : Option Checked) (answer : Checked) → IsBounded header → header.brief ≡ false → own ≡ header
+    → Underway header first before old n → Reads before now old new [] after reading → JudgesBatch own n m after reading result → result ≡ Some answer → Answers first answer
+next_answers first before now header own old new n m after reading result answer bound full same u r judges is =
+    batch_answers first now header u.all after n m new reading answer bound full u.judged (next_reading first before now header old new n after reading u r)
+    (subst (JudgesBatch header n m after reading) is (subst (λ (x : Header). JudgesBatch x n m after reading result) same judges))
+
+pub next_goes_on : (first before now : Option (List ℕ)) (header own : Header) (old new : Streamed) (n m : ℕ) (after : List Item) (reading : Reading) (result : Option Checked) → IsBounded header → header.brief ≡ false → own ≡ header
+    → Underway header first before old n → Reads before now old new [] after reading → JudgesBatch own n m after reading result → result ≡ None → Underway header first now new m
+next_goes_on first before now header own old new n m after reading result bound full same u r judges is =
+    batch_goes_on first now header u.all after n m new reading bound full u.judged (next_reading first before now header old new n after reading u r)
+    (subst (JudgesBatch header n m after reading) is (subst (λ (x : Header). JudgesBatch x n m after reading result) same judges))
+
+-- a batch with no answer leaves less to read
+pub next_smaller : (before now : Option (List ℕ)) (header own : Header) (old new : Streamed) (n m : ℕ) (after : List Item) (reading : Reading) (result : Option Checked) (first : Option (List ℕ)) → Underway header first before old n → Reads before now old new [] after reading
+    → JudgesBatch own n m after reading result → result ≡ None → 1099511627776 - new.count < 1099511627776 - old.count
+next_smaller before now header own old new n m after reading result first u r judges is =
+    let j = subst (JudgesBatch own n m after reading) is judges in
+    piece_counts before now old new [] after reading r (none_more m reading j.1) first u.all u.has_read

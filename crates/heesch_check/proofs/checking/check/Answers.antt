@@ -1,0 +1,28 @@
+use Rattle.heesch_check.proofs.Readings.{no_header_answers, brief_opened, opened}
+use Rattle.heesch_check.proofs.checking.check.Goals as goal
+
+pub read_first-requires-clause-may : goal.read_first-requires-clause-may
+read_first-requires-clause-may g c = (g.R.Source.left c.args.source.now, c.new-stream.ensures (g.R.Source.left c.args.source.now))
+
+pub returns-in_default-clause-ok : goal.returns-in_default-clause-ok
+returns-in_default-clause-ok g c =
+    let first = g.R.Source.left c.args.source.now in
+    no_header_answers first (g.R.Source.left c.read_first.new.source) c.read_first.new.items c.read_first.new.stream c.in_ok-reading.reading
+    (c.in_ok-reading.ensures.ok first (c.new-stream.ensures first)) c.in_ok-reading.ensures.some (rw c.as_slice.ensures at c.in_default.ensures.none)
+
+pub returns-then-header-clause-ok : goal.returns-then-header-clause-ok
+returns-then-header-clause-ok g c =
+    let first = g.R.Source.left c.args.source.now in
+    brief_opened first (g.R.Source.left c.read_first.new.source) c.in-Some.header c.read_first.new.items c.read_first.new.stream c.in_ok-reading.reading
+    (c.in_ok-reading.ensures.ok first (c.new-stream.ensures first)) (rw c.as_slice.ensures at c.in-Some.ensures.some) c.if-header.true
+
+pub check_named-requires-clause-opened : goal.check_named-requires-clause-opened
+check_named-requires-clause-opened g c κs within =
+    let first = g.R.Source.left c.args.source.now in
+    opened first (g.R.Source.left c.read_first.new.source) c.in-Some.header c.read_first.new.items c.read_first.new.stream c.in_ok-reading.reading
+    (c.in_ok-reading.ensures.ok first (c.new-stream.ensures first)) (rw c.as_slice.ensures at c.in-Some.ensures.some) c.if-header.false
+
+pub returns-clause-ok : goal.returns-clause-ok
+returns-clause-ok g c =
+    let first = g.R.Source.left c.args.source.now in
+    c.check_named.ensures.ok first (c.in_ok-reading.ensures.ok first (c.new-stream.ensures first))

@@ -1,0 +1,97 @@
+-- What is known of the items that were judged.
+use Rattle.std.specs.Prelude.{◌≡◌, ◌⊎◌, ℕ, ◌+◌, ◌<◌, ◌^◌, List, [], ◌∷◌, ◌++◌, length, Option, Some, None, MatchOption}
+use Rattle.std.specs.List.{AllByRecursion}
+use Rattle.heesch_grid.specs.declared.Cell.{Cell}
+use Rattle.heesch_grid.specs.Names.{geometry_of}
+use Rattle.heesch_grid.specs.Polyform.{IsFreeList}
+use Rattle.heesch_cert.specs.declared.entry.Entry.{Entry}
+use Rattle.heesch_cert.specs.declared.header.Header.{Header}
+use Rattle.heesch_cert.specs.declared.header.Subject.{Subject}
+use Rattle.heesch_cert.specs.declared.header.Subject.TheVariants.{Size, Given}
+use Rattle.heesch_grammar.specs.Entries.{HoldsItsLines}
+use Rattle.heesch_line.specs.Forms.{IsLine}
+use Rattle.heesch_reader.specs.declared.item.Item.{Item}
+use Rattle.heesch_reader.specs.declared.item.Item.TheVariants as items
+use Rattle.heesch_reader.specs.Items.{item_lines}
+use Rattle.heesch_check.specs.declared.answers.Checked.{Checked}
+use Rattle.heesch_check.specs.declared.answers.Checked.TheVariants as answers
+use Rattle.heesch_check.specs.Catalogues.{IsGoodEntry, AreAll}
+
+-- the shapes are the free list of the header's size, which has fewer than 2^32; for given shapes there are none
+abbrev pub HasShapes : Header → Subject → Option (List (List Cell)) → Type 0
+HasShapes header (Size n) (Some shapes) = IsFreeList (geometry_of header.grid) n shapes × (length shapes < 2 ^ 32)
+HasShapes header Given None = Unit {0}
+HasShapes header subject shapes = ⊥
+
+-- an entry of an item holds nothing beyond its lines
+abbrev pub HoldsLines : Item → Type 0
+HoldsLines (items.Entry line entry) = HoldsItsLines entry
+HoldsLines item = Unit {0}
+
+-- the lines of the item have forms of a catalogue's lines, and it holds nothing beyond them
+pub record IsFit (item : Item) : Type 0 where
+  pub forms : AllByRecursion IsLine (item_lines item)
+  pub holds : HoldsLines item
+
+-- behind so many good entries an entry is good, and there is one more; else this is the answer
+abbrev pub JudgesEntry : Header → (before after : ℕ) → Entry → Option Checked → Type 0
+JudgesEntry header before after e result =
+    MatchOption result (IsGoodEntry header before e × (after ≡ before + 1)) (λ answer. (answer ≡ answers.InvalidEntry (before + 1)) × (IsGoodEntry header before e → ⊥))
+
+-- behind so many good entries, an end stands where they are all; else this is the answer
+abbrev pub JudgesEnd : Header → (before after : ℕ) → Option Checked → Type 0
+JudgesEnd header before after result =
+    MatchOption result (AreAll header header.subject before × (after ≡ before)) (λ answer. (answer ≡ answers.InvalidEnd) × (AreAll header header.subject before → ⊥))
+
+-- the judgement of an item behind a header and so many good entries; no other header stands there
+abbrev pub Judges : Header → (before after : ℕ) → Item → Option Checked → Type 0
+Judges header before after (items.Entry line entry) result = JudgesEntry header before after entry result
+Judges header before after (items.Brief line cells verdict) result = result ≡ Some (answers.InvalidEntry (before + 1))
+Judges header before after (items.End count) result = JudgesEnd header before after result
+Judges header before after (items.Header other) result = Unit {0}
+
+-- each of the items is judged good, and then there are so many entries
+abbrev pub AreAllGood : Header → (before after : ℕ) → List Item → Type 0
+AreAllGood header before after [] = after ≡ before
+AreAllGood header before after (item ∷ items) = (middle : ℕ) × Judges header before middle item None × AreAllGood header middle after items
+
+-- the items before this one are judged good, and this is its answer
+pub record StopsIn (header : Header) (before after : ℕ) (found : List Item) (answer : Checked) : Type 0 where
+  pub front : List Item
+  pub item : Item
+  pub back : List Item
+  pub middle : ℕ
+  pub split : found ≡ front ++ item ∷ back
+  pub good : AreAllGood header before middle front
+  pub judges : Judges header middle after item (Some answer)
+
+-- the judgement of items
+abbrev pub JudgesAll : Header → (before after : ℕ) → List Item → Option Checked → Type 0
+JudgesAll header before after found None = AreAllGood header before after found
+JudgesAll header before after found (Some answer) = StopsIn header before after found answer
+
+-- the items are these entries
+abbrev pub AreItemsOf : List Item → List Entry → Type 0
+AreItemsOf [] [] = Unit {0}
+AreItemsOf (items.Entry line entry ∷ found) (e ∷ es) = (entry ≡ e) × AreItemsOf found es
+AreItemsOf found es = ⊥
+
+-- behind so many entries, each of these is good
+abbrev pub AreGood : Header → ℕ → List Entry → Type 0
+AreGood header before [] = Unit {0}
+AreGood header before (e ∷ es) = IsGoodEntry header before e × AreGood header (before + 1) es
+
+-- no end, or the one behind so many entries, which are all
+abbrev pub EndsAll : Header → ℕ → List Item → Type 0
+EndsAll header entries ends = (ends ≡ []) ⊎ ((count : ℕ) × (ends ≡ items.End count ∷ []) × AreAll header header.subject entries)
+
+-- the items are a header, so many good entries, and maybe an end behind all of them
+pub record AreJudged (header : Header) (found : List Item) (entries : ℕ) : Type 0 where
+  pub es : List Entry
+  pub body : List Item
+  pub ends : List Item
+  pub split : found ≡ items.Header header ∷ (body ++ ends)
+  pub are : AreItemsOf body es
+  pub good : AreGood header 0 es
+  pub count : entries ≡ length es
+  pub ends_all : EndsAll header (length es) ends

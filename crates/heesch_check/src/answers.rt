@@ -1,0 +1,74 @@
+//! What a check answers, and its line.
+ghost use Rattle.std.specs.Prelude.{◌≡◌, ◌++◌, codes, decimal, OnOk};
+ghost use Rattle.heesch_check.specs.declared.answers.CheckStop.TheVariants as stops;
+ghost use Rattle.heesch_check.specs.Answers.{checked_text};
+
+use heesch_io::NoMemory;
+use itoa::Buffer;
+use thiserror::Error;
+
+/// What bytes are.
+#[derive(Clone, Copy, Debug, PartialEq, Eq)]
+pub enum Checked {
+    /// A valid catalogue, of so many entries.
+    Valid { count: u32 },
+    /// The first line is no header of a catalogue that isn't brief.
+    InvalidHeader,
+    /// The entries before the one of this number are true and in their places, and it isn't.
+    InvalidEntry { number: u64 },
+    /// The entries are true and in their places, but what stands behind them is no end.
+    InvalidEnd,
+    /// More bytes than are read, which decide no invalid part. The first byte too many is on this line.
+    TooLong { line: u64 },
+}
+
+/// Why a check gave no answer.
+#[derive(Clone, Copy, Debug, PartialEq, Eq, Error)]
+pub enum CheckStop {
+    /// The source failed.
+    #[error("the input failed")]
+    Failed,
+    /// Memory was refused.
+    #[error("out of memory")]
+    NoMemory,
+}
+
+impl From<NoMemory> for CheckStop {
+    ghost from_gives = { λ _ e. e ≡ stops.NoMemory };
+
+    fn from(_error: NoMemory) -> CheckStop {
+        CheckStop::NoMemory
+    }
+}
+
+/// Appends the line of an answer: `valid COUNT`, `invalid header`, `invalid entry I` or `invalid end`, and nothing for an
+/// input that is too long, which has a fault's line. At want of memory the text may have a part of it.
+pub fn write_checked(checked: Checked, text: &mut Vec<u8>) -> Result<(), NoMemory>
+    ensures { OnOk result (text.new.items ≡ text.old.items ++ checked_text checked) }
+{
+    match checked {
+        Checked::Valid { count } => numbered(b"valid ", u64::from(count), text),
+        Checked::InvalidHeader => plain(b"invalid header\n", text),
+        Checked::InvalidEntry { number } => numbered(b"invalid entry ", number, text),
+        Checked::InvalidEnd => plain(b"invalid end\n", text),
+        Checked::TooLong { line: _ } => Ok(()),
+    }
+}
+
+/// Appends a line that is given with its newline.
+fn plain(line: &[u8], text: &mut Vec<u8>) -> Result<(), NoMemory>
+    ensures { OnOk result (text.new.items ≡ text.old.items ++ line.now) }
+{
+    text.extend_from_slice(line)?;
+    Ok(())
+}
+
+/// Appends words, and a number behind them, as a line.
+fn numbered(words: &[u8], number: u64, text: &mut Vec<u8>) -> Result<(), NoMemory>
+    ensures { OnOk result (text.new.items ≡ text.old.items ++ (words.now ++ decimal number ++ codes "\n")) }
+{
+    text.extend_from_slice(words)?;
+    text.extend_from_slice(Buffer::new().format(number).as_bytes())?;
+    text.push(b'\n')?;
+    Ok(())
+}

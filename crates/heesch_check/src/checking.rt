@@ -1,0 +1,196 @@
+//! The check of a catalogue that comes from a source.
+ghost use Rattle.std.specs.Prelude.{◌≡◌, ◌≤◌, ℕ, List, Option, Err, IfOk, IfSome, IfNone, false};
+ghost use Rattle.heesch_cert.specs.declared.header.Header.{Header as CatalogueHeader};
+ghost use Rattle.heesch_cert.specs.Limits.{AreLimits};
+ghost use Rattle.heesch_grid.specs.Names.{geometry_of};
+ghost use Rattle.heesch_io.specs.Causes.{Rose};
+ghost use Rattle.heesch_line.specs.Forms.{IsSubject};
+ghost use Rattle.heesch_stream.specs.Input.{IsAllOf};
+ghost use Rattle.heesch_check.specs.Answers.{IsChecked};
+ghost use Rattle.heesch_check.specs.Judging.{HasShapes};
+ghost use Rattle.heesch_check.specs.Reading.{IsReading, IsUnderway, BeginWith, IsOpened, IsAnswered};
+
+use crate::answers::{CheckStop, Checked};
+use crate::judging::Judge;
+use crate::reading::{Reading, read, read_first};
+use heesch_cert::{Header, Subject};
+use heesch_grid::{Grid, GridName, Hex, Iamond, Square};
+use heesch_io::{NoMemory, Seq, Source};
+use heesch_listing::all_shapes;
+use heesch_pool::Gate;
+use heesch_reader::Item;
+use heesch_stream::Stream;
+use std::alloc::Global;
+use std::thread::Threads;
+
+/// Whether what the source has left is a valid catalogue, else its first invalid part.
+///
+/// `TooLong` comes where the first 2^40 bytes decide no invalid part and more follow. Reading stops at the first invalid
+/// part. The free list of a size is made once, by so many workers; each entry is audited once, and no more than the
+/// entries of one piece of the input are held.
+///
+/// Errors: `Failed` only where the source's count of faults rose; `NoMemory` where memory was refused.
+pub fn check<T: Threads + Sync, R: Source, H: Gate + Sync>(
+    rt: &T,
+    alloc: Global,
+    source: &mut R,
+    workers: u32,
+    gate: &H,
+) -> Result<Checked, CheckStop>
+    requires { (1 ≤ workers) × (workers ≤ 64) }
+    ensures ok { IfOk result (λ c. (input : List ℕ) × IsAllOf (R.left source.old) input × IsChecked input c) }
+    ensures failed { result ≡ Err CheckStop.Failed → Rose (R.faults source.old) (R.faults source.new) }
+    ensures later { R.faults source.old ≤ R.faults source.new }
+{
+    let mut stream = Stream::new(alloc);
+    let mut items = Seq::new(alloc);
+    let reading = read_first(&mut stream, source, &mut items)?;
+    let Some(header) = header_of(items.as_slice()) else {
+        return Ok(Checked::InvalidHeader);
+    };
+    if header.brief {
+        return Ok(Checked::InvalidHeader);
+    }
+    let opening = Opening {
+        stream,
+        header,
+        items,
+        reading,
+    };
+    check_named(rt, alloc, source, opening, workers, gate)
+}
+
+/// The header that is the first of the items, if it is one.
+fn header_of(items: &[Item]) -> Option<Header>
+    ensures some { IfSome result (λ header. BeginWith header items.now) }
+    ensures none { IfNone result ((header : CatalogueHeader) → ¬ BeginWith header items.now) }
+{
+    if items.is_empty() {
+        return None;
+    }
+    match &items[0] {
+        Item::Header { header } => Some(*header),
+        _ => None,
+    }
+}
+
+/// What was read up to a header: the items, the first of which it is, and how far reading came.
+#[derive(Drop)]
+struct Opening {
+    stream: Stream,
+    header: Header,
+    items: Seq<Item>,
+    reading: Reading,
+}
+
+/// The answer of a catalogue whose header was read.
+fn check_named<T: Threads + Sync, R: Source, H: Gate + Sync>(
+    rt: &T,
+    alloc: Global,
+    source: &mut R,
+    opening: Opening,
+    workers: u32,
+    gate: &H,
+) -> Result<Checked, CheckStop>
+    requires opened { IsOpened (R.left source.old) opening.header opening.items opening.stream opening.reading }
+    requires workers { (1 ≤ workers) × (workers ≤ 64) }
+    ensures ok { (first : Option (List ℕ)) → IsReading first (R.left source.old) opening.items opening.stream opening.reading → IsAnswered first result }
+    ensures failed { result ≡ Err CheckStop.Failed → Rose (R.faults source.old) (R.faults source.new) }
+    ensures later { R.faults source.old ≤ R.faults source.new }
+{
+    match opening.header.grid {
+        GridName::Square => {
+            check_under::<Square, T, R, H>(rt, alloc, source, opening, workers, gate)
+        }
+        GridName::Hex => check_under::<Hex, T, R, H>(rt, alloc, source, opening, workers, gate),
+        GridName::Iamond => {
+            check_under::<Iamond, T, R, H>(rt, alloc, source, opening, workers, gate)
+        }
+    }
+}
+
+/// The same on the header's grid.
+fn check_under<G: Grid + Send + Sync, T: Threads + Sync, R: Source, H: Gate + Sync>(
+    rt: &T,
+    alloc: Global,
+    source: &mut R,
+    opening: Opening,
+    workers: u32,
+    gate: &H,
+) -> Result<Checked, CheckStop>
+    requires grid { geometry_of opening.header.grid ≡ G.geometry }
+    requires opened { IsOpened (R.left source.old) opening.header opening.items opening.stream opening.reading }
+    requires workers { (1 ≤ workers) × (workers ≤ 64) }
+    ensures ok { (first : Option (List ℕ)) → IsReading first (R.left source.old) opening.items opening.stream opening.reading → IsAnswered first result }
+    ensures failed { result ≡ Err CheckStop.Failed → Rose (R.faults source.old) (R.faults source.new) }
+    ensures later { R.faults source.old ≤ R.faults source.new }
+{
+    let Opening {
+        mut stream,
+        header,
+        items,
+        reading,
+    } = opening;
+    let judge = judge_of::<G, T, H>(rt, alloc, header, workers, gate)?;
+    check_behind(alloc, source, &mut stream, judge, items.as_slice(), reading)
+}
+
+/// A judge of what stands behind the header, with the free list where it is of a size.
+fn judge_of<G: Grid + Send + Sync, T: Threads + Sync, H: Gate + Sync>(
+    rt: &T,
+    alloc: Global,
+    header: Header,
+    workers: u32,
+    gate: &H,
+) -> Result<Judge<G>, NoMemory>
+    requires grid { geometry_of header.grid ≡ G.geometry }
+    requires subject { IsSubject header.grid header.subject }
+    requires workers { (1 ≤ workers) × (workers ≤ 64) }
+    ensures header { IfOk result (λ judge. judge.header ≡ header) }
+    ensures shapes { IfOk result (λ judge. HasShapes header header.subject judge.shapes) }
+    ensures none { IfOk result (λ judge. judge.entries ≡ 0) }
+{
+    let shapes = match header.subject {
+        Subject::Given => None,
+        Subject::Size { n } => Some(Seq::from_vec(all_shapes::<G, T, H>(
+            rt, alloc, n, workers, gate,
+        )?)),
+    };
+    Ok(Judge {
+        header,
+        shapes,
+        entries: 0,
+    })
+}
+
+/// The answer of a catalogue whose header was read, with the items so far, the first of which it is, and how far reading came.
+fn check_behind<G: Grid, R: Source>(
+    alloc: Global,
+    source: &mut R,
+    stream: &mut Stream,
+    mut judge: Judge<G>,
+    items: &[Item],
+    reading: Reading,
+) -> Result<Checked, CheckStop>
+    requires grid { geometry_of judge.header.grid ≡ G.geometry }
+    requires shapes { HasShapes judge.header judge.header.subject judge.shapes }
+    requires limits { AreLimits judge.header.limits }
+    requires full { judge.header.brief ≡ false }
+    requires none { judge.entries ≡ 0 }
+    requires begins { BeginWith judge.header items.now }
+    requires underway { IsUnderway (R.left source.old) items.now stream.old reading }
+    ensures ok { (first : Option (List ℕ)) → IsReading first (R.left source.old) items.now stream.old reading → IsAnswered first result }
+    ensures failed { result ≡ Err CheckStop.Failed → Rose (R.faults source.old) (R.faults source.new) }
+    ensures later { R.faults source.old ≤ R.faults source.new }
+{
+    if let Some(answer) = judge.judge_batch(alloc, &items[1..], reading)? {
+        return Ok(answer);
+    }
+    'batches: loop {
+        let mut batch = Seq::new(alloc);
+        let reading = read(stream, source, &mut batch)?;
+        if let Some(answer) = judge.judge_batch(alloc, batch.as_slice(), reading)? {
+            return Ok(answer);
+        }
+    }
+}

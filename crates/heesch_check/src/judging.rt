@@ -1,0 +1,175 @@
+//! The judgement of the items of a catalogue, one after the other.
+ghost use Rattle.std.specs.Prelude.{◌≡◌, ◌+◌, ◌↔◌, ◌<◌, ◌^◌, IfOk, IsTrue};
+ghost use Rattle.std.specs.List.{AllByRecursion};
+ghost use Rattle.heesch_cert.specs.Limits.{AreLimits};
+ghost use Rattle.heesch_grid.specs.Names.{geometry_of};
+ghost use Rattle.heesch_grammar.specs.Entries.{HoldsItsLines};
+ghost use Rattle.heesch_line.specs.Forms.{IsLine};
+ghost use Rattle.heesch_text.specs.Catalogue.{entry_lines};
+ghost use Rattle.heesch_check.specs.Catalogues.{IsInPlace, AreAll};
+ghost use Rattle.heesch_check.specs.Judging.{HasShapes, IsFit, Judges, JudgesEntry, JudgesEnd, JudgesAll};
+ghost use Rattle.heesch_check.specs.Reading.{answer_of, JudgesBatch};
+
+use crate::answers::Checked;
+use crate::reading::Reading;
+use heesch_audit::{EntryAnswer, audit};
+use heesch_cert::{Entry, Header};
+use heesch_grid::{Cell, Grid};
+use heesch_io::{NoMemory, Seq};
+use heesch_reader::{Item, Part};
+use heesch_shape::Shape;
+use std::alloc::Global;
+
+/// How many shapes may be given.
+const GIVEN_MAX: u32 = 10_000;
+
+/// A catalogue as far as it was judged: its header, the free list where it is of a size, and how many entries were good.
+#[derive(Drop)]
+pub(crate) struct Judge<G: Grid> {
+    pub header: Header,
+    pub shapes: Option<Seq<Shape<G>>>,
+    pub entries: u32,
+}
+
+impl<G: Grid> Judge<G> {
+    /// Whether a shape of these cells may stand behind the entries so far.
+    fn is_in_place(&self, cells: &[Cell]) -> bool
+        requires { HasShapes self.now.header self.now.header.subject self.now.shapes }
+        ensures place { IsTrue result ↔ IsInPlace (geometry_of self.now.header.grid) self.now.header.subject self.now.entries cells.now }
+        ensures room { IsTrue result → self.now.entries + 1 < 2 ^ 32 }
+    {
+        let Some(shapes) = &self.shapes else {
+            return self.entries < GIVEN_MAX;
+        };
+        let shapes = shapes.as_slice();
+        let before = self.entries as usize;
+        if shapes.len() <= before {
+            return false;
+        }
+        shapes[before].cells() == cells
+    }
+
+    /// Whether the entries so far are all that the header asks for.
+    fn are_all(&self) -> bool
+        requires { HasShapes self.now.header self.now.header.subject self.now.shapes }
+        ensures { IsTrue result ↔ AreAll self.now.header self.now.header.subject self.now.entries }
+    {
+        match &self.shapes {
+            None => true,
+            Some(shapes) => shapes.len() == self.entries as usize,
+        }
+    }
+
+    /// The answer where the next entry isn't good.
+    fn next_is_invalid(&self) -> Checked
+        ensures { result ≡ Checked.InvalidEntry (self.now.entries + 1) }
+    {
+        Checked::InvalidEntry {
+            number: u64::from(self.entries) + 1,
+        }
+    }
+
+    /// Judges an entry, which is audited once.
+    fn judge_entry(&mut self, alloc: Global, entry: &Entry) -> Result<Option<Checked>, NoMemory>
+        requires grid { geometry_of self.old.header.grid ≡ G.geometry }
+        requires shapes { HasShapes self.old.header self.old.header.subject self.old.shapes }
+        requires limits { AreLimits self.old.header.limits }
+        requires forms { AllByRecursion IsLine (entry_lines entry.now) }
+        requires holds { HoldsItsLines entry.now }
+        ensures judges { IfOk result (JudgesEntry self.old.header self.old.entries self.new.entries entry.now) }
+        ensures kept { self.new ≡ record self.old { entries = self.new.entries } }
+    {
+        if !self.is_in_place(entry.cells.as_slice()) {
+            return Ok(Some(self.next_is_invalid()));
+        }
+        match audit::<G>(alloc, entry, self.header.limits)? {
+            EntryAnswer::Invalid { part: _ } => Ok(Some(self.next_is_invalid())),
+            EntryAnswer::Valid => {
+                self.entries += 1;
+                Ok(None)
+            }
+        }
+    }
+
+    /// Judges an end.
+    fn judge_end(&self) -> Option<Checked>
+        requires { HasShapes self.now.header self.now.header.subject self.now.shapes }
+        ensures { JudgesEnd self.now.header self.now.entries self.now.entries result }
+    {
+        if self.are_all() {
+            return None;
+        }
+        Some(Checked::InvalidEnd)
+    }
+
+    /// Judges an item behind those so far: the answer where it is at fault.
+    pub fn judge(&mut self, alloc: Global, item: &Item) -> Result<Option<Checked>, NoMemory>
+        requires grid { geometry_of self.old.header.grid ≡ G.geometry }
+        requires shapes { HasShapes self.old.header self.old.header.subject self.old.shapes }
+        requires limits { AreLimits self.old.header.limits }
+        requires fit { IsFit item.now }
+        ensures judges { IfOk result (Judges self.old.header self.old.entries self.new.entries item.now) }
+        ensures kept { self.new ≡ record self.old { entries = self.new.entries } }
+    {
+        match item {
+            Item::Header { header: _ } => Ok(Some(Checked::InvalidEnd)),
+            Item::Entry { line: _, entry } => self.judge_entry(alloc, entry),
+            Item::Brief { .. } => Ok(Some(self.next_is_invalid())),
+            Item::End { count: _ } => Ok(self.judge_end()),
+        }
+    }
+
+    /// Judges items one after the other, up to the first at fault, and gives its answer.
+    pub fn judge_all(&mut self, alloc: Global, items: &[Item]) -> Result<Option<Checked>, NoMemory>
+        requires grid { geometry_of self.old.header.grid ≡ G.geometry }
+        requires shapes { HasShapes self.old.header self.old.header.subject self.old.shapes }
+        requires limits { AreLimits self.old.header.limits }
+        requires fit { AllByRecursion IsFit items.now }
+        ensures judges { IfOk result (JudgesAll self.old.header self.old.entries self.new.entries items.now) }
+        ensures kept { self.new ≡ record self.old { entries = self.new.entries } }
+    {
+        for item in items {
+            let answer = self.judge(alloc, item)?;
+            if answer.is_some() {
+                return Ok(answer);
+            }
+        }
+        Ok(None)
+    }
+
+    /// The answer where reading stops behind items that were all judged good.
+    pub fn answer(&self, reading: Reading) -> Option<Checked>
+        ensures { result ≡ answer_of self.now.entries reading }
+    {
+        let entries = self.entries;
+        match reading {
+            Reading::More => None,
+            Reading::End => Some(Checked::Valid { count: entries }),
+            Reading::Fault { part: Part::Header } => Some(Checked::InvalidHeader),
+            Reading::Fault { part: Part::Entry } => Some(self.next_is_invalid()),
+            Reading::Fault { part: Part::End } => Some(Checked::InvalidEnd),
+            Reading::TooLong { line } => Some(Checked::TooLong { line }),
+        }
+    }
+
+    /// Judges items one after the other, and then what reading came to behind them: the answer, unless more may follow.
+    pub fn judge_batch(
+        &mut self,
+        alloc: Global,
+        items: &[Item],
+        reading: Reading,
+    ) -> Result<Option<Checked>, NoMemory>
+        requires grid { geometry_of self.old.header.grid ≡ G.geometry }
+        requires shapes { HasShapes self.old.header self.old.header.subject self.old.shapes }
+        requires limits { AreLimits self.old.header.limits }
+        requires fit { AllByRecursion IsFit items.now }
+        ensures judges { IfOk result (JudgesBatch self.old.header self.old.entries self.new.entries items.now reading) }
+        ensures kept { self.new ≡ record self.old { entries = self.new.entries } }
+    {
+        let answer = self.judge_all(alloc, items)?;
+        if answer.is_some() {
+            return Ok(answer);
+        }
+        Ok(self.answer(reading))
+    }
+}

@@ -1,0 +1,13 @@
+//! Whether bytes are a valid catalogue.
+#![tactic(auto)]
+
+mod answers;
+mod checking;
+mod judging;
+pub mod laws;
+mod reading;
+#[cfg(test)]
+mod tests;
+
+pub use answers::{CheckStop, Checked, write_checked};
+pub use checking::check;

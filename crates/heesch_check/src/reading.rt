@@ -1,0 +1,66 @@
+//! How far one step of reading came.
+ghost use Rattle.std.specs.Prelude.{◌≡◌, ◌≢◌, ◌≤◌, [], Err, IfOk};
+ghost use Rattle.heesch_io.specs.Causes.{Rose};
+ghost use Rattle.heesch_check.specs.Reading.{Reads, FirstReads, MayRead};
+
+use crate::answers::CheckStop;
+use heesch_io::{Seq, Source};
+use heesch_reader::{Item, Part};
+use heesch_stream::{Stream, StreamStop, Taken};
+
+/// What one step of reading came to.
+#[derive(Clone, Copy, Debug, PartialEq, Eq)]
+pub enum Reading {
+    /// More may follow.
+    More,
+    /// The end of the input, which is a whole catalogue.
+    End,
+    /// A line that can't stand in a catalogue, and the part that it is of.
+    Fault { part: Part },
+    /// The input is longer than is read. The first byte too many is on this line.
+    TooLong { line: u64 },
+}
+
+/// Reads one piece, and appends the items that are whole by now.
+pub(crate) fn read<R: Source>(
+    stream: &mut Stream,
+    source: &mut R,
+    items: &mut Seq<Item>,
+) -> Result<Reading, CheckStop>
+    ensures ok { IfOk result (Reads (R.left source.old) (R.left source.new) stream.old stream.new items.old items.new) }
+    ensures failed { result ≡ Err CheckStop.Failed → Rose (R.faults source.old) (R.faults source.new) }
+    ensures later { R.faults source.old ≤ R.faults source.new }
+{
+    match stream.take(source, items) {
+        Ok(Taken::Piece) => Ok(Reading::More),
+        Ok(Taken::End) => Ok(Reading::End),
+        Err(StreamStop::NotText { line: _, part }) => Ok(Reading::Fault { part }),
+        Err(StreamStop::TooLong { line }) => Ok(Reading::TooLong { line }),
+        Err(StreamStop::Failed) => Err(CheckStop::Failed),
+        Err(StreamStop::NoMemory) => Err(CheckStop::NoMemory),
+    }
+}
+
+/// Reads on until there is an item, or nothing more may follow. Nothing was read before but bytes.
+pub(crate) fn read_first<R: Source>(
+    stream: &mut Stream,
+    source: &mut R,
+    items: &mut Seq<Item>,
+) -> Result<Reading, CheckStop>
+    requires none { items.old ≡ [] }
+    requires may { MayRead (R.left source.old) stream.old }
+    ensures ok { IfOk result (FirstReads (R.left source.old) (R.left source.new) stream.old stream.new items.new) }
+    ensures some { IfOk result (λ reading. reading ≡ Reading.More → items.new ≢ []) }
+    ensures failed { result ≡ Err CheckStop.Failed → Rose (R.faults source.old) (R.faults source.new) }
+    ensures later { R.faults source.old ≤ R.faults source.new }
+{
+    'pieces: loop {
+        let reading = read(stream, source, items)?;
+        let Reading::More = reading else {
+            return Ok(reading);
+        };
+        if !items.is_empty() {
+            return Ok(reading);
+        }
+    }
+}

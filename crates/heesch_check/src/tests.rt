@@ -1,0 +1,100 @@
+//! Worked texts, each with its answer.
+use crate::{CheckStop, Checked, check, write_checked};
+use heesch_io::MemorySource;
+use heesch_pool::Open;
+use std::alloc::Global;
+use std::test::Fail;
+use std::thread::Threads;
+
+const HEADER: &str = "heesch 1 iamond 1 turns 20000 levels 3 domain 4 size 60000000\n";
+
+const SHAPE: &str = "shape 1,1\nverdict tiles halfturn domain 2 classes 1\nlattice 1 1 0\n";
+
+const TILES: &str = "tile 0 0 0 class 1 by 0 0 0\ntile 3 0 0 class 1 by 1 0 -1\n";
+
+const END: &str = "end 1\n";
+
+/// The answer of a text that comes in pieces of at most 5 bytes.
+fn answer_of<T: Threads + Sync>(rt: &T, alloc: Global, text: &str) -> Result<Checked, CheckStop> {
+    let Ok(bytes) = text.as_bytes().to_vec(alloc) else {
+        return Err(CheckStop::NoMemory);
+    };
+    let mut source = MemorySource::new(bytes, 5, Vec::new(alloc));
+    check(rt, alloc, &mut source, 1, &Open)
+}
+
+#[test]
+fn the_single_triangle_is_valid(rt: HostRuntime) -> Result<(), Fail> {
+    let alloc = rt.alloc();
+    let text = format!(in alloc; "{HEADER}{SHAPE}{TILES}{END}")?;
+    assert_eq!(rt;
+        answer_of(&rt, alloc, &text),
+        Ok(Checked::Valid { count: 1 })
+    );
+    Ok(())
+}
+
+#[test]
+fn the_first_invalid_part_is_told(rt: HostRuntime) -> Result<(), Fail> {
+    let alloc = rt.alloc();
+    let brief = "brief 1 iamond 1 turns 20000 levels 3 domain 4 size 60000000\n";
+    let second = "shape 1,1 2,2\n";
+    for (text, answer) in [
+        (
+            format!(in alloc; "{HEADER}{SHAPE}{END}")?,
+            Checked::InvalidEntry { number: 1 },
+        ),
+        (
+            format!(in alloc; "{HEADER}{SHAPE}{TILES}{second}")?,
+            Checked::InvalidEntry { number: 2 },
+        ),
+        (
+            format!(in alloc; "{HEADER}{second}{SHAPE}")?,
+            Checked::InvalidEntry { number: 1 },
+        ),
+        (
+            format!(in alloc; "{HEADER}{SHAPE}{TILES}{END}{END}")?,
+            Checked::InvalidEnd,
+        ),
+        (
+            format!(in alloc; "{HEADER}{SHAPE}{TILES}end 1")?,
+            Checked::InvalidEnd,
+        ),
+        (format!(in alloc; "{HEADER}end 0\n")?, Checked::InvalidEnd),
+        (
+            format!(in alloc; "{brief}{SHAPE}{TILES}{END}")?,
+            Checked::InvalidHeader,
+        ),
+        (format!(in alloc; "")?, Checked::InvalidHeader),
+    ] {
+        assert_eq!(rt; answer_of(&rt, alloc, &text), Ok(answer), "{text}");
+    }
+    Ok(())
+}
+
+#[test]
+fn the_line_of_an_answer_is_written(rt: HostRuntime) -> Result<(), Fail> {
+    let mut text = Vec::new(rt.alloc());
+    write_checked(Checked::Valid { count: 108 }, &mut text)?;
+    write_checked(Checked::InvalidEntry { number: 3 }, &mut text)?;
+    write_checked(Checked::InvalidEnd, &mut text)?;
+    write_checked(Checked::InvalidHeader, &mut text)?;
+    assert_eq!(rt;
+        text.as_slice(),
+        b"valid 108\ninvalid entry 3\ninvalid end\ninvalid header\n".as_slice()
+    );
+    Ok(())
+}
+
+#[test]
+fn a_failing_source_is_told(rt: HostRuntime) -> Result<(), Fail> {
+    let alloc = rt.alloc();
+    let mut fails = Vec::new(alloc);
+    fails.push(3)?;
+    let mut source = MemorySource::new(HEADER.as_bytes().to_vec(alloc)?, 5, fails);
+    assert_eq!(rt;
+        check(&rt, alloc, &mut source, 1, &Open),
+        Err(CheckStop::Failed)
+    );
+    Ok(())
+}

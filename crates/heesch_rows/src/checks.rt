@@ -1,0 +1,156 @@
+//! `heesch check`: whether a catalogue is valid, else its first invalid part.
+use crate::running::{bytes_of, room, run_into, run_over};
+use heesch_app::Status;
+use heesch_io::{MemorySource, NoMemory};
+use std::alloc::Global;
+use std::test::Fail;
+use std::thread::Threads;
+
+const TRIANGLE: &str = "heesch 1 iamond 1 turns 20000 levels 3 domain 4 size 60000000
+shape 1,1
+verdict tiles halfturn domain 2 classes 1
+lattice 1 1 0
+tile 0 0 0 class 1 by 0 0 0
+tile 3 0 0 class 1 by 1 0 -1
+end 1
+";
+
+const CORONA: &str = "heesch 1 iamond 1 turns 20000 levels 1 domain 1 size 60000000
+shape 1,1
+verdict undecided levels 1
+coronas 1
+layer 0,0,-1 0,1,-1 1,0,-1 1,1,-1 1,2,-1 0,-1,0 0,1,0 1,0,0 1,1,0 0,-1,1 0,0,1 1,0,1
+end 1
+";
+
+const HOLED: &str = "heesch 1 square given turns 20000 levels 3 domain 4 size 60000000
+shape 0,0 1,0 2,0 0,1 2,1 0,2 1,2
+verdict heesch 0 nontiler 1
+coronas 0
+wall 1 refuted
+empty 9
+bare 1 same
+end 1
+";
+
+const HEADER: &str = "heesch 1 square 4 turns 20000 levels 3 domain 4 size 60000000\n";
+
+/// The entries of the five tetrominoes.
+const ENTRIES: [&str; 5] = [
+    "shape 0,0 1,0 2,0 3,0\nverdict tiles translation domain 1 classes 1\nlattice 4 1 0\ntile 0 0 0 class 1 by 0 0 0\n",
+    "shape 0,0 1,0 2,0 0,1\nverdict tiles translation domain 1 classes 1\nlattice 4 1 1\ntile 0 0 0 class 1 by 0 0 0\n",
+    "shape 0,0 1,0 2,0 1,1\nverdict tiles translation domain 1 classes 1\nlattice 4 1 2\ntile 0 0 0 class 1 by 0 0 0\n",
+    "shape 0,0 1,0 0,1 1,1\nverdict tiles translation domain 1 classes 1\nlattice 2 2 0\ntile 0 0 0 class 1 by 0 0 0\n",
+    "shape 0,0 1,0 1,1 2,1\nverdict tiles translation domain 1 classes 1\nlattice 2 2 0\ntile 0 0 0 class 1 by 0 0 0\n",
+];
+
+/// The catalogue of the entries of these numbers, from 0.
+fn catalogue(alloc: Global, numbers: &[usize], end: &str) -> Result<String, NoMemory> {
+    let mut text = String::from_str(alloc, HEADER)?;
+    for number in numbers {
+        if let Some(entry) = ENTRIES.get(*number) {
+            text.push_str(entry)?;
+        }
+    }
+    text.push_str(end)?;
+    Ok(text)
+}
+
+/// How `check` of a text ended, and what it wrote.
+fn told<T: Threads + Sync>(rt: &T, alloc: Global, text: &str) -> Result<(Status, Vec<u8>), NoMemory> {
+    let (status, sink) = run_over(rt, alloc, "check", bytes_of(alloc, text)?, room(alloc, 100)?)?;
+    Ok((status, sink.held))
+}
+
+#[test]
+fn valid_catalogues_are_valid(rt: HostRuntime) -> Result<(), Fail> {
+    let alloc = rt.alloc();
+    let all = catalogue(alloc, &[0, 1, 2, 3, 4], "end 5\n")?;
+    for (text, line) in [
+        (TRIANGLE, "valid 1\n"),
+        (CORONA, "valid 1\n"),
+        (HOLED, "valid 1\n"),
+        (all.as_str(), "valid 5\n"),
+    ] {
+        let (status, held) = told(&rt, alloc, text)?;
+        assert_eq!(rt; held.as_slice(), line.as_bytes(), "{text}");
+        assert_eq!(rt; status, Status::Done, "{text}");
+    }
+    Ok(())
+}
+
+#[test]
+fn the_first_invalid_part_is_told(rt: HostRuntime) -> Result<(), Fail> {
+    let alloc = rt.alloc();
+    let end = "end 5\n";
+    for (numbers, end, line) in [
+        ([0, 2, 3, 4].as_slice(), end, "invalid entry 2\n"),
+        ([1, 0, 2, 3, 4].as_slice(), end, "invalid entry 1\n"),
+        ([0, 1, 2, 3].as_slice(), end, "invalid end\n"),
+        ([0, 1, 2, 3].as_slice(), "end 4\n", "invalid end\n"),
+        ([0, 1, 2, 3, 4, 4].as_slice(), "end 6\n", "invalid entry 6\n"),
+        ([0, 1, 2, 3, 4].as_slice(), "end 5", "invalid end\n"),
+        ([0, 1, 2, 3, 4].as_slice(), "end 5\nend 5\n", "invalid end\n"),
+        ([0, 1, 2, 3, 4].as_slice(), "en", "invalid entry 5\n"),
+        ([0, 1].as_slice(), "shape ", "invalid entry 3\n"),
+    ] {
+        let text = catalogue(alloc, numbers, end)?;
+        let (status, held) = told(&rt, alloc, &text)?;
+        assert_eq!(rt; held.as_slice(), line.as_bytes(), "{text}");
+        assert_eq!(rt; status, Status::Invalid, "{text}");
+    }
+    Ok(())
+}
+
+/// One line of a valid text, and another in its place.
+#[test]
+fn an_altered_line_is_found(rt: HostRuntime) -> Result<(), Fail> {
+    let alloc = rt.alloc();
+    for (text, old, new, line) in [
+        (TRIANGLE, "heesch 1", "brief 1", "invalid header\n"),
+        (TRIANGLE, "iamond 1 turns", "iamond 16 turns", "invalid header\n"),
+        (TRIANGLE, "tile 3 0 0 class 1 by 1 0 -1\n", "", "invalid entry 1\n"),
+        (TRIANGLE, "by 1 0 -1", "by 3 0 0", "invalid entry 1\n"),
+        (TRIANGLE, "tile 0 0 0", "tile 0 0  0", "invalid entry 1\n"),
+        (TRIANGLE, "by 0 0 0", "by 0 0 -0", "invalid entry 1\n"),
+        (TRIANGLE, "domain 4 size", "domain 1 size", "invalid entry 1\n"),
+        (CORONA, " 1,0,1\n", "\n", "invalid entry 1\n"),
+        (HOLED, "empty 9", "empty 8", "invalid entry 1\n"),
+        (HOLED, "bare 1 same\n", "", "invalid entry 1\n"),
+        (HOLED, "nontiler 1", "nontiler 2", "invalid entry 1\n"),
+    ] {
+        let altered = text.replacen(alloc, old, new, 1)?;
+        let (status, held) = told(&rt, alloc, &altered)?;
+        assert_eq!(rt; held.as_slice(), line.as_bytes(), "{altered}");
+        assert_eq!(rt; status, Status::Invalid, "{altered}");
+    }
+    let (status, held) = told(&rt, alloc, "")?;
+    assert_eq!(rt; held.as_slice(), b"invalid header\n");
+    assert_eq!(rt; status, Status::Invalid);
+    Ok(())
+}
+
+#[test]
+fn a_source_that_fails_gets_no_answer(rt: HostRuntime) -> Result<(), Fail> {
+    let alloc = rt.alloc();
+    let bytes = TRIANGLE.as_bytes().to_vec(alloc)?;
+    let source = MemorySource::new(bytes, 8, [2].to_vec(alloc)?);
+    let (status, sink) = run_over(&rt, alloc, "check", source, room(alloc, 100)?)?;
+    assert_eq!(rt; status, Status::ReadFault);
+    assert_eq!(rt; sink.calls, 0);
+    Ok(())
+}
+
+/// The catalogue of the heptominoes with the smallest limits is checked, by several workers too.
+#[test]
+fn what_classify_wrote_is_valid(rt: HostRuntime) -> Result<(), Fail> {
+    let alloc = rt.alloc();
+    let words = "classify square 7 --domain 1 --levels 1 --turns 1";
+    let (status, written) = run_into(&rt, alloc, words, room(alloc, 400_000)?)?;
+    assert_eq!(rt; status, Status::Done);
+    let source = MemorySource::new(written.held, 4096, Vec::new(alloc));
+    let (status, sink) = run_over(&rt, alloc, "check --workers 2", source, room(alloc, 100)?)?;
+    assert_eq!(rt; sink.held.as_slice(), b"valid 108\n");
+    assert_eq!(rt; status, Status::Done);
+    Ok(())
+}

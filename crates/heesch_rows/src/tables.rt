@@ -1,0 +1,113 @@
+//! `heesch table` and `heesch sample`: tallies.
+ghost use Rattle.std.specs.Prelude.{◌≤◌};
+
+use crate::running::{bytes_of, room, run_into, run_over};
+use heesch_app::Status;
+use heesch_grid::Square;
+use heesch_grow::{Draws, grown};
+use heesch_io::{MemorySource, NoMemory};
+use heesch_text::write_shape;
+use std::alloc::Global;
+use std::test::Fail;
+use std::thread::Threads;
+
+/// What the words write over a source, or nothing where they don't end Done.
+fn tally<T: Threads + Sync>(
+    rt: &T,
+    alloc: Global,
+    line: &str,
+    source: MemorySource,
+) -> Result<Vec<u8>, NoMemory> {
+    let (status, sink) = run_over(rt, alloc, line, source, room(alloc, 1_000)?)?;
+    if status == Status::Done {
+        Ok(sink.held)
+    } else {
+        Ok(Vec::new(alloc))
+    }
+}
+
+const LIMITS: &str = "turns 20000 levels 3 domain 4 size 60000000";
+
+const UNDECIDED: &str =
+    "undecided levels 0\nundecided holes 0\nundecided turns 0\nundecided size 0\n";
+
+#[test]
+fn tallies_of_small_catalogues_are_those_worked_by_hand(rt: HostRuntime) -> Result<(), Fail> {
+    let alloc = rt.alloc();
+    let (status, brief) = run_into(&rt, alloc, "classify square 4 --brief", room(alloc, 1_000)?)?;
+    assert_eq!(rt; status, Status::Done);
+    let source = MemorySource::new(brief.held, 7, Vec::new(alloc));
+    let text = format!(in alloc; "shapes 5\nholed 0\ntranslation 5\nhalfturn 0\nperiodic 0\nisohedral 5\n{UNDECIDED}")?;
+    let held = tally(&rt, alloc, "table", source)?;
+    assert_eq!(rt; held.as_slice(), text.as_bytes());
+    let holed = format!(in alloc; "heesch 1 square given {LIMITS}\nshape 0,0 1,0 2,0 0,1 2,1 0,2 1,2\nverdict heesch 0 nontiler 1\ncoronas 0\nwall 1 refuted\nempty 9\nbare 1 same\nend 1\n")?;
+    let text = format!(in alloc; "shapes 1\nholed 1\ntranslation 0\nhalfturn 0\nperiodic 0\nisohedral 0\nheesch 0 1\n{UNDECIDED}")?;
+    let held = tally(&rt, alloc, "table", bytes_of(alloc, &holed)?)?;
+    assert_eq!(rt; held.as_slice(), text.as_bytes());
+    let held = tally(&rt, alloc, "sample square 2 4 0", bytes_of(alloc, "")?)?;
+    let text = format!(in alloc; "shapes 4\nholed 0\ntranslation 4\nhalfturn 0\nperiodic 0\nisohedral 4\n{UNDECIDED}")?;
+    assert_eq!(rt; held.as_slice(), text.as_bytes());
+    Ok(())
+}
+
+/// The first faulty entry decides; in one entry a line that can't stand comes before a shape's fault.
+#[test]
+fn the_first_faulty_entry_is_told(rt: HostRuntime) -> Result<(), Fail> {
+    let alloc = rt.alloc();
+    for (rest, line) in [
+        ("", "bad input 2 6\n"),
+        ("shape 0,0 2,0\nverdict heesch 0 nontiler 1\nend 1\n", "bad input 2 5\n"),
+        ("shape 0,0 2,0\nverdict heesch 0 nontiler 1\nverdict\n", "bad input 4 6\n"),
+        ("shape 0,0 0,0\nverdict heesch 0 nontiler 1\nshape x\n", "bad input 2 4\n"),
+        ("shape 0,0\nverdict heesch 0 nontiler 1\nend 2\n", "bad input 4 6\n"),
+        ("end 0", "bad input 2 6\n"),
+    ] {
+        let text = format!(in alloc; "brief 1 square given {LIMITS}\n{rest}")?;
+        let (status, sink) = run_over(
+            &rt,
+            alloc,
+            "table",
+            bytes_of(alloc, &text)?,
+            room(alloc, 100)?,
+        )?;
+        assert_eq!(rt; sink.held.as_slice(), line.as_bytes(), "{text}");
+        assert_eq!(rt; status, Status::BadInput, "{text}");
+    }
+    let (status, sink) = run_over(&rt, alloc, "table", bytes_of(alloc, "")?, room(alloc, 100)?)?;
+    assert_eq!(rt; sink.held.as_slice(), b"bad input 1 6\n");
+    assert_eq!(rt; status, Status::BadInput);
+    Ok(())
+}
+
+/// The list text of the shapes that `sample` grows from a seed.
+fn grown_list(alloc: Global, n: u32, count: u32, seed: u64) -> Result<Vec<u8>, NoMemory>
+    requires { (1 ≤ n) × (n ≤ 32) }
+{
+    let mut draws = Draws::new(seed);
+    let mut text = Vec::new(alloc);
+    for _made in 0..count {
+        write_shape(grown::<Square>(n, &mut draws).cells(), &mut text)?;
+    }
+    Ok(text)
+}
+
+/// A sample's tally is that of the catalogue of its shapes, for each number of workers.
+#[test]
+fn a_sample_is_the_tally_of_its_catalogue(rt: HostRuntime) -> Result<(), Fail> {
+    let alloc = rt.alloc();
+    let options = "--domain 2 --levels 1 --turns 200";
+    let words = format!(in alloc; "sample square 7 60 1 {options}")?;
+    let sampled = tally(&rt, alloc, &words, bytes_of(alloc, "")?)?;
+    let words = format!(in alloc; "sample square 7 60 1 {options} --workers 4")?;
+    let again = tally(&rt, alloc, &words, bytes_of(alloc, "")?)?;
+    assert_eq!(rt; again.as_slice(), sampled.as_slice());
+    let list = MemorySource::new(grown_list(alloc, 7, 60, 1)?, 4096, Vec::new(alloc));
+    let words = format!(in alloc; "classify square given {options}")?;
+    let (status, catalogue) = run_over(&rt, alloc, &words, list, room(alloc, 400_000)?)?;
+    assert_eq!(rt; status, Status::Done);
+    let source = MemorySource::new(catalogue.held, 4096, Vec::new(alloc));
+    let counted = tally(&rt, alloc, "table", source)?;
+    assert_eq!(rt; counted.as_slice(), sampled.as_slice());
+    assert!(rt; sampled.starts_with(b"shapes 60\n"));
+    Ok(())
+}

@@ -1,0 +1,270 @@
+-- What the reader's answers say of the whole input.
+use Rattle.std.proofs.Common.{◌≡◌, inl, inr, ℕ, ◌+◌, ◌<◌, ◌≤◌, ◌==◌, List, [], ◌∷◌, ◌++◌, length, take, Option, Some, None, Result, Ok, Err, refl, sym, ap, subst, ◌∙◌, append_assoc, arith}
+use Rattle.std.specs.Prelude.{if◌then◌else◌}
+use Rattle.std.specs.Io.KnownBytes.{Consumes, IsAtEnd}
+use Rattle.std.proofs.lemmas.Bool.{false≢true}
+use Rattle.std.proofs.lemmas.List.{append-nil, length-append, take-append-le}
+use Rattle.std.proofs.lemmas.List.Sums.{sum_by-append, count_by-le-length}
+use Rattle.heesch_reader.specs.declared.item.Item.{Item}
+use Rattle.heesch_reader.specs.declared.item.Part.{Part}
+use Rattle.heesch_reader.specs.declared.item.Stop.{Stop}
+use Rattle.heesch_reader.specs.declared.item.Stop.TheVariants as reader_stops
+use Rattle.heesch_reader.specs.declared.progress.Progress.TheVariants as stages
+use Rattle.heesch_reader.specs.Items.{Kept, none_appended}
+use Rattle.heesch_reader.specs.Feeding.{Takes, Finishes, FeedFrom, FeedResult, FinishFrom, FinishResult}
+use Rattle.heesch_reader.proofs.Following.{takes_room}
+use Rattle.heesch_stream.specs.declared.answers.Taken.{Taken}
+use Rattle.heesch_stream.specs.declared.answers.Taken.TheVariants as takens
+use Rattle.heesch_stream.specs.declared.answers.StreamStop.{StreamStop}
+use Rattle.heesch_stream.specs.declared.answers.StreamStop.TheVariants as stops
+use Rattle.heesch_stream.specs.Answers.{stop_of}
+use Rattle.heesch_stream.specs.Input.{IsAllOf, newlines}
+use Rattle.heesch_stream.specs.Taking.{Streamed, Begins, HasRead, TakesPiece, TakesEnd, TellsFault, TellsTooLong, TakeResult, FeedsPiece, FinishesAll}
+use Rattle.heesch_stream.proofs.Joining.{takes_on, refuses_on, falls_short_on, finishes_on}
+
+-- ---- known bytes
+
+-- known bytes lose what two reads give
+consumes_both : (old between new : Option (List ℕ)) (xs ys : List ℕ) → Consumes old between xs → Consumes between new ys → Consumes old new (xs ++ ys)
+consumes_both None between new xs ys first second = tt
+consumes_both (Some all) None new xs ys first second = absurd first
+consumes_both (Some all) (Some rest) None xs ys first second = absurd second
+consumes_both (Some all) (Some rest) (Some left) xs ys first second = first ∙ ap (λ r. xs ++ r) second ∙ sym (append_assoc xs ys left)
+
+consumes_none : (old : Option (List ℕ)) → Consumes old old []
+consumes_none None = tt
+consumes_none (Some all) = refl
+
+unread : Option (List ℕ) → List ℕ
+unread None = []
+unread (Some bytes) = bytes
+
+all_of_both : (first between now : Option (List ℕ)) (xs ys : List ℕ) → Consumes first between xs → Consumes between now ys → IsAllOf first ((xs ++ ys) ++ unread now)
+unfolding unread
+all_of_both None between now xs ys c d = tt
+all_of_both (Some all) None now xs ys c d = absurd c
+all_of_both (Some all) (Some rest) None xs ys c d = absurd d
+all_of_both (Some all) (Some rest) (Some left) xs ys c d = append_assoc xs ys left ∙ ap (λ (x : List ℕ). xs ++ x) (sym d) ∙ sym c
+
+all_at_end : (first now : Option (List ℕ)) (xs : List ℕ) → Consumes first now xs → IsAtEnd now → IsAllOf first (xs ++ [])
+all_at_end None now xs c e = tt
+all_at_end (Some all) None xs c e = absurd c
+all_at_end (Some all) (Some left) xs c e = ap (λ (x : List ℕ). xs ++ x) (sym e) ∙ sym c
+
+-- ---- the start
+
+pub begins_empty : Begins [] []
+begins_empty = record {
+  held = [];
+  left = [];
+  reached = stages.Start;
+  stands = record { text = refl; lead = record { forms = tt; reached = refl }; numbered = tt; one_entry = tt; items_lead = record { behind = stages.Start; walked = refl; alike = inl refl } };
+  one_line = tt;
+  prompt = λ w b. refl;
+  shown = λ some unended. absurd (omega arith);
+}
+
+pub nothing_read : (left : Option (List ℕ)) → HasRead left left [] (record { kept = record { refusal = None; appended = none_appended; rest = [] }; count = 0; line = 1 })
+unfolding begins_empty
+nothing_read left = record {
+  bytes = [];
+  consumed = consumes_none left;
+  begins = begins_empty;
+  kept_is = refl;
+  count_is = refl;
+  at_most = omega arith;
+  line_is = refl;
+}
+
+-- ---- a piece
+
+newlines_append : (xs ys : List ℕ) → newlines (xs ++ ys) ≡ newlines xs + newlines ys
+newlines_append xs ys = sum_by-append (λ (b : ℕ). if b == 10 then 1 else 0) xs ys
+
+pub newlines_within : (xs : List ℕ) → newlines xs ≤ length xs
+newlines_within xs = count_by-le-length (λ (b : ℕ). b == 10) xs
+
+none_again : (r : Option Stop) (old new : Kept) (items after : List Item) (bytes : List ℕ) (res : Result (Unit {0}) Stop) → r ≡ None → FeedFrom r old new items after bytes res → FeedFrom None old new items after bytes res
+none_again r old new items after bytes res e f = subst (λ (x : Option Stop). FeedFrom x old new items after bytes res) e f
+
+pub fed : (old new : Kept) (items after : List Item) (piece : List ℕ) (u : Unit {0}) → old.refusal ≡ None → FeedResult old new items after piece (Ok u) → Takes old new items after (old.rest ++ piece)
+fed old new items after piece u e f = none_again old.refusal old new items after (old.rest ++ piece) (Ok u) e f
+
+pub took_piece : (old new : Streamed) (items after : List Item) (piece : List ℕ) (before now : Option (List ℕ)) → (t : Takes old.kept new.kept items after (old.kept.rest ++ piece))
+    → new.count ≡ old.count + length piece → new.count ≤ 1099511627776 → new.line ≡ old.line + newlines piece → 0 < length piece → Consumes before now piece
+    → TakesPiece before now old new items after
+took_piece old new items after piece before now t count most line some c = record {
+  more = t.found;
+  after_is = t.after_is;
+  grows = omega (arith, count, some);
+  has_read = λ first found h.
+      let n = takes_on h.bytes piece found h.begins old.kept new.kept items after h.kept_is t in
+      record {
+        bytes = h.bytes ++ piece;
+        consumed = consumes_both first before now h.bytes piece h.consumed c;
+        begins = n.0;
+        kept_is = n.1;
+        count_is = omega (arith, count, h.count_is, length-append h.bytes piece);
+        at_most = omega (arith, count, most, h.count_is, length-append h.bytes piece);
+        line_is = omega (arith, line, h.line_is, newlines_append h.bytes piece);
+      };
+}
+
+pub refused_piece : (old : Streamed) (new : Kept) (items after : List Item) (piece : List ℕ) (line : ℕ) (part : Part) (before now : Option (List ℕ)) → old.kept.refusal ≡ None
+    → FeedResult old.kept new items after piece (Err (reader_stops.NotText line part)) → Consumes before now piece → TellsFault before old items after line part
+refused_piece old new items after piece line part before now e f c =
+    let t = (none_again old.kept.refusal old.kept new items after (old.kept.rest ++ piece) (Err (reader_stops.NotText line part)) e f).0 in
+    record {
+      more = t.found;
+      after_is = t.after_is;
+      fault = λ first found h.
+          record {
+            input = (h.bytes ++ piece) ++ unread now;
+            all_of = all_of_both first before now h.bytes piece h.consumed c;
+            fault = inl (refuses_on h.bytes piece (unread now) found h.begins old.kept items after line part h.kept_is t);
+          };
+    }
+
+-- ---- the end
+
+finish_again : (r : Option Stop) (old new : Kept) (items after : List Item) (bytes : List ℕ) (res : Result (Unit {0}) Stop) → r ≡ None → FinishFrom r old new items after bytes res → FinishFrom None old new items after bytes res
+finish_again r old new items after bytes res e f = subst (λ (x : Option Stop). FinishFrom x old new items after bytes res) e f
+
+pub took_end : (old : Streamed) (new : Kept) (items after : List Item) (u : Unit {0}) (before : Option (List ℕ)) → old.kept.refusal ≡ None → FinishResult old.kept new items after (Ok u) → IsAtEnd before → TakesEnd before old items after
+took_end old new items after u before e f end =
+    let t = finish_again old.kept.refusal old.kept new items after old.kept.rest (Ok u) e f in
+    record {
+      more = t.found;
+      after_is = t.after_is;
+      catalogue = λ first found h.
+          record {
+            input = h.bytes ++ [];
+            all_of = all_at_end first before h.bytes h.consumed end;
+            catalogue = finishes_on h.bytes found h.begins old.kept new items after h.kept_is t;
+          };
+    }
+
+pub fell_short : (old : Streamed) (new : Kept) (items after : List Item) (line : ℕ) (part : Part) (before : Option (List ℕ)) → old.kept.refusal ≡ None
+    → FinishResult old.kept new items after (Err (reader_stops.NotText line part)) → IsAtEnd before → TellsFault before old items after line part
+fell_short old new items after line part before e f end =
+    let t = (finish_again old.kept.refusal old.kept new items after old.kept.rest (Err (reader_stops.NotText line part)) e f).0 in
+    record {
+      more = t.found;
+      after_is = t.after_is;
+      fault = λ first found h.
+          record {
+            input = h.bytes ++ [];
+            all_of = all_at_end first before h.bytes h.consumed end;
+            fault = inr (falls_short_on h.bytes found h.begins old.kept items after line part h.kept_is t);
+          };
+    }
+
+-- ---- the answers
+
+-- a stream that was refused said nothing of what was read
+pub refused_again : (before now : Option (List ℕ)) (failed fails : ℕ) (old new : Streamed) (items : List Item) (stop : Stop) → old.kept.refusal ≡ Some stop → TakeResult before now failed fails old new items items (Err (stop_of stop))
+refused_again before now failed fails old new items (reader_stops.NotText line part) e = record {
+  more = [];
+  after_is = sym (append-nil items);
+  fault = λ first found h. let bad : Some (reader_stops.NotText line part) ≡ None = sym e ∙ ap (λ (k : Kept). k.refusal) h.kept_is in absurd cc;
+}
+refused_again before now failed fails old new items reader_stops.NoMemory e = tt
+
+at_end_before : (before now : Option (List ℕ)) → Consumes before now [] → IsAtEnd now → IsAtEnd before
+at_end_before None now c e = tt
+at_end_before (Some xs) None c e = absurd c
+at_end_before (Some xs) (Some ys) c e = c ∙ e
+
+-- no byte was read
+pub finish_takes : (before now : Option (List ℕ)) (failed fails : ℕ) (old new : Streamed) (items after : List Item) (result : Result Taken StreamStop) → FinishesAll old items after result → Consumes before now [] → IsAtEnd now
+    → TakeResult before now failed fails old new items after result
+finish_takes before now failed fails old new items after (Ok takens.Piece) f c e = absurd f
+finish_takes before now failed fails old new items after (Ok takens.End) f c e = f before (at_end_before before now c e)
+finish_takes before now failed fails old new items after (Err (stops.NotText line part)) f c e = f before (at_end_before before now c e)
+finish_takes before now failed fails old new items after (Err (stops.TooLong line)) f c e = absurd f
+finish_takes before now failed fails old new items after (Err stops.Failed) f c e = absurd f
+finish_takes before now failed fails old new items after (Err stops.NoMemory) f c e = tt
+
+-- a piece was refused
+pub feed_stops : (before now : Option (List ℕ)) (failed fails : ℕ) (old new : Streamed) (items after : List Item) (piece : List ℕ) (stop : StreamStop) → FeedsPiece old new items after piece (Err stop) → Consumes before now piece
+    → TakeResult before now failed fails old new items after (Err stop)
+feed_stops before now failed fails old new items after piece (stops.NotText line part) f c = f before now c
+feed_stops before now failed fails old new items after piece (stops.TooLong line) f c = absurd f
+feed_stops before now failed fails old new items after piece stops.Failed f c = absurd f
+feed_stops before now failed fails old new items after piece stops.NoMemory f c = tt
+
+-- the reader's refusal of a piece, as the stream tells it
+pub feed_refuses : (old new : Streamed) (items after : List Item) (piece : List ℕ) (stop : Stop) → old.kept.refusal ≡ None → FeedResult old.kept new.kept items after piece (Err stop) → FeedsPiece old new items after piece (Err (stop_of stop))
+feed_refuses old new items after piece (reader_stops.NotText line part) e f = λ before now c. refused_piece old new.kept items after piece line part before now e f c
+feed_refuses old new items after piece reader_stops.NoMemory e f = tt
+
+-- and of the end
+pub finish_refuses : (old : Streamed) (new : Kept) (items after : List Item) (stop : Stop) → old.kept.refusal ≡ None → FinishResult old.kept new items after (Err stop) → FinishesAll old items after (Err (stop_of stop))
+finish_refuses old new items after (reader_stops.NotText line part) e f = λ before end. fell_short old new items after line part before e f end
+finish_refuses old new items after reader_stops.NoMemory e f = tt
+
+-- one byte more than may be read
+pub too_long : (before now : Option (List ℕ)) (old : Streamed) (items : List Item) (byte : ℕ) → Consumes before now (byte ∷ []) → old.count ≡ 1099511627776 → TellsTooLong before old items items old.line
+too_long before now old items byte c count = record {
+  after_is = refl;
+  too_many = λ first found h.
+      record {
+        input = (h.bytes ++ byte ∷ []) ++ unread now;
+        all_of = all_of_both first before now h.bytes (byte ∷ []) h.consumed c;
+        front = h.bytes;
+        byte = byte;
+        behind = unread now;
+        split = append_assoc h.bytes (byte ∷ []) (unread now);
+        most = sym h.count_is ∙ count;
+        begins = h.begins;
+        line_is = h.line_is;
+      };
+}
+
+-- ---- the room that a reader has
+
+-- after a piece the reader keeps no more lines and bytes than were read
+pub fed_room : (old new : Kept) (items after : List Item) (piece : List ℕ) (u : Unit {0}) (count : ℕ) → old.refusal ≡ None → FeedResult old new items after piece (Ok u) → old.appended.lines + length old.rest ≤ count
+    → (new.refusal ≡ None) × (new.appended.lines + length new.rest ≤ count + length piece)
+fed_room old new items after piece u count e f room =
+    let t = fed old new items after piece u e f in
+    (ap (λ (k : Kept). k.refusal) t.new_is, omega (arith, room, takes_room old new items after (old.rest ++ piece) t, length-append old.rest piece))
+
+finish_taken : (old new : Kept) (items after : List Item) → (t : Finishes old new items after old.rest) → Takes old new items after old.rest
+finish_taken old new items after t = record {
+  found = t.found;
+  held = [];
+  left = [];
+  reached = t.reached;
+  stands = t.stands;
+  one_line = tt;
+  prompt = λ w b. refl;
+  after_is = t.after_is;
+  new_is = t.new_is;
+  shown = λ some unended. absurd (false≢true (sym unended ∙ t.ended));
+}
+
+pub finished_room : (old new : Kept) (items after : List Item) (u : Unit {0}) (count : ℕ) → old.refusal ≡ None → FinishResult old new items after (Ok u) → old.appended.lines + length old.rest ≤ count
+    → (new.refusal ≡ None) × (new.appended.lines + length new.rest ≤ count)
+finished_room old new items after u count e f room =
+    let t = finish_again old.refusal old new items after old.rest (Ok u) e f in
+    (ap (λ (k : Kept). k.refusal) t.new_is, omega (arith, room, takes_room old new items after old.rest (finish_taken old new items after t)))
+
+-- a refusal is kept
+pub fed_refusal : (old new : Kept) (items after : List Item) (piece : List ℕ) (stop : Stop) → old.refusal ≡ None → FeedResult old new items after piece (Err stop) → new.refusal ≡ Some stop
+fed_refusal old new items after piece (reader_stops.NotText line part) e f = (none_again old.refusal old new items after (old.rest ++ piece) (Err (reader_stops.NotText line part)) e f).1
+fed_refusal old new items after piece reader_stops.NoMemory e f = none_again old.refusal old new items after (old.rest ++ piece) (Err reader_stops.NoMemory) e f
+
+pub finished_refusal : (old new : Kept) (items after : List Item) (stop : Stop) → old.refusal ≡ None → FinishResult old new items after (Err stop) → new.refusal ≡ Some stop
+finished_refusal old new items after (reader_stops.NotText line part) e f = (finish_again old.refusal old new items after old.rest (Err (reader_stops.NotText line part)) e f).1
+finished_refusal old new items after reader_stops.NoMemory e f = finish_again old.refusal old new items after old.rest (Err reader_stops.NoMemory) e f
+
+-- one byte was read into room for one
+pub one_byte : (before now : Option (List ℕ)) (count : ℕ) (room : List ℕ) → length room ≡ 1 → count ≤ 1 → 0 < count → Consumes before now (take count room) → (byte : ℕ) × Consumes before now (byte ∷ [])
+one_byte before now count [] long most some c = absurd (omega arith)
+one_byte before now count (byte ∷ x ∷ room) long most some c = absurd (omega arith)
+one_byte before now count (byte ∷ []) long most some c = let n : count ≡ 1 = omega arith in (byte, subst (λ (k : ℕ). Consumes before now (take k (byte ∷ []))) n c)
+
+-- what was read stands first in the room
+pub front_read : (before now : Option (List ℕ)) (count : ℕ) (room rest : List ℕ) → count ≤ length room → Consumes before now (take count room) → Consumes before now (take count (room ++ rest))
+front_read before now count room rest le c = subst (λ (bytes : List ℕ). Consumes before now bytes) (sym (take-append-le count room rest le)) c

@@ -1,0 +1,227 @@
+-- What is answered of the whole input.
+use Rattle.std.proofs.Common.{◌≡◌, ◌⊎◌, inl, inr, ℕ, ◌<◌, List, [], ◌∷◌, ◌++◌, Bool, Option, Some, None, Result, Ok, Err, refl, sym, ap, subst, ◌∙◌, append_assoc}
+use Rattle.std.specs.Io.KnownBytes.{Consumes}
+use Rattle.std.proofs.lemmas.List.{append-nil}
+use Rattle.heesch_grid.specs.declared.Cell.{Cell}
+use Rattle.heesch_grid.specs.Names.{geometry_of}
+use Rattle.heesch_cert.specs.declared.verdict.Verdict.{Verdict}
+use Rattle.heesch_text.specs.declared.line.Line.{Line}
+use Rattle.heesch_shape.specs.Faults.{IsFaultless}
+use Rattle.heesch_reader.specs.declared.item.Item.{Item}
+use Rattle.heesch_reader.specs.declared.progress.Progress.{Progress}
+use Rattle.heesch_reader.specs.declared.progress.Progress.TheVariants as stages
+use Rattle.heesch_reader.specs.Progress.{Lead}
+use Rattle.heesch_reader.specs.Items.{lines_of}
+use Rattle.heesch_stream.specs.declared.answers.Taken.{Taken}
+use Rattle.heesch_stream.specs.declared.answers.Taken.TheVariants as takens
+use Rattle.heesch_stream.specs.declared.answers.StreamStop.{StreamStop}
+use Rattle.heesch_stream.specs.declared.answers.StreamStop.TheVariants as stream_stops
+use Rattle.heesch_stream.specs.Input.{IsAllOf}
+use Rattle.heesch_stream.specs.Taking.{Streamed, HasRead, HasFault, HasTooMany, TakeResult}
+use Rattle.heesch_table.specs.Counts.{counts_of}
+use Rattle.heesch_table.specs.Texts.{tally_text}
+use Rattle.heesch_tabulate.specs.declared.answers.EntryFault.{EntryFault}
+use Rattle.heesch_tabulate.specs.declared.answers.Onward.{Onward}
+use Rattle.heesch_tabulate.specs.declared.answers.Onward.TheVariants as onwards
+use Rattle.heesch_tabulate.specs.declared.table.Table.{Table}
+use Rattle.heesch_tabulate.specs.Entries.{entries_of, IsOfGrid, AreShapes}
+use Rattle.heesch_tabulate.specs.Steps.{IsOnward, HasTable, AreReady, CountsItems, StopsAtFault}
+use Rattle.heesch_tabulate.specs.Tabulating.{IsTallied, AreWholeIn, HasShapeFault, HasTextFault, HasLengthFault}
+use Rattle.heesch_tabulate.proofs.Standing.{all_both, entries_append, ready}
+
+-- what was read so far was counted
+pub record Going (first now : Option (List ℕ)) (s : Streamed) (t : Table) : Type 0 where
+  pub found : List Item
+  pub has_read : HasRead first now found s
+  pub table : HasTable found t
+
+ready_of : (found more items : List Item) (held : List Line) → items ≡ more → (q : Progress) → Lead stages.Start (lines_of (found ++ more) ++ held) q → AreReady found items
+ready_of found more items held e q l = subst (λ (x : List Item). AreReady found x) (sym e) (ready found more held q l)
+
+-- a step makes items that may be counted
+step_ready : (first before now : Option (List ℕ)) (failed fails : ℕ) (old new : Streamed) (items found : List Item) (taken : Result Taken StreamStop) (onward : Onward) → HasRead first before found old
+    → TakeResult before now failed fails old new [] items taken → IsOnward taken (Ok onward) → AreReady found items
+step_ready first before now failed fails old new items found (Ok takens.Piece) onward h t o =
+    let n = t.has_read first found h in
+    ready_of found t.more items n.begins.held t.after_is n.begins.reached n.begins.stands.lead
+step_ready first before now failed fails old new items found (Ok takens.End) onward h t o =
+    let n = t.catalogue first found h in
+    ready_of found t.more items [] t.after_is n.catalogue.reached (subst (λ (x : List Line). Lead stages.Start x n.catalogue.reached) (sym (append-nil (lines_of (found ++ t.more)))) n.catalogue.lead)
+step_ready first before now failed fails old new items found (Err (stream_stops.NotText line part)) onward h t o =
+    let n = t.fault first found h in
+    elim n.fault [
+      | inl r ↦ ready_of found t.more items r.held t.after_is r.reached (subst (λ (x : List Item). Lead stages.Start (lines_of x ++ r.held) r.reached) (sym r.after_is) r.stands.lead)
+      | inr r ↦ ready_of found t.more items r.held t.after_is r.reached (subst (λ (x : List Item). Lead stages.Start (lines_of x ++ r.held) r.reached) (sym r.after_is) r.stands.lead)
+    ]
+step_ready first before now failed fails old new items found (Err (stream_stops.TooLong line)) onward h t o =
+    ready_of found [] items h.begins.held t.after_is h.begins.reached (subst (λ (x : List Item). Lead stages.Start (lines_of x ++ h.begins.held) h.begins.reached) (sym (append-nil found)) h.begins.stands.lead)
+step_ready first before now failed fails old new items found (Err stream_stops.Failed) onward h t o = absurd cc
+step_ready first before now failed fails old new items found (Err stream_stops.NoMemory) onward h t o = absurd cc
+
+-- ---- the items of a step are whole in the input
+
+record WholeInput (first : Option (List ℕ)) (all : List Item) : Type 0 where
+  input : List ℕ
+  all_of : IsAllOf first input
+  whole : AreWholeIn input all
+
+unread : Option (List ℕ) → List ℕ
+unread None = []
+unread (Some bytes) = bytes
+
+all_of_rest : (first now : Option (List ℕ)) (xs : List ℕ) → Consumes first now xs → IsAllOf first (xs ++ unread now)
+unfolding unread
+all_of_rest None now xs c = tt
+all_of_rest (Some all) None xs c = absurd c
+all_of_rest (Some all) (Some left) xs c = sym c
+
+with_items_are : (first : Option (List ℕ)) (found more items : List Item) → items ≡ more → WholeInput first (found ++ more) → WholeInput first (found ++ items)
+with_items_are first found more items e w = subst (λ (x : List Item). WholeInput first (found ++ x)) (sym e) w
+
+step_whole : (first before now : Option (List ℕ)) (failed fails : ℕ) (old new : Streamed) (items found : List Item) (taken : Result Taken StreamStop) (onward : Onward) → HasRead first before found old
+    → TakeResult before now failed fails old new [] items taken → IsOnward taken (Ok onward) → WholeInput first (found ++ items)
+step_whole first before now failed fails old new items found (Ok takens.Piece) onward h t o =
+    let n = t.has_read first found h in
+    with_items_are first found t.more items t.after_is (record { input = n.bytes ++ unread now; all_of = all_of_rest first now n.bytes n.consumed; whole = inl (record { bytes = n.bytes; behind = unread now; split = refl; begins = n.begins }) })
+step_whole first before now failed fails old new items found (Ok takens.End) onward h t o =
+    let n = t.catalogue first found h in
+    with_items_are first found t.more items t.after_is (record { input = n.input; all_of = n.all_of; whole = inr (inr n.catalogue) })
+step_whole first before now failed fails old new items found (Err (stream_stops.NotText line part)) onward h t o =
+    let n = t.fault first found h in
+    with_items_are first found t.more items t.after_is (record { input = n.input; all_of = n.all_of; whole = inr (inl (record { line = line; part = part; fault = n.fault })) })
+step_whole first before now failed fails old new items found (Err (stream_stops.TooLong line)) onward h t o =
+    let n = t.too_many first found h in
+    with_items_are first found [] items t.after_is
+    (subst (λ (x : List Item). WholeInput first x) (sym (append-nil found)) (record { input = n.input; all_of = n.all_of; whole = inl (record { bytes = n.front; behind = n.byte ∷ n.behind; split = n.split; begins = n.begins }) }))
+step_whole first before now failed fails old new items found (Err stream_stops.Failed) onward h t o = absurd cc
+step_whole first before now failed fails old new items found (Err stream_stops.NoMemory) onward h t o = absurd cc
+
+-- ---- the answers
+
+-- the first faulty shape
+shape_fault : (first before now : Option (List ℕ)) (failed fails : ℕ) (old new : Streamed) (items found : List Item) (taken : Result Taken StreamStop) (onward : Onward) (line number : ℕ) → HasRead first before found old
+    → TakeResult before now failed fails old new [] items taken → IsOnward taken (Ok onward) → StopsAtFault found items line number → HasShapeFault first line number
+shape_fault first before now failed fails old new items found taken onward line number h t o s =
+    let w = step_whole first before now failed fails old new items found taken onward h t o in
+    let f = s.first in
+    let same : found ++ items ≡ (found ++ f.before) ++ f.item ∷ f.behind = ap (λ (x : List Item). found ++ x) f.split ∙ sym (append_assoc found f.before (f.item ∷ f.behind)) in
+    let g = geometry_of s.grid in
+    record {
+      input = w.input;
+      all_of = w.all_of;
+      before = found ++ f.before;
+      item = f.item;
+      behind = f.behind;
+      whole = subst (λ (x : List Item). AreWholeIn w.input x) same w.whole;
+      grid = s.grid;
+      of_grid = subst (λ (x : List Item). IsOfGrid s.grid x) same s.of_grid;
+      shapes = subst (λ (x : List (List Cell × Verdict)). AreShapes g x) (sym (entries_append found f.before)) (all_both (λ (e : List Cell × Verdict). IsFaultless g e.0) (entries_of found) (entries_of f.before) s.shapes f.shapes);
+      cells = f.cells;
+      entry = f.entry;
+      fault = f.fault;
+      is_fault = f.is_fault;
+      number_is = f.number_is;
+    }
+
+-- more was read
+goes_on : (first before now : Option (List ℕ)) (failed fails : ℕ) (old new : Streamed) (items found : List Item) (taken : Result Taken StreamStop) (table : Table) → HasRead first before found old
+    → TakeResult before now failed fails old new [] items taken → IsOnward taken (Ok onwards.More) → HasTable (found ++ items) table → Going first now new table
+goes_on first before now failed fails old new items found (Ok takens.Piece) table h t o k =
+    record { found = found ++ t.more; has_read = t.has_read first found h; table = subst (λ (x : List Item). HasTable (found ++ x) table) t.after_is k }
+goes_on first before now failed fails old new items found (Ok takens.End) table h t o k = absurd cc
+goes_on first before now failed fails old new items found (Err (stream_stops.NotText line part)) table h t o k = absurd cc
+goes_on first before now failed fails old new items found (Err (stream_stops.TooLong line)) table h t o k = absurd cc
+goes_on first before now failed fails old new items found (Err stream_stops.Failed) table h t o k = absurd cc
+goes_on first before now failed fails old new items found (Err stream_stops.NoMemory) table h t o k = absurd cc
+
+-- and there is less left to read
+grows : (before now : Option (List ℕ)) (failed fails : ℕ) (old new : Streamed) (items : List Item) (taken : Result Taken StreamStop) → TakeResult before now failed fails old new [] items taken → IsOnward taken (Ok onwards.More) → old.count < new.count
+grows before now failed fails old new items (Ok takens.Piece) t o = t.grows
+grows before now failed fails old new items (Ok takens.End) t o = absurd cc
+grows before now failed fails old new items (Err (stream_stops.NotText line part)) t o = absurd cc
+grows before now failed fails old new items (Err (stream_stops.TooLong line)) t o = absurd cc
+grows before now failed fails old new items (Err stream_stops.Failed) t o = absurd cc
+grows before now failed fails old new items (Err stream_stops.NoMemory) t o = absurd cc
+
+-- the input ended
+tallied : (first before now : Option (List ℕ)) (failed fails : ℕ) (old new : Streamed) (items found : List Item) (taken : Result Taken StreamStop) (table : Table) (text : List ℕ) → HasRead first before found old
+    → TakeResult before now failed fails old new [] items taken → IsOnward taken (Ok onwards.End) → HasTable (found ++ items) table
+    → ((counted : List (Bool × Verdict)) → table.tally ≡ counts_of counted → text ≡ tally_text counted) → IsTallied first text
+tallied first before now failed fails old new items found (Ok takens.Piece) table text h t o k w = absurd cc
+tallied first before now failed fails old new items found (Ok takens.End) table text h t o k w =
+    let n = t.catalogue first found h in
+    let m : HasTable (found ++ t.more) table = subst (λ (x : List Item). HasTable (found ++ x) table) t.after_is k in
+    record {
+      input = n.input;
+      all_of = n.all_of;
+      all = found ++ t.more;
+      catalogue = n.catalogue;
+      grid = m.grid;
+      of_grid = m.of_grid;
+      shapes = m.shapes;
+      counted = m.counted;
+      counts = m.counts;
+      text_is = w m.counted m.tally_is;
+    }
+tallied first before now failed fails old new items found (Err (stream_stops.NotText line part)) table text h t o k w = absurd cc
+tallied first before now failed fails old new items found (Err (stream_stops.TooLong line)) table text h t o k w = absurd cc
+tallied first before now failed fails old new items found (Err stream_stops.Failed) table text h t o k w = absurd cc
+tallied first before now failed fails old new items found (Err stream_stops.NoMemory) table text h t o k w = absurd cc
+
+-- the input has a fault of its lines or its length
+input_fault : (first before now : Option (List ℕ)) (failed fails : ℕ) (old new : Streamed) (items found : List Item) (taken : Result Taken StreamStop) (table : Table) (line number : ℕ) → HasRead first before found old
+    → TakeResult before now failed fails old new [] items taken → IsOnward taken (Ok (onwards.Fault line number)) → HasTable (found ++ items) table → HasTextFault first line number ⊎ HasLengthFault first line number
+input_fault first before now failed fails old new items found (Ok takens.Piece) table line number h t o k = absurd cc
+input_fault first before now failed fails old new items found (Ok takens.End) table line number h t o k = absurd cc
+input_fault first before now failed fails old new items found (Err (stream_stops.NotText at part)) table line number h t o k =
+    let same_line : line ≡ at = cc in
+    let same_number : number ≡ 6 = cc in
+    let m : HasTable (found ++ t.more) table = subst (λ (x : List Item). HasTable (found ++ x) table) t.after_is k in
+    let n = t.fault first found h in
+    inl (record { all = found ++ t.more; part = part; fault = subst (λ (x : ℕ). HasFault first (found ++ t.more) x part) (sym same_line) n; grid = m.grid; of_grid = m.of_grid; shapes = m.shapes; number_is = same_number })
+input_fault first before now failed fails old new items found (Err (stream_stops.TooLong at)) table line number h t o k =
+    let same_line : line ≡ at = cc in
+    let same_number : number ≡ 8 = cc in
+    let m : HasTable found table = subst (λ (x : List Item). HasTable x table) (append-nil found) (subst (λ (x : List Item). HasTable (found ++ x) table) t.after_is k) in
+    let n = t.too_many first found h in
+    inr (record { all = found; too_many = subst (λ (x : ℕ). HasTooMany first found x) (sym same_line) n; grid = m.grid; of_grid = m.of_grid; shapes = m.shapes; number_is = same_number })
+input_fault first before now failed fails old new items found (Err stream_stops.Failed) table line number h t o k = absurd cc
+input_fault first before now failed fails old new items found (Err stream_stops.NoMemory) table line number h t o k = absurd cc
+
+-- ---- one step
+
+-- a step of the stream behind what was counted
+pub record Stepped (first now : Option (List ℕ)) (new : Streamed) (items : List Item) (onward : Onward) (table : Table) : Type 0 where
+  pub before : Option (List ℕ)
+  pub failed : ℕ
+  pub fails : ℕ
+  pub old : Streamed
+  pub taken : Result Taken StreamStop
+  pub going : Going first before old table
+  pub result : TakeResult before now failed fails old new [] items taken
+  pub onward_is : IsOnward taken (Ok onward)
+
+pub items_ready : {first now : Option (List ℕ)} {new : Streamed} {items : List Item} {onward : Onward} {table : Table} (s : Stepped first now new items onward table) → AreReady s.going.found items
+items_ready {first} {now} {new} {items} {onward} s = step_ready first s.before now s.failed s.fails s.old new items s.going.found s.taken onward s.going.has_read s.result s.onward_is
+
+-- an entry of this step has the first fault
+pub fault_told : {first now : Option (List ℕ)} {new : Streamed} {items : List Item} {onward : Onward} {table : Table} (s : Stepped first now new items onward table) (after : Table) (told : EntryFault) → CountsItems table after items (Some told) → HasShapeFault first told.line told.number
+fault_told {first} {now} {new} {items} {onward} s after told k =
+    shape_fault first s.before now s.failed s.fails s.old new items s.going.found s.taken onward told.line told.number s.going.has_read s.result s.onward_is (k s.going.found s.going.table (items_ready s))
+
+-- all items of this step were counted, and more is read
+pub more_counted : {first now : Option (List ℕ)} {new : Streamed} {items : List Item} {onward : Onward} {table : Table} (s : Stepped first now new items onward table) (after : Table) → onward ≡ onwards.More → CountsItems table after items None → Going first now new after
+more_counted {first} {now} {new} {items} s after more k =
+    goes_on first s.before now s.failed s.fails s.old new items s.going.found s.taken after s.going.has_read s.result (subst (λ (o : Onward). IsOnward s.taken (Ok o)) more s.onward_is) (k s.going.found s.going.table (items_ready s))
+
+-- the end was read, and the text is that of the tally
+pub all_counted : {first now : Option (List ℕ)} {new : Streamed} {items : List Item} {onward : Onward} {table : Table} (s : Stepped first now new items onward table) (after : Table) (text : List ℕ) → onward ≡ onwards.End → CountsItems table after items None
+    → ((counted : List (Bool × Verdict)) → after.tally ≡ counts_of counted → text ≡ tally_text counted) → IsTallied first text
+all_counted {first} {now} {new} {items} s after text end k w =
+    tallied first s.before now s.failed s.fails s.old new items s.going.found s.taken after text s.going.has_read s.result (subst (λ (o : Onward). IsOnward s.taken (Ok o)) end s.onward_is) (k s.going.found s.going.table (items_ready s)) w
+
+-- the input has a fault behind the items of this step
+pub input_told : {first now : Option (List ℕ)} {new : Streamed} {items : List Item} {onward : Onward} {table : Table} (s : Stepped first now new items onward table) (after : Table) (line number : ℕ) → onward ≡ onwards.Fault line number → CountsItems table after items None
+    → HasTextFault first line number ⊎ HasLengthFault first line number
+input_told {first} {now} {new} {items} s after line number fault k =
+    input_fault first s.before now s.failed s.fails s.old new items s.going.found s.taken after line number s.going.has_read s.result (subst (λ (o : Onward). IsOnward s.taken (Ok o)) fault s.onward_is) (k s.going.found s.going.table (items_ready s))

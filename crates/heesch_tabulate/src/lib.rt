@@ -1,0 +1,12 @@
+//! The tally of a catalogue that is read from a source.
+#![tactic(auto)]
+
+mod answers;
+mod counting;
+mod table;
+mod tabulation;
+#[cfg(test)]
+mod tests;
+
+pub use answers::{TableStop, Tabulated};
+pub use tabulation::tabulate;

@@ -1,0 +1,39 @@
+//! The tally of a catalogue.
+ghost use Rattle.std.specs.Prelude.{◌≡◌, ◌≤◌, Err, IfOk};
+ghost use Rattle.heesch_io.specs.Causes.{Rose};
+ghost use Rattle.heesch_tabulate.specs.Tabulating.{IsTabulated};
+
+use crate::answers::{EntryFault, Onward, TableStop, Tabulated};
+use crate::table::Table;
+use heesch_io::{Seq, Source};
+use heesch_stream::Stream;
+use std::alloc::Global;
+
+/// Reads a catalogue, full or brief, to its end: the text of the tally of its entries, or the first fault.
+///
+/// An entry is judged once it is whole, so a line that can't stand in it is told before its shape's fault. Errors: `Failed`
+/// only where the source's count of faults rose. The cost is linear in the input, and for each entry that of
+/// `Tally::add_shape`. It keeps the entries of one piece of 4,096 bytes.
+pub fn tabulate<R: Source>(alloc: Global, source: &mut R) -> Result<Tabulated, TableStop>
+    ensures ok { IfOk result (IsTabulated (R.left source.old)) }
+    ensures failed { result ≡ Err TableStop.Failed → Rose (R.faults source.old) (R.faults source.new) }
+    ensures later { R.faults source.old ≤ R.faults source.new }
+{
+    let mut stream = Stream::new(alloc);
+    let mut table = Table::new(alloc);
+    loop {
+        let mut items = Seq::new(alloc);
+        let onward = Onward::by(stream.take(source, &mut items))?;
+        if let Some(EntryFault { line, number }) = table.count(alloc, items.as_slice())? {
+            return Ok(Tabulated::Fault { line, number });
+        }
+        match onward {
+            Onward::More => {}
+            Onward::End => {
+                let text = table.text(alloc)?;
+                return Ok(Tabulated::Tally { text });
+            }
+            Onward::Fault { line, number } => return Ok(Tabulated::Fault { line, number }),
+        }
+    }
+}

@@ -1,0 +1,6 @@
+mod Lists
+mod Proven
+mod Covers
+mod Searches
+mod Written
+pub mod EntryLines
