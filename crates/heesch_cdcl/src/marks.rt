@@ -26,7 +26,7 @@ pub struct Marks {
 const DEPTH: u32 = 500;
 
 /// Whether the variable was assigned at the level.
-pub fn is_at(trail: &Trail, level: u32, var: u32) -> bool
+fn is_at(trail: &Trail, level: u32, var: u32) -> bool
     requires { var ≤ trail.now.vars }
     ensures { IsTrue result ↔ (level_in trail.now.steps var ≡ Some level) }
 {

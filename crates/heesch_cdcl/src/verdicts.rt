@@ -2,7 +2,6 @@ ghost use Rattle.std.specs.Prelude.{◌≡◌, ◌+◌, ◌≤◌, IfOk, IfSome,
 ghost use Rattle.heesch_cnf.specs.Clauses.{IsClause};
 ghost use Rattle.heesch_cdcl.specs.Searching.{IsSearching};
 
-use crate::marks::is_at;
 use heesch_cnf::{Formula, Line, Lit, clause_numbered};
 use heesch_io::NoMemory;
 use heesch_trail::Trail;
@@ -89,7 +88,7 @@ impl Verdicts {
         };
         for lit in reason {
             let other = lit.var;
-            let given = other == var || seen[other as usize] || is_at(trail, 0, other);
+            let given = other == var || seen[other as usize] || trail.level_of(other) == Some(0);
             if !given && !self.follows(formula, lines, trail, seen, other, depth - 1)? {
                 return self.judge(var, false);
             }

@@ -57,8 +57,18 @@ fn catalogue(alloc: Global, numbers: &[usize], end: &str) -> Result<String, NoMe
 }
 
 /// How `check` of a text ended, and what it wrote.
-fn told<T: Threads + Sync>(rt: &T, alloc: Global, text: &str) -> Result<(Status, Vec<u8>), NoMemory> {
-    let (status, sink) = run_over(rt, alloc, "check", bytes_of(alloc, text)?, room(alloc, 100)?)?;
+fn told<T: Threads + Sync>(
+    rt: &T,
+    alloc: Global,
+    text: &str,
+) -> Result<(Status, Vec<u8>), NoMemory> {
+    let (status, sink) = run_over(
+        rt,
+        alloc,
+        "check",
+        bytes_of(alloc, text)?,
+        room(alloc, 100)?,
+    )?;
     Ok((status, sink.held))
 }
 
@@ -88,9 +98,17 @@ fn the_first_invalid_part_is_told(rt: HostRuntime) -> Result<(), Fail> {
         ([1, 0, 2, 3, 4].as_slice(), end, "invalid entry 1\n"),
         ([0, 1, 2, 3].as_slice(), end, "invalid end\n"),
         ([0, 1, 2, 3].as_slice(), "end 4\n", "invalid end\n"),
-        ([0, 1, 2, 3, 4, 4].as_slice(), "end 6\n", "invalid entry 6\n"),
+        (
+            [0, 1, 2, 3, 4, 4].as_slice(),
+            "end 6\n",
+            "invalid entry 6\n",
+        ),
         ([0, 1, 2, 3, 4].as_slice(), "end 5", "invalid end\n"),
-        ([0, 1, 2, 3, 4].as_slice(), "end 5\nend 5\n", "invalid end\n"),
+        (
+            [0, 1, 2, 3, 4].as_slice(),
+            "end 5\nend 5\n",
+            "invalid end\n",
+        ),
         ([0, 1, 2, 3, 4].as_slice(), "en", "invalid entry 5\n"),
         ([0, 1].as_slice(), "shape ", "invalid entry 3\n"),
     ] {
@@ -108,12 +126,27 @@ fn an_altered_line_is_found(rt: HostRuntime) -> Result<(), Fail> {
     let alloc = rt.alloc();
     for (text, old, new, line) in [
         (TRIANGLE, "heesch 1", "brief 1", "invalid header\n"),
-        (TRIANGLE, "iamond 1 turns", "iamond 16 turns", "invalid header\n"),
-        (TRIANGLE, "tile 3 0 0 class 1 by 1 0 -1\n", "", "invalid entry 1\n"),
+        (
+            TRIANGLE,
+            "iamond 1 turns",
+            "iamond 16 turns",
+            "invalid header\n",
+        ),
+        (
+            TRIANGLE,
+            "tile 3 0 0 class 1 by 1 0 -1\n",
+            "",
+            "invalid entry 1\n",
+        ),
         (TRIANGLE, "by 1 0 -1", "by 3 0 0", "invalid entry 1\n"),
         (TRIANGLE, "tile 0 0 0", "tile 0 0  0", "invalid entry 1\n"),
         (TRIANGLE, "by 0 0 0", "by 0 0 -0", "invalid entry 1\n"),
-        (TRIANGLE, "domain 4 size", "domain 1 size", "invalid entry 1\n"),
+        (
+            TRIANGLE,
+            "domain 4 size",
+            "domain 1 size",
+            "invalid entry 1\n",
+        ),
         (CORONA, " 1,0,1\n", "\n", "invalid entry 1\n"),
         (HOLED, "empty 9", "empty 8", "invalid entry 1\n"),
         (HOLED, "bare 1 same\n", "", "invalid entry 1\n"),
@@ -125,7 +158,7 @@ fn an_altered_line_is_found(rt: HostRuntime) -> Result<(), Fail> {
         assert_eq!(rt; status, Status::Invalid, "{altered}");
     }
     let (status, held) = told(&rt, alloc, "")?;
-    assert_eq!(rt; held.as_slice(), b"invalid header\n");
+    assert_eq!(rt; held.as_slice(), b"invalid header\n".as_slice());
     assert_eq!(rt; status, Status::Invalid);
     Ok(())
 }
@@ -150,7 +183,7 @@ fn what_classify_wrote_is_valid(rt: HostRuntime) -> Result<(), Fail> {
     assert_eq!(rt; status, Status::Done);
     let source = MemorySource::new(written.held, 4096, Vec::new(alloc));
     let (status, sink) = run_over(&rt, alloc, "check --workers 2", source, room(alloc, 100)?)?;
-    assert_eq!(rt; sink.held.as_slice(), b"valid 108\n");
+    assert_eq!(rt; sink.held.as_slice(), b"valid 108\n".as_slice());
     assert_eq!(rt; status, Status::Done);
     Ok(())
 }

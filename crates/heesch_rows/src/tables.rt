@@ -37,15 +37,23 @@ fn tallies_of_small_catalogues_are_those_worked_by_hand(rt: HostRuntime) -> Resu
     let (status, brief) = run_into(&rt, alloc, "classify square 4 --brief", room(alloc, 1_000)?)?;
     assert_eq!(rt; status, Status::Done);
     let source = MemorySource::new(brief.held, 7, Vec::new(alloc));
-    let text = format!(in alloc; "shapes 5\nholed 0\ntranslation 5\nhalfturn 0\nperiodic 0\nisohedral 5\n{UNDECIDED}")?;
+    let text = format!(in alloc;
+        "shapes 5\nholed 0\ntranslation 5\nhalfturn 0\nperiodic 0\nisohedral 5\n{UNDECIDED}"
+    )?;
     let held = tally(&rt, alloc, "table", source)?;
     assert_eq!(rt; held.as_slice(), text.as_bytes());
-    let holed = format!(in alloc; "heesch 1 square given {LIMITS}\nshape 0,0 1,0 2,0 0,1 2,1 0,2 1,2\nverdict heesch 0 nontiler 1\ncoronas 0\nwall 1 refuted\nempty 9\nbare 1 same\nend 1\n")?;
-    let text = format!(in alloc; "shapes 1\nholed 1\ntranslation 0\nhalfturn 0\nperiodic 0\nisohedral 0\nheesch 0 1\n{UNDECIDED}")?;
+    let holed = format!(in alloc;
+        "heesch 1 square given {LIMITS}\nshape 0,0 1,0 2,0 0,1 2,1 0,2 1,2\nverdict heesch 0 nontiler 1\ncoronas 0\nwall 1 refuted\nempty 9\nbare 1 same\nend 1\n"
+    )?;
+    let text = format!(in alloc;
+        "shapes 1\nholed 1\ntranslation 0\nhalfturn 0\nperiodic 0\nisohedral 0\nheesch 0 1\n{UNDECIDED}"
+    )?;
     let held = tally(&rt, alloc, "table", bytes_of(alloc, &holed)?)?;
     assert_eq!(rt; held.as_slice(), text.as_bytes());
     let held = tally(&rt, alloc, "sample square 2 4 0", bytes_of(alloc, "")?)?;
-    let text = format!(in alloc; "shapes 4\nholed 0\ntranslation 4\nhalfturn 0\nperiodic 0\nisohedral 4\n{UNDECIDED}")?;
+    let text = format!(in alloc;
+        "shapes 4\nholed 0\ntranslation 4\nhalfturn 0\nperiodic 0\nisohedral 4\n{UNDECIDED}"
+    )?;
     assert_eq!(rt; held.as_slice(), text.as_bytes());
     Ok(())
 }
@@ -56,10 +64,22 @@ fn the_first_faulty_entry_is_told(rt: HostRuntime) -> Result<(), Fail> {
     let alloc = rt.alloc();
     for (rest, line) in [
         ("", "bad input 2 6\n"),
-        ("shape 0,0 2,0\nverdict heesch 0 nontiler 1\nend 1\n", "bad input 2 5\n"),
-        ("shape 0,0 2,0\nverdict heesch 0 nontiler 1\nverdict\n", "bad input 4 6\n"),
-        ("shape 0,0 0,0\nverdict heesch 0 nontiler 1\nshape x\n", "bad input 2 4\n"),
-        ("shape 0,0\nverdict heesch 0 nontiler 1\nend 2\n", "bad input 4 6\n"),
+        (
+            "shape 0,0 2,0\nverdict heesch 0 nontiler 1\nend 1\n",
+            "bad input 2 5\n",
+        ),
+        (
+            "shape 0,0 2,0\nverdict heesch 0 nontiler 1\nverdict\n",
+            "bad input 4 6\n",
+        ),
+        (
+            "shape 0,0 0,0\nverdict heesch 0 nontiler 1\nshape x\n",
+            "bad input 2 4\n",
+        ),
+        (
+            "shape 0,0\nverdict heesch 0 nontiler 1\nend 2\n",
+            "bad input 4 6\n",
+        ),
         ("end 0", "bad input 2 6\n"),
     ] {
         let text = format!(in alloc; "brief 1 square given {LIMITS}\n{rest}")?;
@@ -74,7 +94,7 @@ fn the_first_faulty_entry_is_told(rt: HostRuntime) -> Result<(), Fail> {
         assert_eq!(rt; status, Status::BadInput, "{text}");
     }
     let (status, sink) = run_over(&rt, alloc, "table", bytes_of(alloc, "")?, room(alloc, 100)?)?;
-    assert_eq!(rt; sink.held.as_slice(), b"bad input 1 6\n");
+    assert_eq!(rt; sink.held.as_slice(), b"bad input 1 6\n".as_slice());
     assert_eq!(rt; status, Status::BadInput);
     Ok(())
 }
