@@ -52,7 +52,8 @@ fn single_triangles_have_the_entries_worked_by_hand(rt: HostRuntime) -> Result<(
     Ok(())
 }
 
-const FIVE_TETROMINOES: &str = "brief 1 square 4 turns 20000 levels 3 domain 4 size 60000000
+pub(crate) const FIVE_TETROMINOES: &str =
+    "brief 1 square 4 turns 20000 levels 3 domain 4 size 60000000
 shape 0,0 1,0 2,0 3,0
 verdict tiles translation domain 1 classes 1
 shape 0,0 1,0 2,0 0,1

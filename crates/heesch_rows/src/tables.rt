@@ -1,7 +1,8 @@
 //! `heesch table` and `heesch sample`: tallies.
 ghost use Rattle.std.specs.Prelude.{◌≤◌};
 
-use crate::running::{bytes_of, room, run_into, run_over};
+use crate::catalogues::FIVE_TETROMINOES;
+use crate::running::{bytes_of, room, run_over};
 use heesch_app::Status;
 use heesch_grid::Square;
 use heesch_grow::{Draws, grown};
@@ -31,30 +32,40 @@ const LIMITS: &str = "turns 20000 levels 3 domain 4 size 60000000";
 const UNDECIDED: &str =
     "undecided levels 0\nundecided holes 0\nundecided turns 0\nundecided size 0\n";
 
+const HOLED: &str = "heesch 1 square given turns 20000 levels 3 domain 4 size 60000000
+shape 0,0 1,0 2,0 0,1 2,1 0,2 1,2
+verdict heesch 0 nontiler 1
+coronas 0
+wall 1 refuted
+empty 9
+bare 1 same
+end 1
+";
+
 #[test]
 fn tallies_of_small_catalogues_are_those_worked_by_hand(rt: HostRuntime) -> Result<(), Fail> {
     let alloc = rt.alloc();
-    let (status, brief) = run_into(&rt, alloc, "classify square 4 --brief", room(alloc, 1_000)?)?;
-    assert_eq!(rt; status, Status::Done);
-    let source = MemorySource::new(brief.held, 7, Vec::new(alloc));
-    let text = format!(in alloc;
-        "shapes 5\nholed 0\ntranslation 5\nhalfturn 0\nperiodic 0\nisohedral 5\n{UNDECIDED}"
-    )?;
-    let held = tally(&rt, alloc, "table", source)?;
-    assert_eq!(rt; held.as_slice(), text.as_bytes());
-    let holed = format!(in alloc;
-        "heesch 1 square given {LIMITS}\nshape 0,0 1,0 2,0 0,1 2,1 0,2 1,2\nverdict heesch 0 nontiler 1\ncoronas 0\nwall 1 refuted\nempty 9\nbare 1 same\nend 1\n"
-    )?;
-    let text = format!(in alloc;
-        "shapes 1\nholed 1\ntranslation 0\nhalfturn 0\nperiodic 0\nisohedral 0\nheesch 0 1\n{UNDECIDED}"
-    )?;
-    let held = tally(&rt, alloc, "table", bytes_of(alloc, &holed)?)?;
-    assert_eq!(rt; held.as_slice(), text.as_bytes());
-    let held = tally(&rt, alloc, "sample square 2 4 0", bytes_of(alloc, "")?)?;
-    let text = format!(in alloc;
-        "shapes 4\nholed 0\ntranslation 4\nhalfturn 0\nperiodic 0\nisohedral 4\n{UNDECIDED}"
-    )?;
-    assert_eq!(rt; held.as_slice(), text.as_bytes());
+    for (line, input, counts) in [
+        (
+            "table",
+            FIVE_TETROMINOES,
+            "shapes 5\nholed 0\ntranslation 5\nhalfturn 0\nperiodic 0\nisohedral 5\n",
+        ),
+        (
+            "table",
+            HOLED,
+            "shapes 1\nholed 1\ntranslation 0\nhalfturn 0\nperiodic 0\nisohedral 0\nheesch 0 1\n",
+        ),
+        (
+            "sample square 2 4 0",
+            "",
+            "shapes 4\nholed 0\ntranslation 4\nhalfturn 0\nperiodic 0\nisohedral 4\n",
+        ),
+    ] {
+        let held = tally(&rt, alloc, line, bytes_of(alloc, input)?)?;
+        let text = format!(in alloc; "{counts}{UNDECIDED}")?;
+        assert_eq!(rt; held.as_slice(), text.as_bytes(), "{line}");
+    }
     Ok(())
 }
 
