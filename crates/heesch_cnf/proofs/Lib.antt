@@ -1,4 +1,5 @@
 pub mod Conflict
+pub mod FlatLemmas
 pub mod Lists
 pub mod Refuted
 pub mod Reading

@@ -10,6 +10,10 @@ pub mod TileFacts
 pub mod LayerFacts
 pub mod CoronasToModel
 pub mod ModelToCoronas
+pub mod UniverseClauses
+pub mod ModelToOwners
+pub mod OwnersToModel
+pub mod OwnedCells
 pub mod WindowToCoronas
 pub mod IsometryFacts
 pub mod SortFacts
@@ -24,6 +28,7 @@ pub mod TorusFacts
 pub mod Adding
 pub mod NonTilers
 pub mod Images
+pub mod VersionFacts
 pub mod FromDefinitions
 pub mod SymmetryFacts
 mod SmallShapes

@@ -1,19 +1,20 @@
 -- Worked examples of the formulas, by computation.
-use Rattle.std.proofs.Common.{◌≡◌, ℕ, Bool, true, false, not, cond, refl, List, [], ◌∷◌, map, filter, length, flat_map}
-use Rattle.std.specs.Prelude.{pos, negsuc, ◌+ℤ◌, slice_get, Some}
+use Rattle.std.proofs.Common.{◌≡◌, ℕ, ◌+◌, Bool, true, false, not, cond, refl, List, [], ◌∷◌, ◌++◌, map, filter, length, flat_map}
+use Rattle.std.specs.Prelude.{pos, negsuc, ◌+ℤ◌, nat_le, slice_get, Some, sum_by}
 use Rattle.heesch_grid.specs.declared.Cell.{Cell}
-use Rattle.heesch_grid.specs.Cells.{cell, cells_before}
+use Rattle.heesch_grid.specs.Cells.{cell, cells_before, has}
 use Rattle.heesch_grid.specs.Geometry.{Geometry, are_touching, image}
 use Rattle.heesch_grid.specs.Placement.{touch}
 use Rattle.heesch_grid.specs.Pattern.{grid_of}
 use Rattle.heesch_grid.specs.Grids.{iamond as iamond_tables}
 use Rattle.heesch_grid.specs.Clauses.{Literals, formula_size}
 use Rattle.heesch_grid.specs.CoronaFormula.{Variable, corona_clauses}
+use Rattle.heesch_grid.specs.OwnerFormula.{holders, owner_count, owned_corona_clauses}
 use Rattle.heesch_grid.specs.TorusFormula.{torus_clauses}
 use Rattle.heesch_grid.proofs.Computed.{window}
 use Rattle.heesch_grid.proofs.SortFacts.{sorted, placed_in}
 use Rattle.heesch_grid.proofs.AroundFacts.{cells_around}
-use Rattle.heesch_grid.specs.Examples.{square, ring}
+use Rattle.heesch_grid.specs.Examples.{square, o, ring}
 
 abbrev iamond : Geometry
 iamond = grid_of iamond_tables
@@ -64,6 +65,68 @@ domino_size = refl
 domino_clause_1 : slice_get domino_clauses 0 ≡ Some ((1, true) ∷ (5, true) ∷ (6, true) ∷ (7, true) ∷ [])
 unfolding sorted placed_in
 domino_clause_1 = refl
+
+-- ---- in the second version: 44 variables, 78 clauses, 170 literals
+
+abbrev domino_owned : List Cell
+domino_owned = filter (λ c. nat_le 2 (length (holders domino_variables c))) (window 4)
+
+domino_owned_count : length domino_variables + sum_by (owner_count domino_variables) domino_owned ≡ 44
+domino_owned_count = refl
+
+abbrev domino_owned_clauses : List (List (ℕ × Bool))
+domino_owned_clauses = owned_corona_clauses signed square (cells_around square) domino 1 domino_variables domino_owned
+
+domino_owned_clause_count : length domino_owned_clauses ≡ 78
+unfolding sorted placed_in
+domino_owned_clause_count = refl
+
+domino_owned_size : formula_size domino_owned_clauses ≡ 170
+unfolding sorted placed_in
+domino_owned_size = refl
+
+domino_owned_clause_1 : slice_get domino_owned_clauses 0 ≡ Some ((1, true) ∷ (5, true) ∷ (6, true) ∷ (7, true) ∷ [])
+unfolding sorted placed_in
+domino_owned_clause_1 = refl
+
+domino_owned_clause_11 : slice_get domino_owned_clauses 10 ≡ Some ((1, false) ∷ (25, false) ∷ [])
+unfolding sorted placed_in
+domino_owned_clause_11 = refl
+
+domino_owned_clause_13 : slice_get domino_owned_clauses 12 ≡ Some ((5, false) ∷ (25, true) ∷ [])
+unfolding sorted placed_in
+domino_owned_clause_13 = refl
+
+domino_owned_clause_18 : slice_get domino_owned_clauses 17 ≡ Some ((7, false) ∷ (26, true) ∷ [])
+unfolding sorted placed_in
+domino_owned_clause_18 = refl
+
+-- ---- the single square at level 2: 24 variables, 80 clauses and 168 literals in both versions, since no cell is owned
+
+abbrev square_variables : List Variable
+square_variables =
+    map (λ c. record { level = 1; tile = c ∷ [] }) (filter (are_touching square o) (window 1)) ++ map (λ c. record { level = 2; tile = c ∷ [] }) (filter (λ c. not (has (window 1) c)) (window 2))
+
+square_variable_count : length square_variables ≡ 24
+square_variable_count = refl
+
+square_owns_none : filter (λ c. nat_le 2 (length (holders square_variables c))) (window 3) ≡ []
+square_owns_none = refl
+
+abbrev square_clauses : List (List (ℕ × Bool))
+square_clauses = corona_clauses signed square (cells_around square) (o ∷ []) 2 square_variables
+
+square_clause_count : length square_clauses ≡ 80
+unfolding sorted placed_in
+square_clause_count = refl
+
+square_size : formula_size square_clauses ≡ 168
+unfolding sorted placed_in
+square_size = refl
+
+square_versions : owned_corona_clauses signed square (cells_around square) (o ∷ []) 2 square_variables [] ≡ square_clauses
+unfolding sorted placed_in
+square_versions = refl
 
 -- ---- the single iamond at level 1: 12 variables and 12 literals
 

@@ -14,6 +14,7 @@ use Rattle.heesch_grid.specs.Tiling.{TilesThePlane, DoesNotTile, HasWindowCover,
 use Rattle.heesch_grid.specs.Symmetry.{IsSymmetry, InOneClass}
 use Rattle.heesch_grid.specs.Clauses.{Literals}
 use Rattle.heesch_grid.specs.CoronaFormula.{Variable, IsCoronaFormula}
+use Rattle.heesch_grid.specs.Versions.{IsFormulaOf}
 use Rattle.heesch_grid.specs.TorusFormula.{IsTorusFormula}
 
 -- the set has exactly one canonical list, which is itself a polyform of as many cells
@@ -80,6 +81,10 @@ PlainTilingsAreUnique = (g : Geometry) (shape : List Cell) (answer other : Optio
 -- the corona formula of a polyform and a level is one list of clauses
 abbrev pub CoronaFormulasAreUnique : Type 0 → Type 0
 CoronaFormulasAreUnique L = (ls : Literals L) (g : Geometry) (shape : List Cell) (j : ℕ) (vars others : List Variable) (clauses rest : List (List L)) → IsGrid g → IsPolyform g shape → IsCoronaFormula ls g shape j vars clauses → IsCoronaFormula ls g shape j others rest → (vars ≡ others) × (clauses ≡ rest)
+
+-- and so is that of each version, with its number of variables
+abbrev pub FormulasOfVersionsAreUnique : Type 0 → Type 0
+FormulasOfVersionsAreUnique L = (ls : Literals L) (version : ℕ) (g : Geometry) (shape : List Cell) (j : ℕ) (vars others : List Variable) (count number : ℕ) (clauses rest : List (List L)) → IsGrid g → IsPolyform g shape → IsFormulaOf ls version g shape j vars count clauses → IsFormulaOf ls version g shape j others number rest → (vars ≡ others) × (count ≡ number) × (clauses ≡ rest)
 
 -- the torus formula of a polyform and a triple is one list of clauses
 abbrev pub TorusFormulasAreUnique : Type 0 → Type 0

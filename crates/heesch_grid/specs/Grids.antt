@@ -107,3 +107,53 @@ iamond = record {
       } ∷
       [];
 }
+
+-- kites: the sixths of a hexagon, cut by the lines from its centre to the middles of its edges
+abbrev pub kite : Pattern
+kite = record {
+  unit = 6;
+  scale = 1;
+  rotations = 6;
+  half_turn = 3;
+  adjacent_count = 4;
+  touching_count = 9;
+  turns = hex_turns;
+  kinds =
+      record {
+        cell = cell (pos 1) (pos 1);
+        corners = cell (neg 1) (neg 1) ∷ cell (pos 1) (pos 1) ∷ cell (neg 1) (pos 2) ∷ cell (pos 2) (neg 1) ∷ [];
+        adjacent = cell (pos 1) (neg 2) ∷ cell (pos 3) (pos 0) ∷ cell (neg 2) (pos 1) ∷ cell (pos 0) (pos 3) ∷ [];
+        touching = cell (pos 0) (neg 3) ∷ cell (neg 2) (neg 2) ∷ cell (pos 1) (neg 2) ∷ cell (pos 4) (neg 2) ∷ cell (neg 3) (pos 0) ∷ cell (pos 3) (pos 0) ∷ cell (neg 2) (pos 1) ∷ cell (pos 0) (pos 3) ∷ cell (neg 2) (pos 4) ∷ [];
+      } ∷
+      record {
+        cell = cell (neg 1) (pos 2);
+        corners = cell (pos 1) (neg 2) ∷ cell (neg 1) (pos 2) ∷ cell (neg 2) (pos 1) ∷ cell (pos 1) (pos 1) ∷ [];
+        adjacent = cell (neg 1) (neg 1) ∷ cell (pos 2) (neg 1) ∷ cell (neg 3) (pos 3) ∷ cell (pos 0) (pos 3) ∷ [];
+        touching = cell (pos 2) (neg 4) ∷ cell (pos 0) (neg 3) ∷ cell (pos 3) (neg 3) ∷ cell (neg 1) (neg 1) ∷ cell (pos 2) (neg 1) ∷ cell (neg 4) (pos 2) ∷ cell (pos 2) (pos 2) ∷ cell (neg 3) (pos 3) ∷ cell (pos 0) (pos 3) ∷ [];
+      } ∷
+      record {
+        cell = cell (neg 2) (pos 1);
+        corners = cell (pos 2) (neg 1) ∷ cell (neg 2) (pos 1) ∷ cell (neg 1) (neg 1) ∷ cell (neg 1) (pos 2) ∷ [];
+        adjacent = cell (pos 1) (neg 2) ∷ cell (neg 3) (pos 0) ∷ cell (pos 1) (pos 1) ∷ cell (neg 3) (pos 3) ∷ [];
+        touching = cell (pos 3) (neg 3) ∷ cell (neg 2) (neg 2) ∷ cell (pos 1) (neg 2) ∷ cell (pos 4) (neg 2) ∷ cell (neg 3) (pos 0) ∷ cell (pos 3) (pos 0) ∷ cell (pos 1) (pos 1) ∷ cell (neg 3) (pos 3) ∷ cell (neg 2) (pos 4) ∷ [];
+      } ∷
+      record {
+        cell = cell (neg 1) (neg 1);
+        corners = cell (pos 1) (pos 1) ∷ cell (neg 1) (neg 1) ∷ cell (pos 1) (neg 2) ∷ cell (neg 2) (pos 1) ∷ [];
+        adjacent = cell (pos 0) (neg 3) ∷ cell (pos 2) (neg 1) ∷ cell (neg 3) (pos 0) ∷ cell (neg 1) (pos 2) ∷ [];
+        touching = cell (pos 2) (neg 4) ∷ cell (pos 0) (neg 3) ∷ cell (pos 2) (neg 1) ∷ cell (neg 3) (pos 0) ∷ cell (pos 3) (pos 0) ∷ cell (neg 4) (pos 2) ∷ cell (neg 1) (pos 2) ∷ cell (pos 2) (pos 2) ∷ cell (pos 0) (pos 3) ∷ [];
+      } ∷
+      record {
+        cell = cell (pos 1) (neg 2);
+        corners = cell (neg 1) (pos 2) ∷ cell (pos 1) (neg 2) ∷ cell (pos 2) (neg 1) ∷ cell (neg 1) (neg 1) ∷ [];
+        adjacent = cell (pos 0) (neg 3) ∷ cell (pos 3) (neg 3) ∷ cell (neg 2) (pos 1) ∷ cell (pos 1) (pos 1) ∷ [];
+        touching = cell (pos 0) (neg 3) ∷ cell (pos 3) (neg 3) ∷ cell (neg 2) (neg 2) ∷ cell (pos 4) (neg 2) ∷ cell (neg 2) (pos 1) ∷ cell (pos 1) (pos 1) ∷ cell (neg 3) (pos 3) ∷ cell (pos 0) (pos 3) ∷ cell (neg 2) (pos 4) ∷ [];
+      } ∷
+      record {
+        cell = cell (pos 2) (neg 1);
+        corners = cell (neg 2) (pos 1) ∷ cell (pos 2) (neg 1) ∷ cell (pos 1) (pos 1) ∷ cell (pos 1) (neg 2) ∷ [];
+        adjacent = cell (pos 3) (neg 3) ∷ cell (neg 1) (neg 1) ∷ cell (pos 3) (pos 0) ∷ cell (neg 1) (pos 2) ∷ [];
+        touching = cell (pos 2) (neg 4) ∷ cell (pos 3) (neg 3) ∷ cell (neg 1) (neg 1) ∷ cell (neg 3) (pos 0) ∷ cell (pos 3) (pos 0) ∷ cell (neg 4) (pos 2) ∷ cell (neg 1) (pos 2) ∷ cell (pos 2) (pos 2) ∷ cell (neg 3) (pos 3) ∷ [];
+      } ∷
+      [];
+}

@@ -10,6 +10,8 @@ pub mod Tiling
 pub mod Symmetry
 pub mod Clauses
 pub mod CoronaFormula
+pub mod OwnerFormula
+pub mod Versions
 pub mod TorusFormula
 pub mod Statements
 pub mod Facts

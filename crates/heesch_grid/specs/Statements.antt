@@ -1,5 +1,5 @@
 -- The main theorems, as statements. A contract that cites one of them claims it.
-use Rattle.std.specs.Prelude.{ℕ, ◌+◌, ◌≤◌, Bool, not, ◌&&◌, ◌==◌, ◌↔◌, List, map, filter, length, Contains}
+use Rattle.std.specs.Prelude.{◌≡◌, ℕ, ◌+◌, ◌-◌, ◌≤◌, Bool, not, ◌&&◌, ◌==◌, ◌↔◌, List, [], map, filter, length, get_or, Contains, IsTrue}
 use Rattle.std.specs.List.{range_with_len, enumerate_from}
 use Rattle.heesch_grid.specs.declared.Cell.{Cell}
 use Rattle.heesch_grid.specs.declared.isometries.Iso.{Iso}
@@ -9,8 +9,10 @@ use Rattle.heesch_grid.specs.Geometry.{Geometry, IsGrid, Adjacent}
 use Rattle.heesch_grid.specs.Polyform.{IsPolyform, IsFreePolyform, IsCanonicalListOf}
 use Rattle.heesch_grid.specs.Corona.{AreCoronas, HasCoronas, IsNonTiler}
 use Rattle.heesch_grid.specs.Tiling.{IsPeriodicCover, HasWindowCover, TilesThePlane, DoesNotTile}
-use Rattle.heesch_grid.specs.Clauses.{Literals, Satisfies, IsSatisfiable}
+use Rattle.heesch_grid.specs.Clauses.{Literals, clause_holds, clause_of, Satisfies, IsSatisfiable}
 use Rattle.heesch_grid.specs.CoronaFormula.{Variable, IsCoronaFormula}
+use Rattle.heesch_grid.specs.OwnerFormula.{IsOwnerFormula}
+use Rattle.heesch_grid.specs.Versions.{IsFormulaOf}
 use Rattle.heesch_grid.specs.TorusFormula.{IsTorusFormula}
 use Rattle.std.specs.Prelude.{◌∷◌}
 
@@ -56,6 +58,34 @@ ModelsAreCoronas L = (ls : Literals L) (g : Geometry) (shape : List Cell) (j : �
 -- for j of at least 1, E(S, j) is satisfiable exactly where j coronas exist, holes allowed
 abbrev pub SatisfiableWhereCoronas : Type 0 → Type 0
 SatisfiableWhereCoronas L = (ls : Literals L) (g : Geometry) (shape : List Cell) (j : ℕ) (vars : List Variable) (clauses : List (List L)) → IsGrid g → IsPolyform g shape → 1 ≤ j → IsCoronaFormula ls g shape j vars clauses → IsSatisfiable ls clauses ↔ HasCoronas g shape j
+
+-- a model of E(S, j) of either version has j coronas as its chosen layers
+abbrev pub ModelsOfVersionsAreCoronas : Type 0 → Type 0
+ModelsOfVersionsAreCoronas L = (ls : Literals L) (version : ℕ) (g : Geometry) (shape : List Cell) (j : ℕ) (vars : List Variable) (count : ℕ) (clauses : List (List L)) (values : ℕ → Bool) → IsGrid g → IsPolyform g shape → 1 ≤ j → IsFormulaOf ls version g shape j vars count clauses → Satisfies ls values clauses → AreCoronas g shape (chosen_layers values vars j)
+
+-- E(S, j) of either version is satisfiable exactly where j coronas exist, holes allowed
+abbrev pub VersionsAreSatisfiableWhereCoronas : Type 0 → Type 0
+VersionsAreSatisfiableWhereCoronas L = (ls : Literals L) (version : ℕ) (g : Geometry) (shape : List Cell) (j : ℕ) (vars : List Variable) (count : ℕ) (clauses : List (List L)) → IsGrid g → IsPolyform g shape → 1 ≤ j → IsFormulaOf ls version g shape j vars count clauses → IsSatisfiable ls clauses ↔ HasCoronas g shape j
+
+-- the assignment makes a variable of the universe true exactly where its tile stands in the layer of its level
+abbrev pub FollowsLayers : List Variable → List (List (List Cell)) → (ℕ → Bool) → Type 0
+FollowsLayers vars layers values = (x : ℕ × Variable) → Contains (enumerate_from 1 vars) x → IsTrue (values x.0) ↔ Contains (get_or layers (x.1.level - 1) []) x.1.tile
+
+-- any j coronas, hole-free or not, are the values that a model of E(S, j) of either version gives the universe's variables
+abbrev pub CoronasAreModelsOfVersions : Type 0 → Type 0
+CoronasAreModelsOfVersions L = (ls : Literals L) (version : ℕ) (g : Geometry) (shape : List Cell) (j : ℕ) (vars : List Variable) (count : ℕ) (clauses : List (List L)) (layers : List (List (List Cell))) → IsGrid g → IsPolyform g shape → 1 ≤ j → IsFormulaOf ls version g shape j vars count clauses → length layers ≡ j → AreCoronas g shape layers → (values : ℕ → Bool) × FollowsLayers vars layers values × Satisfies ls values clauses
+
+-- the assignments give each variable of the universe one value
+abbrev pub Agree : List Variable → (ℕ → Bool) → (ℕ → Bool) → Type 0
+Agree vars values other = (n : ℕ) → 1 ≤ n → n ≤ length vars → values n ≡ other n
+
+-- an assignment makes E1(S, j) true exactly where one that agrees with it on the universe makes E2(S, j) true
+abbrev pub OwnersKeepModels : Type 0 → Type 0
+OwnersKeepModels L = (ls : Literals L) (g : Geometry) (shape : List Cell) (j : ℕ) (vars : List Variable) (count : ℕ) (first second : List (List L)) (values : ℕ → Bool) → IsGrid g → IsPolyform g shape → IsCoronaFormula ls g shape j vars first → IsOwnerFormula ls g shape j vars count second → Satisfies ls values first ↔ ((other : ℕ → Bool) × Agree vars values other × Satisfies ls other second)
+
+-- and a clause of variables of the universe, as that of a cut, is true under both of them or under neither
+abbrev pub UniverseClausesAgree : Type 0 → Type 0
+UniverseClausesAgree L = (ls : Literals L) (vars : List Variable) (negated asserted : ℕ × Variable → Bool) (values other : ℕ → Bool) → Agree vars values other → clause_holds ls values (clause_of ls negated asserted vars) ≡ clause_holds ls other (clause_of ls negated asserted vars)
 
 -- the torus formula is satisfiable exactly where a periodic cover for the triple exists
 abbrev pub SatisfiableWhereCover : Type 0 → Type 0

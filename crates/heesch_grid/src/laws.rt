@@ -3,19 +3,25 @@
 //! They hold for every grid that keeps the laws of [`crate::Grid`], and name none.
 ghost use Rattle.heesch_grid.specs.Geometry.{Geometry, IsGrid};
 ghost use Rattle.heesch_grid.specs.Statements.{
+  CoronasAreModelsOfVersions,
   GrowthLaw,
   GrowthOfFreeLists,
   ModelsAreCoronas,
+  ModelsOfVersionsAreCoronas,
   NonTilersDoNotTile,
+  OwnersKeepModels,
   SatisfiableWhereCoronas,
   SatisfiableWhereCover,
   TilersHaveWindowCovers,
+  UniverseClausesAgree,
+  VersionsAreSatisfiableWhereCoronas,
   WindowCoversHaveCoronas,
 };
 ghost use Rattle.heesch_grid.specs.Facts.{
   CellsHaveOneReducedCell,
   CoronaFormulasAreUnique,
   FewerCoronasExist,
+  FormulasOfVersionsAreUnique,
   FreeListsAreUnique,
   GreatestHolesAreHoles,
   HeeschNumbersAreUnique,
@@ -88,10 +94,11 @@ pub fn plain_tilings_are_unique()
     ensures { PlainTilingsAreUnique }
 {}
 
-/// The corona formula and the torus formula are functions of the shape, and of the level or the
-/// triple: their variables and clauses are determined, with their numbers.
+/// The corona formula, of each version, and the torus formula are functions of the shape, and of the
+/// level or the triple: their variables and clauses are determined, with their numbers.
 pub fn formulas_are_unique<L>()
     ensures corona { CoronaFormulasAreUnique L }
+    ensures versions { FormulasOfVersionsAreUnique L }
     ensures torus { TorusFormulasAreUnique L }
 {}
 
@@ -108,6 +115,29 @@ pub fn satisfiable_where_cover<L>()
 /// The chosen layers of a model are coronas.
 pub fn models_are_coronas<L>()
     ensures { ModelsAreCoronas L }
+{}
+
+/// The corona formula of either version is satisfiable exactly where coronas exist.
+pub fn versions_are_satisfiable_where_coronas<L>()
+    ensures { VersionsAreSatisfiableWhereCoronas L }
+{}
+
+/// The chosen layers of a model of either version are coronas.
+pub fn models_of_versions_are_coronas<L>()
+    ensures { ModelsOfVersionsAreCoronas L }
+{}
+
+/// Coronas, hole-free or not, are what some model of either version gives the variables of the
+/// universe.
+pub fn coronas_are_models_of_versions<L>()
+    ensures { CoronasAreModelsOfVersions L }
+{}
+
+/// The models of the first version are the models of the second, seen at the variables of the
+/// universe; and a clause of these variables, as that of a cut, sees no more.
+pub fn owners_keep_models<L>()
+    ensures models { OwnersKeepModels L }
+    ensures clauses { UniverseClausesAgree L }
 {}
 
 /// A periodic cover gives window covers of every radius.

@@ -19,8 +19,8 @@ mod iamonds;
 mod isometries;
 pub mod laws;
 mod squares;
-mod tables;
-mod turns;
+pub mod tables;
+pub mod turns;
 
 pub use grids::{Grid, Sizes};
 pub use hexes::Hex;

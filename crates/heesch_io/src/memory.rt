@@ -126,7 +126,12 @@ impl Sink for MemorySink {
         ensures taken { IfOk result (λ count. count
             ≡ min (min (length bytes.now) self.old.most) (vec_capacity self.old.held - vec_len self.old.held)) }
         ensures calls { self.new.calls ≡ capped (self.old.calls + 1) }
-        ensures full { IsFull self.old.held ⊎ (self.new.full ≡ self.old.full) }
+        ensures full { IsFull self.old.held → ¬ FailsNext self.old.fails.items self.old.calls
+            → self.new.full ≡ capped (self.old.full + 1) }
+        ensures not_full { FailsNext self.old.fails.items self.old.calls ⊎ (vec_len self.old.held < vec_capacity self.old.held)
+            → self.new.full ≡ self.old.full }
+        ensures kept { IsErr result → self.new.held ≡ self.old.held }
+        ensures room { vec_capacity self.old.held ≤ vec_capacity self.new.held }
         ensures same { (self.new.most ≡ self.old.most) × (self.new.fails ≡ self.old.fails) }
     {
         if begins_failing(&mut self.calls, &self.fails) {

@@ -1,6 +1,10 @@
 // Standard input and output. What they give and take is outside what any contract says.
-ghost use Rattle.std.specs.Prelude.{◌≡◌, ◌≤◌, None, IfOk};
-ghost use Rattle.heesch_io.specs.Causes.{Rose};
+ghost use Rattle.std.specs.Prelude.{◌≡◌, ◌<◌, ◌≤◌, ◌+◌, None, IfOk, IsErr, length};
+ghost use Rattle.std.specs.Io.{ReadsAtMost};
+ghost use Rattle.std.specs.Io.KnownBytes.{ReadConsumes, WriteAppends};
+ghost use Rattle.heesch_io.specs.Causes.{HasCause, Rose};
+ghost use Rattle.heesch_io.specs.Contents.{TakesSome};
+ghost use Rattle.heesch_io.specs.Counts.{capped};
 
 use crate::{Failed, NoMemory, Sink, Source};
 use std::alloc::Global;
@@ -29,7 +33,14 @@ impl Source for StdSource {
 
     ghost faults = { λ s. s.faults };
 
-    fn read(&mut self, into: &mut [u8]) -> Result<usize, Failed> {
+    fn read(&mut self, into: &mut [u8]) -> Result<usize, Failed>
+        ensures bound { ReadsAtMost result into.new }
+        ensures bytes { ReadConsumes None None result into.new }
+        ensures cause { HasCause self.old.faults self.new.faults result }
+
+        ensures same { IfOk result (λ _. self.new.faults ≡ self.old.faults) }
+        ensures counted { IsErr result → self.new.faults ≡ capped (self.old.faults + 1) }
+    {
         match self.reader.read(into) {
             Ok(count) => Ok(count),
             Err(_) => Err(count_fault(&mut self.faults)),
@@ -62,7 +73,15 @@ impl Sink for StdSink {
     ghost faults = { λ s. s.faults };
 
     /// A write that takes nothing counts as a fault, and so does a flush that fails.
-    fn write(&mut self, bytes: &[u8]) -> Result<usize, Failed> {
+    fn write(&mut self, bytes: &[u8]) -> Result<usize, Failed>
+        requires { 0 < length bytes.now }
+        ensures count { TakesSome result bytes.now }
+        ensures bytes { WriteAppends None None result bytes.now }
+        ensures cause { HasCause self.old.faults self.new.faults result }
+
+        ensures same { IfOk result (λ _. self.new.faults ≡ self.old.faults) }
+        ensures counted { IsErr result → self.new.faults ≡ capped (self.old.faults + 1) }
+    {
         match self.writer.write(bytes) {
             Ok(count) if count > 0 && self.writer.flush().is_ok() => Ok(count),
             _ => Err(count_fault(&mut self.faults)),
@@ -73,6 +92,7 @@ impl Sink for StdSink {
 fn count_fault(faults: &mut u64) -> Failed
     ensures later { faults.old ≤ faults.new }
     ensures rose { Rose faults.old faults.new }
+    ensures counted { faults.new ≡ capped (faults.old + 1) }
 {
     *faults = faults.saturating_add(1);
     Failed

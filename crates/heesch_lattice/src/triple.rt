@@ -2,7 +2,6 @@
 ghost use Rattle.std.specs.Prelude.{◌≡◌, true, ◌↔◌};
 ghost use Rattle.std.specs.Option.{SomeIff};
 ghost use Rattle.heesch_grid.specs.Geometry.{IsCell};
-ghost use Rattle.heesch_grid.specs.Vectors.{IsWithin};
 ghost use Rattle.heesch_grid.specs.Lattice.{IsTriple, DiffersByLattice, IsReduced};
 ghost use Rattle.heesch_lattice.specs.Reduction.{lattice, IsSmallTriple, HasReducedUnit};
 
@@ -51,10 +50,9 @@ impl Triple {
     }
 
     /// The one pair that differs from c by a lattice vector and whose unit (a / UNIT and b / UNIT,
-    /// rounded down) is at least (0, 0) and below (p, q). Condition: c lies within 1,000,000 of 0.
-    /// The answer is a cell where c is one. Cost: three divisions.
+    /// rounded down) is at least (0, 0) and below (p, q). The answer is a cell where c is one.
+    /// Cost: three divisions.
     pub fn reduce<G: Grid>(self, c: Cell) -> Cell
-        requires { IsWithin 1000000 c }
         ensures triple { IsTriple self }
         ensures differs { DiffersByLattice G.geometry self c result }
         ensures unit { HasReducedUnit G.geometry self result }
@@ -69,11 +67,8 @@ impl Triple {
         )
     }
 
-    /// Whether c and d differ by a lattice vector. Condition: both lie within 1,000,000 of 0.
-    /// Cost: six divisions.
+    /// Whether c and d differ by a lattice vector. Cost: six divisions.
     pub fn same<G: Grid>(self, c: Cell, d: Cell) -> bool
-        requires first { IsWithin 1000000 c }
-        requires second { IsWithin 1000000 d }
         ensures { (result ≡ true) ↔ DiffersByLattice G.geometry self c d }
     {
         self.reduce::<G>(c) == self.reduce::<G>(d)

@@ -1,14 +1,8 @@
 use Rattle.std.proofs.Common.{sym, subst, ◌∙◌}
 use Rattle.heesch_grid.specs.Geometry.{IsCell, apply}
-use Rattle.heesch_grid.specs.Vectors.{IsWithin}
 use Rattle.heesch_grid.specs.Lattice.{translated}
 use Rattle.heesch_grid.proofs.ReductionFacts.{reduced_once}
-use Rattle.heesch_tiling.proofs.Steps.{image_within}
 use Rattle.heesch_torus.proofs.residues.residue_of.Goals as goal
-
-pub reduce-requires : goal.reduce-requires
-reduce-requires g c =
-    subst (IsWithin 1000000) (sym c.apply.ensures) (image_within g.G.Grid.geometry g.met.G.Grid.laws c.args.by c.args.c c.requires.range c.requires.within)
 
 pub returns : goal.returns
 returns g c =

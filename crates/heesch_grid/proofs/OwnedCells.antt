@@ -1,0 +1,86 @@
+-- Each universe has a list of its owned cells, so the second formula exists beside the first; and what the number of binary digits is.
+use Rattle.std.proofs.Common.{◌≡◌, refl, sym, subst, ℕ, zero, suc, ◌+◌, ◌-◌, ◌^◌, ◌<◌, ◌≤◌, le-leb, leb-true, List, [], ◌∷◌, filter, length, flat_map, Bool, false, cond, inl, inr, arith, Contains}
+use Rattle.std.specs.Prelude.{nat_le, sum_by}
+use Rattle.std.specs.List.{enumerate_from, range_with_len}
+use Rattle.std.proofs.lemmas.Bool.{cases_Bool, cases_order}
+use Rattle.heesch_grid.specs.declared.Cell.{Cell}
+use Rattle.heesch_grid.specs.Listing.{ListsExactly}
+use Rattle.heesch_grid.specs.Cells.{cell_before, has}
+use Rattle.heesch_grid.specs.Geometry.{Geometry, IsGrid}
+use Rattle.heesch_grid.specs.Clauses.{Literals}
+use Rattle.heesch_grid.specs.CoronaFormula.{Variable, IsUniverse}
+use Rattle.heesch_grid.specs.OwnerFormula.{holders, IsOwned, digits, owner_count, owned_corona_clauses, IsOwnerFormula}
+use Rattle.heesch_grid.specs.Pairs.{has-true}
+use Rattle.heesch_grid.proofs.ListFacts.{member_here, All-from_members, filter_member, member_filter}
+use Rattle.heesch_grid.proofs.WindowFacts.{map_member, member_flat_map}
+use Rattle.heesch_grid.proofs.ClauseFacts.{entry_variable}
+use Rattle.heesch_grid.proofs.AroundFacts.{cells_around, around_given}
+use Rattle.heesch_grid.proofs.SortFacts.{sorted, sorted_list, has_sorted, sorted_has}
+use Rattle.heesch_grid.proofs.UniverseClauses.{Entry}
+use Rattle.heesch_grid.proofs.OwnersToModel.{pow_rises, below_digits}
+
+-- ---- the owned cells
+
+abbrev is_owned : List Variable → Cell → Bool
+is_owned vars c = nat_le 2 (length (holders vars c))
+
+abbrev tile_cells : List Variable → List Cell
+tile_cells vars = flat_map (λ (v : Variable). v.tile) vars
+
+abbrev pub owned_cells : List Variable → List Cell
+owned_cells vars = sorted (filter (is_owned vars) (tile_cells vars))
+
+-- a cell that a variable has is in its tile
+held : (vars : List Variable) (c : Cell) (ns : List ℕ) → ns ≡ holders vars c → 1 ≤ length ns → Contains (tile_cells vars) c
+held vars c [] e l = absurd (omega arith)
+held vars c (n ∷ ns) e l =
+    let r = map_member (λ (x : Entry). x.0) (filter (λ (x : Entry). has x.1.tile c) (enumerate_from 1 vars)) n (subst (λ k. Contains k n) e (member_here n ns)) in
+    let x : Entry = r.0 in
+    let p = filter_member (λ (x : Entry). has x.1.tile c) (enumerate_from 1 vars) x r.1 in
+    member_flat_map (λ (v : Variable). v.tile) vars x.1 c (entry_variable vars 1 x p.0) (has-true x.1.tile c p.1)
+
+pub owned_given : (vars : List Variable) → ListsExactly cell_before (IsOwned vars) (owned_cells vars)
+owned_given vars = record {
+  rising = (sorted_list (filter (is_owned vars) (tile_cells vars))).rising;
+  only = All-from_members (IsOwned vars) (owned_cells vars) (λ c m. leb-true 2 (length (holders vars c)) (filter_member (is_owned vars) (tile_cells vars) c (has_sorted (filter (is_owned vars) (tile_cells vars)) c m)).1);
+  every = λ c l. sorted_has (filter (is_owned vars) (tile_cells vars)) c (member_filter (is_owned vars) (tile_cells vars) c (held vars c (holders vars c) refl (omega arith)) (le-leb 2 (length (holders vars c)) l));
+}
+
+-- the second formula over a universe
+pub owner_formula : {L : Type 0} (ls : Literals L) (g : Geometry) → IsGrid g → (shape : List Cell) (j : ℕ) (vars : List Variable) → IsUniverse g shape j vars → IsOwnerFormula ls g shape j vars (length vars + sum_by (owner_count vars) (owned_cells vars)) (owned_corona_clauses ls g (cells_around g) shape j vars (owned_cells vars))
+owner_formula ls g law shape j vars universe = record { is_universe = universe; around = cells_around g; gives_around = around_given g law; owned = owned_cells vars; are_owned = owned_given vars; count_is = refl; is = refl }
+
+-- ---- binary digits
+
+passes_below : (p : ℕ → Bool) (a n t : ℕ) → ((k : ℕ) → a + t ≤ k → p k ≡ false) → length (filter p (range_with_len a n)) ≤ t
+passes_below p a zero t h = omega arith
+passes_below p a (suc n) zero h =
+    let rest : length (filter p (range_with_len (a + 1) n)) ≤ 0 = passes_below p (a + 1) n 0 (λ k l. h k (omega arith)) in
+    subst (λ b. length (cond b (a ∷ filter p (range_with_len (a + 1) n)) (filter p (range_with_len (a + 1) n))) ≤ 0) (sym (h a (omega arith))) rest
+passes_below p a (suc n) (suc t) h =
+    let rest : length (filter p (range_with_len (a + 1) n)) ≤ t = passes_below p (a + 1) n t (λ k l. h k (omega arith)) in
+    elim (cases_Bool (p a)) [
+      | inl y ↦ subst (λ b. length (cond b (a ∷ filter p (range_with_len (a + 1) n)) (filter p (range_with_len (a + 1) n))) ≤ suc t) (sym y) (omega arith)
+      | inr y ↦ subst (λ b. length (cond b (a ∷ filter p (range_with_len (a + 1) n)) (filter p (range_with_len (a + 1) n))) ≤ suc t) (sym y) (omega arith)
+    ]
+
+-- a number has t + 1 digits where it is from 2^t to below 2^(t + 1)
+pub digits_are : (n t : ℕ) → 2 ^ t ≤ n → n < 2 ^ suc t → digits n ≡ suc t
+digits_are n t low high =
+    let most : digits n ≤ suc t = passes_below (λ k. nat_le (2 ^ k) n) 0 n (suc t) (λ k l. elim (cases_Bool (nat_le (2 ^ k) n)) [
+      | inr f ↦ f
+      | inl y ↦
+          let up : 2 ^ suc t ≤ 2 ^ k = subst (λ m. 2 ^ suc t ≤ 2 ^ m) (omega arith) (pow_rises (k - suc t) (suc t)) in
+          let in_n : 2 ^ k ≤ n = leb-true (2 ^ k) n y in
+          absurd (omega arith)
+    ]) in
+    elim (cases_order (digits n) (suc t)) [
+      | inl e ↦ e
+      | inr o ↦ elim o [
+        | inr more ↦ absurd (omega arith)
+        | inl few ↦
+            let own : n < 2 ^ digits n = below_digits n in
+            let up : 2 ^ digits n ≤ 2 ^ t = subst (λ m. 2 ^ digits n ≤ 2 ^ m) (omega arith) (pow_rises (t - digits n) (digits n)) in
+            absurd (omega arith)
+      ]
+    ]
