@@ -79,6 +79,61 @@ impl Drop for Hold {
     }
 }
 
+/// Notes each number as a bit with the worker that it is told, and holds the first until both workers have come.
+struct Told {
+    by_first: AtomicU64,
+    by_second: AtomicU64,
+    by_others: AtomicU64,
+}
+
+impl Told {
+    fn new() -> Told {
+        Told {
+            by_first: AtomicU64::new(0),
+            by_second: AtomicU64::new(0),
+            by_others: AtomicU64::new(0),
+        }
+    }
+
+    /// The sums of the bits that the first worker was told, the second, and any other.
+    fn notes(&self) -> (u64, u64, u64) {
+        (
+            self.by_first.load(Ordering::SeqCst),
+            self.by_second.load(Ordering::SeqCst),
+            self.by_others.load(Ordering::SeqCst),
+        )
+    }
+}
+
+impl Gate for Told {
+    fn pass(&self, worker: u32, ticket: u32) {
+        let bit = 1u64.checked_shl(ticket).unwrap_or(0);
+        let notes = match worker {
+            0 => &self.by_first,
+            1 => &self.by_second,
+            _ => &self.by_others,
+        };
+        notes.fetch_add(bit, Ordering::SeqCst);
+        for _ in 0..TURNS {
+            let (first, second, _) = self.notes();
+            if first != 0 && second != 0 {
+                return;
+            }
+            thread::yield_now();
+        }
+    }
+}
+
+impl Drop for Told {
+    fn drop(self) {
+        let Self {
+            by_first: _,
+            by_second: _,
+            by_others: _,
+        } = self;
+    }
+}
+
 /// Long enough for any thread to come to its turn.
 const TURNS: u64 = 200_000_000;
 
@@ -112,6 +167,19 @@ fn workers_claim_as_they_come_free(rt: HostRuntime) -> Result<(), Fail> {
         assert!(rt; items.as_slice() == [0, 0, 1, 1, 2, 2, 3, 3].as_slice());
         assert!(rt; !gate.has_expired(), "ticket {held}");
     }
+    Ok(())
+}
+
+/// The gate is told each number of the span once, by the worker that claimed it.
+#[test]
+fn the_gate_is_told_workers_and_numbers(rt: HostRuntime) -> Result<(), Fail> {
+    let job = Job::new(Halves { refused: None }, 10);
+    let gate = Told::new();
+    let items = run_span(&rt, rt.alloc(), &job, 4, 9, 2, &gate)?;
+    assert!(rt; items.as_slice() == [2, 2, 3, 3, 4].as_slice());
+    let (first, second, others) = gate.notes();
+    assert!(rt; first != 0 && second != 0 && others == 0);
+    assert!(rt; first.checked_add(second) == Some(0b1_1111_0000));
     Ok(())
 }
 
