@@ -2,6 +2,10 @@
 //! catalogue of the free polyforms of N cells.
 #![tactic(auto)]
 
+ghost use Rattle.std.specs.Prelude.{◌≡◌};
+ghost use Rattle.std.specs.Process.{exit_status};
+ghost use Rattle.heesch_app.specs.Statuses.{status_number};
+
 use heesch_app::{Status, run};
 use heesch_io::{StdSink, StdSource};
 use heesch_pool::Open;
@@ -19,7 +23,14 @@ fn main(rt: HostRuntime) -> ExitCode {
         }
         _ => Status::NoMemory,
     };
-    ExitCode::from(status as u8)
+    exit_code(status)
+}
+
+/// What the program ends with: the status's number.
+fn exit_code(status: Status) -> ExitCode
+    ensures { exit_status result ≡ status_number status }
+{
+    ExitCode::from(status.number())
 }
 
 /// The arguments without the program's name, or the status where they can't be had.

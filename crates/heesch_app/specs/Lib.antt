@@ -3,5 +3,6 @@ pub mod Given
 pub mod Inputs
 pub mod Outputs
 pub mod Ranges
+pub mod Statuses
 pub mod Tables
 pub mod Tilings

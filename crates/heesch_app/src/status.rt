@@ -1,3 +1,6 @@
+ghost use Rattle.std.specs.Prelude.{◌≡◌};
+ghost use Rattle.heesch_app.specs.Statuses.{status_number};
+
 /// How a run ended. The program ends with this number.
 #[derive(Clone, Copy, Debug, PartialEq, Eq)]
 pub enum Status {
@@ -15,4 +18,13 @@ pub enum Status {
     WriteFault = 5,
     /// Memory was refused.
     NoMemory = 6,
+}
+
+impl Status {
+    /// The number with which the program ends.
+    pub fn number(self) -> u8
+        ensures { result ≡ status_number self }
+    {
+        self as u8
+    }
 }
