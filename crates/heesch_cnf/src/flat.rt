@@ -149,4 +149,21 @@ impl FlatFormula {
         }
         Ok(())
     }
+
+    /// The same for a clause of packed literals, which are copied as they stand.
+    pub fn add_packed(&mut self, clause: &[PackedLit]) -> Result<(), NoMemory>
+        requires form { IsClause self.old.vars clause.now }
+        requires room { length self.old.clauses < 2 ^ 31 }
+        ensures ok { OnOk result (self.new ≡ record self.old { clauses = self.old.clauses ++ clause.now ∷ [] }) }
+        ensures err { OnErr result (self.new ≡ self.old) }
+    {
+        let start = self.literals.len();
+        self.literals.extend_from_slice(clause)?;
+        let end = self.literals.len();
+        if end > u32::MAX as usize || self.ends.push(end as u32).is_err() {
+            self.literals.truncate(start);
+            return Err(NoMemory);
+        }
+        Ok(())
+    }
 }
