@@ -106,7 +106,14 @@ fn take_support<G: Grid>(
     }
     let tile = universe.placement_of(var).shape();
     write_ring(&mut desk.ring, tile)?;
-    list_supporting(&mut desk.numbers, &mut desk.marks, universe, tile, &desk.ring, of - 1)?;
+    list_supporting(
+        &mut desk.numbers,
+        &mut desk.marks,
+        universe,
+        tile,
+        &desk.ring,
+        of - 1,
+    )?;
     write_implication(&mut desk.clause, var, &desk.numbers)?;
     collector.take(&desk.clause)
 }
@@ -130,7 +137,14 @@ fn take_apart<G: Grid>(
         → IsTaken result collector.old collector.new (apart_at universe.now.vars (var, x)) }
 {
     let cells = universe.placement_of(var).shape().cells();
-    list_meeting(&mut desk.numbers, &mut desk.marks, universe, cells, var, level)?;
+    list_meeting(
+        &mut desk.numbers,
+        &mut desk.marks,
+        universe,
+        cells,
+        var,
+        level,
+    )?;
     for other in &desk.numbers {
         collector.take(&[minus(var), minus(*other)])?;
     }
@@ -158,7 +172,15 @@ fn take_of<G: Grid>(
         → IsTaken result collector.old collector.new (clauses_at family G.geometry around shape.now level universe.now.vars (var, x)) }
 {
     match family {
-        Family::Covering => take_covering(universe, shape, level, var, &mut desk.ring, &mut desk.clause, collector),
+        Family::Covering => take_covering(
+            universe,
+            shape,
+            level,
+            var,
+            &mut desk.ring,
+            &mut desk.clause,
+            collector,
+        ),
         Family::Support => take_support(universe, var, desk, collector),
         Family::Apart => take_apart(universe, level, var, desk, collector),
     }
@@ -205,7 +227,21 @@ pub(crate) fn take_formula<G: Grid>(
 {
     let mut desk = Desk::new(alloc, universe)?;
     take_first(universe, shape, &mut desk.ring, &mut desk.clause, collector)?;
-    take_family(universe, shape, level, Family::Covering, &mut desk, collector)?;
-    take_family(universe, shape, level, Family::Support, &mut desk, collector)?;
+    take_family(
+        universe,
+        shape,
+        level,
+        Family::Covering,
+        &mut desk,
+        collector,
+    )?;
+    take_family(
+        universe,
+        shape,
+        level,
+        Family::Support,
+        &mut desk,
+        collector,
+    )?;
     take_family(universe, shape, level, Family::Apart, &mut desk, collector)
 }

@@ -44,10 +44,10 @@ loop-i-preserved g c =
     record {
       unmarked = c.in_ok-take_of.ensures.unmarked;
       taken = λ around gives.
-    let f : ℕ × Variable → List (List Lit) = clauses_at c.args.family g.G.Grid.geometry around c.args.shape.now c.args.level vars in
-    let v = get_or vars (i + 1 - 1) no_entry.1 in
-    let here : Takes c.loop-i.collector c.take_of.new.collector (f (get_or entries i no_entry)) = subst (λ x. Takes c.loop-i.collector c.take_of.new.collector (f x)) (sym (entry_read vars i less)) (c.in_ok-take_of.ensures.taken around v gives (some_at vars (i + 1) (omega arith) (omega arith))) in
-    piece_taken f entries c.args.collector.now c.loop-i.collector c.take_of.new.collector i no_entry (omega (arith, less, long)) (c.loop-i.invariant.taken around gives) here;
+          let f : ℕ × Variable → List (List Lit) = clauses_at c.args.family g.G.Grid.geometry around c.args.shape.now c.args.level vars in
+          let v = get_or vars (i + 1 - 1) no_entry.1 in
+          let here : Takes c.loop-i.collector c.take_of.new.collector (f (get_or entries i no_entry)) = subst (λ x. Takes c.loop-i.collector c.take_of.new.collector (f x)) (sym (entry_read vars i less)) (c.in_ok-take_of.ensures.taken around v gives (some_at vars (i + 1) (omega arith) (omega arith))) in
+          piece_taken f entries c.args.collector.now c.loop-i.collector c.take_of.new.collector i no_entry (omega (arith, less, long)) (c.loop-i.invariant.taken around gives) here;
     }
 
 pub returns-clause-taken : goal.returns-clause-taken
