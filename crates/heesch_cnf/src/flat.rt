@@ -3,7 +3,7 @@ ghost use Rattle.heesch_cnf.specs.Clauses.{IsClause, AreClauses};
 ghost use Rattle.heesch_cnf.specs.Flat.{AreEnds, start_at};
 
 use crate::{Formula, Lit, PackedLit};
-use heesch_io::NoMemory;
+use heesch_io::{NoMemory, Seq};
 use std::alloc::Global;
 use std::marker::Model;
 
@@ -51,6 +51,17 @@ fn append(literals: &mut Vec<PackedLit>, clause: &[Lit]) -> Result<(), NoMemory>
     Ok(())
 }
 
+/// The literals of a clause, without room to spare.
+fn unpacked(alloc: Global, clause: &[PackedLit]) -> Result<Vec<Lit>, NoMemory>
+    ensures { IfOk result (λ literals. literals.items ≡ clause.now) }
+{
+    let mut literals = Vec::with_capacity(alloc, clause.len())?;
+    for packed in clause {
+        literals.push(packed.lit())?;
+    }
+    Ok(literals)
+}
+
 impl FlatFormula {
     /// A formula without clauses. It takes no memory. Condition: fewer than 2^31 variables.
     pub fn new(alloc: Global, vars: u32) -> FlatFormula
@@ -77,6 +88,19 @@ impl FlatFormula {
             flat.add(clause.as_slice())?;
         }
         Ok(flat)
+    }
+
+    /// The clauses, copied, each without room to spare. The cost is the number of the clauses and that of their literals.
+    pub fn to_formula(&self, alloc: Global) -> Result<Formula, NoMemory>
+        ensures vars { IfOk result (λ f. f.vars ≡ self.now.vars) }
+        ensures clauses { IfOk result (λ f. f.clauses ≡ self.now.clauses) }
+    {
+        let mut formula = Formula::new(alloc, self.vars());
+        for index in 0..self.len() {
+            let literals = unpacked(alloc, self.clause(index))?;
+            formula.add(Seq::from_vec(literals))?;
+        }
+        Ok(formula)
     }
 
     /// The number of the variables.
@@ -118,6 +142,23 @@ impl FlatFormula {
             self.literals.truncate(start);
             return Err(NoMemory);
         }
+        let end = self.literals.len();
+        if end > u32::MAX as usize || self.ends.push(end as u32).is_err() {
+            self.literals.truncate(start);
+            return Err(NoMemory);
+        }
+        Ok(())
+    }
+
+    /// The same for a clause of packed literals, which are copied as they stand.
+    pub fn add_packed(&mut self, clause: &[PackedLit]) -> Result<(), NoMemory>
+        requires form { IsClause self.old.vars clause.now }
+        requires room { length self.old.clauses < 2 ^ 31 }
+        ensures ok { OnOk result (self.new ≡ record self.old { clauses = self.old.clauses ++ clause.now ∷ [] }) }
+        ensures err { OnErr result (self.new ≡ self.old) }
+    {
+        let start = self.literals.len();
+        self.literals.extend_from_slice(clause)?;
         let end = self.literals.len();
         if end > u32::MAX as usize || self.ends.push(end as u32).is_err() {
             self.literals.truncate(start);

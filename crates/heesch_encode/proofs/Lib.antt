@@ -1,4 +1,5 @@
 pub mod Rising
+pub mod Marking
 pub mod ClauseLists
 pub mod Implications
 pub mod Takings

@@ -1,5 +1,5 @@
 -- The clauses of a family piece by piece, and the families as the lists of their pieces.
-use Rattle.std.proofs.Common.{◌≡◌, refl, sym, ap, subst, ◌∙◌, ℕ, zero, suc, ◌+◌, ◌-◌, ◌<◌, ◌≤◌, List, [], ◌∷◌, ◌++◌, map, filter, length, get_or, take, drop, Bool, true, false, cond, not, ◌&&◌, ◌||◌, arith, Contains, true≢false, Err, inl, inr, lt-ltb, le-ltb, le-leb, ltb-true, eqb-true, eq-eqb, ne_eqb}
+use Rattle.std.proofs.Common.{◌≡◌, refl, sym, ap, subst, ◌∙◌, ℕ, zero, suc, ◌+◌, ◌-◌, ◌<◌, ◌≤◌, List, [], ◌∷◌, ◌++◌, map, filter, length, get_or, take, drop, All, Bool, true, false, cond, not, ◌&&◌, ◌||◌, arith, Contains, true≢false, Err, inl, inr, lt-ltb, le-ltb, le-leb, ltb-true, eqb-true, eq-eqb, ne_eqb}
 use Rattle.std.specs.Prelude.{nat_lt, nat_le, flat_map, ◌==◌, Some}
 use Rattle.std.specs.List.{enumerate_from, slice_get}
 use Rattle.heesch_cnf.specs.declared.literal.Lit.{Lit}
@@ -8,7 +8,7 @@ use Rattle.heesch_grid.specs.Cells.{has, meet, cell_before, cells_before}
 use Rattle.heesch_grid.specs.Clauses.{clause_of, no_variable, is_numbered}
 use Rattle.heesch_grid.specs.CoronaFormula.{Variable, variable_before, IsVariable, IsUniverse, covers, first_clauses, covering_clauses, support_clauses, apart_clauses}
 use Rattle.heesch_cert.specs.Literals.{literals}
-use Rattle.std.proofs.lemmas.Bool.{and_parts, and_from, and_left, and_right, or_cases, cases_Bool}
+use Rattle.std.proofs.lemmas.Bool.{and_parts, and_left, and_right, or_cases, cases_Bool, cases_order}
 use Rattle.std.proofs.lemmas.List.Concat.{flat_map_single}
 use Rattle.std.proofs.lemmas.List.FromFn.{get_or-enumerate_from}
 use Rattle.std.proofs.lemmas.List.Elements.{All-contains, Contains-get_or}
@@ -17,15 +17,15 @@ use Rattle.heesch_grid.specs.Pairs.{has-true}
 use Rattle.heesch_grid.specs.Placement.{touch}
 use Rattle.heesch_grid.specs.Integers.{same_truth}
 use Rattle.heesch_grid.specs.Listing.{IsRising, ListsExactly}
-use Rattle.heesch_grid.proofs.ListFacts.{filter_member}
+use Rattle.heesch_grid.proofs.ListFacts.{filter_member, All-from_members}
 use Rattle.heesch_grid.proofs.WindowFacts.{map_member}
 use Rattle.heesch_grid.proofs.ClauseFacts.{entry_made, entry_same, entry_variable, entries_ordered}
 use Rattle.heesch_place.specs.Universes.{IsNumbered, covering}
 use Rattle.heesch_encode.specs.Families.{covering_at, support_at, apart_at, clauses_at}
 use Rattle.heesch_encode.specs.declared.families.Family.TheVariants.{Covering, Support, Apart}
-use Rattle.heesch_encode.specs.Meeting.{numbers_of, meeting, supporting}
+use Rattle.heesch_encode.specs.Meeting.{numbers_of, meeting_after, supporting}
 use Rattle.heesch_encode.specs.Literals.{plus_all, lit_before, IsOfImplication}
-use Rattle.heesch_encode.proofs.ClauseLists.{choice_is, implication_is, exclusion_is, numbers_rising}
+use Rattle.heesch_encode.proofs.ClauseLists.{choice_is, implication_is, exclusion_is, numbers_rising, entry_range}
 use Rattle.heesch_encode.specs.declared.stop.EncodeStop.{EncodeStop}
 use Rattle.heesch_encode.specs.declared.stop.EncodeStop.TheVariants.{NoMemory}
 use Rattle.heesch_encode.specs.declared.collector.Collector.{Collector}
@@ -42,7 +42,7 @@ abbrev pub covering_piece : List Cell → List Variable → ℕ → ℕ → Cell
 covering_piece shape vars n level c = cond (not (has shape c)) (clause_of literals (is_numbered n) (covers (level + 1) c) vars ∷ []) []
 
 abbrev pub apart_piece : List Variable → ℕ → ℕ → List (List Lit)
-apart_piece vars u n = cond (nat_lt u n) (clause_of literals (λ x. is_numbered u x || is_numbered n x) no_variable vars ∷ []) []
+apart_piece vars u n = clause_of literals (λ x. is_numbered u x || is_numbered n x) no_variable vars ∷ []
 
 -- ---- one piece after another
 
@@ -132,46 +132,54 @@ level_order vars rising u x in_u in_x less =
       | inr h ↦ let e = eqb-true u.1.level x.1.level (and_parts (u.1.level == x.1.level) (cells_before u.1.tile x.1.tile) h).0 in omega arith
     ]
 
-filter_map_first : (p : ℕ → Bool) (xs : List (ℕ × Variable)) → filter p (numbers_of xs) ≡ numbers_of (filter (λ (x : ℕ × Variable). p x.0) xs)
-filter_map_first p [] = refl
-filter_map_first p (x ∷ xs) =
-    elim (p x.0) as (λ b. cond b (x.0 ∷ filter p (numbers_of xs)) (filter p (numbers_of xs)) ≡ numbers_of (cond b (x ∷ filter (λ (x : ℕ × Variable). p x.0) xs) (filter (λ (x : ℕ × Variable). p x.0) xs))) [ true ↦ ap (λ zs. x.0 ∷ zs) (filter_map_first p xs) | false ↦ filter_map_first p xs ]
+-- a later variable has no lower level
+pub numbered_order : (vars : List Variable) → IsRising variable_before vars → (m n : ℕ) (x y : Variable) → IsNumbered vars m x → IsNumbered vars n y → m ≤ n → x.level ≤ y.level
+numbered_order vars rising m n x y at_m at_n le =
+    elim (cases_order m n) [
+      | inl e ↦ let same = ap (λ (z : Variable). z.level) (entry_same vars (m, x) (n, y) (entry_made vars m x at_m) (entry_made vars n y at_n) e) in omega arith
+      | inr o ↦ elim o [ inl less ↦ level_order vars rising (m, x) (n, y) (entry_made vars m x at_m) (entry_made vars n y at_n) less | inr more ↦ absurd (omega arith) ]
+    ]
 
 map_numbers : {Y : Type 0} (f : ℕ → Y) (xs : List (ℕ × Variable)) → map f (numbers_of xs) ≡ map (λ (x : ℕ × Variable). f x.0) xs
 map_numbers f [] = refl
 map_numbers f (x ∷ xs) = ap (λ zs. f x.0 ∷ zs) (map_numbers f xs)
 
-pub apart_is : (g : Geometry) (shape : List Cell) (j : ℕ) (vars : List Variable) (n level : ℕ) (v : Variable) (tile : List Cell) (items : List ℕ) → IsUniverse g shape j vars → IsNumbered vars n v → level ≡ v.level → tile ≡ v.tile → items ≡ meeting vars level j tile → flat_map (apart_piece vars n) items ≡ apart_at vars (n, v)
-apart_is g shape j vars n level v tile items universe number at is_tile is =
-    flat_map_filter (nat_lt n) clause items ∙ ap (λ ns. map clause (filter (nat_lt n) ns)) (is ∙ (λ i. meeting vars (at i) j (is_tile i)))
-    ∙ ap (map clause) (filter_map_first (nat_lt n) (filter test (enumerate_from 1 vars)))
-    ∙ map_numbers clause (filter (λ (x : ℕ × Variable). nat_lt n x.0) (filter test (enumerate_from 1 vars)))
-    ∙ ap (map (λ (x : ℕ × Variable). clause x.0)) (filter_both test (λ (x : ℕ × Variable). nat_lt n x.0) (λ (x : ℕ × Variable). nat_lt n x.0 && meet v.tile x.1.tile) (enumerate_from 1 vars) agree)
+filter_same : (p q : ℕ × Variable → Bool) (xs : List (ℕ × Variable)) → ((x : ℕ × Variable) → Contains xs x → p x ≡ q x) → filter p xs ≡ filter q xs
+filter_same p q xs e = sym (all_pass xs) ∙ filter_both (λ x. true) p q xs (λ x m. sym (e x m))
+  where
+    all_pass : (xs : List (ℕ × Variable)) → filter p (filter (λ x. true) xs) ≡ filter p xs
+    all_pass [] = refl
+    all_pass (x ∷ xs) = ap (λ zs. cond (p x) (x ∷ zs) zs) (all_pass xs)
+
+pub apart_is : (g : Geometry) (shape : List Cell) (j : ℕ) (vars : List Variable) (n : ℕ) (v : Variable) (tile : List Cell) (items : List ℕ) → IsUniverse g shape j vars → tile ≡ v.tile → items ≡ meeting_after vars n j tile → flat_map (apart_piece vars n) items ≡ apart_at vars (n, v)
+apart_is g shape j vars n v tile items universe is_tile is =
+    flat_map_single clause items ∙ ap (map clause) (is ∙ (λ i. meeting_after vars n j (is_tile i)))
+    ∙ map_numbers clause (filter test (enumerate_from 1 vars))
+    ∙ ap (map (λ (x : ℕ × Variable). clause x.0)) (filter_same test (λ (x : ℕ × Variable). nat_lt n x.0 && meet v.tile x.1.tile) (enumerate_from 1 vars) agree)
   where
     clause : ℕ → List Lit
     clause m = clause_of literals (λ x. is_numbered n x || is_numbered m x) no_variable vars
 
     test : ℕ × Variable → Bool
-    test x = (nat_le v.level x.1.level && nat_le x.1.level j) && meet v.tile x.1.tile
+    test x = (nat_lt n x.0 && nat_le x.1.level j) && meet v.tile x.1.tile
 
-    agree : (x : ℕ × Variable) → Contains (enumerate_from 1 vars) x → (nat_lt n x.0 && meet v.tile x.1.tile) ≡ (test x && nat_lt n x.0)
+    and_true : (b : Bool) → (b && true) ≡ b
+    and_true true = refl
+    and_true false = refl
+
+    agree : (x : ℕ × Variable) → Contains (enumerate_from 1 vars) x → test x ≡ (nat_lt n x.0 && meet v.tile x.1.tile)
     agree x m =
-        same_truth (nat_lt n x.0 && meet v.tile x.1.tile) (test x && nat_lt n x.0)
-        (λ t.
-        let both = and_parts (nat_lt n x.0) (meet v.tile x.1.tile) t in
-        let low : v.level ≤ x.1.level = level_order vars universe.rising (n, v) x (entry_made vars n v number) m (ltb-true n x.0 both.0) in
         let high : x.1.level ≤ j = (All-contains (IsVariable g shape j) vars x.1 universe.only (entry_variable vars 1 x m)).level_to in
-        and_from (test x) (nat_lt n x.0)
-        (and_from (nat_le v.level x.1.level && nat_le x.1.level j) (meet v.tile x.1.tile) (and_from (nat_le v.level x.1.level) (nat_le x.1.level j) (le-leb v.level x.1.level low) (le-leb x.1.level j high)) both.1) both.0)
-        (λ t.
-        let both = and_parts (test x) (nat_lt n x.0) t in
-        and_from (nat_lt n x.0) (meet v.tile x.1.tile) both.1 (and_parts (nat_le v.level x.1.level && nat_le x.1.level j) (meet v.tile x.1.tile) both.0).1)
+        ap (λ b. (nat_lt n x.0 && b) && meet v.tile x.1.tile) (le-leb x.1.level j high) ∙ ap (λ b. b && meet v.tile x.1.tile) (and_true (nat_lt n x.0))
 
 -- the clause of two of them
-pub apart_clause : (vars : List Variable) (least most : ℕ) (cells : List Cell) (n : ℕ) (v : Variable) (items : List ℕ) (i : ℕ) → IsNumbered vars n v → items ≡ meeting vars least most cells → i < length items → n < get_or items i 0 → literals.minus n ∷ literals.minus (get_or items i 0) ∷ [] ≡ clause_of literals (λ x. is_numbered n x || is_numbered (get_or items i 0) x) no_variable vars
-apart_clause vars least most cells n v items i number is l less =
-    let test = λ (x : ℕ × Variable). (nat_le least x.1.level && nat_le x.1.level most) && meet cells x.1.tile in
+pub apart_clause : (vars : List Variable) (most : ℕ) (cells : List Cell) (n : ℕ) (v : Variable) (items : List ℕ) (i : ℕ) → IsNumbered vars n v → items ≡ meeting_after vars n most cells → i < length items → literals.minus n ∷ literals.minus (get_or items i 0) ∷ [] ≡ clause_of literals (λ x. is_numbered n x || is_numbered (get_or items i 0) x) no_variable vars
+apart_clause vars most cells n v items i number is l =
+    let test = λ (x : ℕ × Variable). (nat_lt n x.0 && nat_le x.1.level most) && meet cells x.1.tile in
     let p : IsPlaced vars (filter test (enumerate_from 1 vars)) items i = placed vars (filter test (enumerate_from 1 vars)) items i (λ x m. (filter_member test (enumerate_from 1 vars) x m).0) is l in
+    let member = map_member (λ (x : ℕ × Variable). x.0) (filter test (enumerate_from 1 vars)) (get_or items i 0) (subst (λ ns. Contains ns (get_or items i 0)) is (Contains-get_or items i 0 l)) in
+    let f = filter_member test (enumerate_from 1 vars) member.0 member.1 in
+    let less : n < get_or items i 0 = subst (λ m. n < m) member.2 (ltb-true n member.0.0 (and_parts (nat_lt n member.0.0) (nat_le member.0.1.level most) (and_parts (nat_lt n member.0.0 && nat_le member.0.1.level most) (meet cells member.0.1.tile) f.1).0).0) in
     subst (λ m. literals.minus n ∷ literals.minus m ∷ [] ≡ clause_of literals (λ x. is_numbered n x || is_numbered m x) no_variable vars) (sym p.number) (exclusion_is vars (n, v) p.of (entry_made vars n v number) p.is_in (subst (λ m. n < m) p.number less))
 
 -- ---- variables by their numbers
@@ -218,3 +226,25 @@ support_family g around shape j vars =
 
 pub apart_family : (g : Geometry) (around : List Cell → List Cell) (shape : List Cell) (j : ℕ) (vars : List Variable) → flat_map (clauses_at Apart g around shape j vars) (enumerate_from 1 vars) ≡ apart_clauses literals vars
 apart_family g around shape j vars = refl
+
+-- ---- numbers below 2^31
+
+pub supporting_small : (g : Geometry) (vars : List Variable) (level : ℕ) (tile : List Cell) (size : ℕ) → length vars < size → All (λ n. n < size) (supporting g vars level tile)
+supporting_small g vars level tile size l =
+    All-from_members (λ n. n < size) (supporting g vars level tile)
+    (λ n m.
+    let test = λ (x : ℕ × Variable). x.1.level == level && touch g x.1.tile tile in
+    let r = map_member (λ (x : ℕ × Variable). x.0) (filter test (enumerate_from 1 vars)) n m in
+    let f = filter_member test (enumerate_from 1 vars) r.0 r.1 in
+    let range = (entry_range vars r.0 f.0).1 in
+    subst (λ k. k < size) r.2 (omega arith))
+
+pub meeting_small : (vars : List Variable) (above most : ℕ) (cells : List Cell) (size : ℕ) → length vars < size → All (λ n. n < size) (meeting_after vars above most cells)
+meeting_small vars above most cells size l =
+    All-from_members (λ n. n < size) (meeting_after vars above most cells)
+    (λ n m.
+    let test = λ (x : ℕ × Variable). (nat_lt above x.0 && nat_le x.1.level most) && meet cells x.1.tile in
+    let r = map_member (λ (x : ℕ × Variable). x.0) (filter test (enumerate_from 1 vars)) n m in
+    let f = filter_member test (enumerate_from 1 vars) r.0 r.1 in
+    let range = (entry_range vars r.0 f.0).1 in
+    subst (λ k. k < size) r.2 (omega arith))

@@ -1,5 +1,5 @@
 -- Clauses taken one after the other.
-use Rattle.std.proofs.Common.{◌≡◌, refl, sym, ap, subst, ◌∙◌, ℕ, ◌+◌, ◌<◌, List, [], ◌++◌, Bool, true, false, cond, Ok, Err, arith}
+use Rattle.std.proofs.Common.{◌≡◌, refl, sym, ap, subst, ◌∙◌, ℕ, ◌+◌, ◌<◌, List, [], ◌++◌, Ok, Err, arith}
 use Rattle.std.proofs.lemmas.List.{append-nil, append_assoc}
 use Rattle.std.proofs.lemmas.List.Sums.{sum_by-append}
 use Rattle.std.specs.Prelude.{length}
@@ -17,25 +17,14 @@ pub size-append : (xs ys : Clauses) → formula_size (xs ++ ys) ≡ formula_size
 size-append xs ys = sum_by-append length xs ys
 
 pub takes_none : (c : Collector) → Takes c c []
-takes_none c = record { room = omega arith; keeps = refl; vars = refl; kept = none c.keeps c.formula.clauses }
-  where
-    none : (b : Bool) (xs : Clauses) → xs ≡ cond b (xs ++ []) xs
-    none true xs = sym (append-nil xs)
-    none false xs = refl
+takes_none c = record { room = omega arith; vars = refl; kept = sym (append-nil c.formula.clauses) }
 
 pub takes_more : (a b c : Collector) (xs ys : Clauses) → Takes a b xs → Takes b c ys → Takes a c (xs ++ ys)
 takes_more a b c xs ys s t = record {
   room = let p = s.room in let q = t.room in let e = size-append xs ys in omega arith;
-  keeps = t.keeps ∙ s.keeps;
   vars = t.vars ∙ s.vars;
-  kept = t.kept ∙ join a.keeps b.keeps a.formula.clauses b.formula.clauses s.keeps s.kept;
+  kept = t.kept ∙ ap (λ zs. zs ++ ys) s.kept ∙ append_assoc a.formula.clauses xs ys;
 }
-  where
-    join : (k l : Bool) (before mid : Clauses) → l ≡ k → mid ≡ cond k (before ++ xs) before → cond l (mid ++ ys) mid ≡ cond k (before ++ (xs ++ ys)) before
-    join true true before mid e f = ap (λ zs. zs ++ ys) f ∙ append_assoc before xs ys
-    join true false before mid e f = absurd cc
-    join false true before mid e f = absurd cc
-    join false false before mid e f = f
 
 pub full_left : (n : ℕ) (xs ys : Clauses) → n < formula_size xs → n < formula_size (xs ++ ys)
 full_left n xs ys l = let e = size-append xs ys in omega arith

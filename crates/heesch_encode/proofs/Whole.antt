@@ -1,5 +1,5 @@
 -- The whole formula.
-use Rattle.std.proofs.Common.{◌≡◌, refl, subst, ◌∙◌, ℕ, ◌<◌, ◌≤◌, List, [], ◌++◌, length, true, cond, arith, Err}
+use Rattle.std.proofs.Common.{◌≡◌, refl, ap, subst, ◌∙◌, ℕ, ◌<◌, ◌≤◌, List, [], ◌++◌, length, arith, Err}
 use Rattle.heesch_grid.specs.declared.Cell.{Cell}
 use Rattle.heesch_grid.specs.Geometry.{Geometry, IsGrid}
 use Rattle.heesch_grid.specs.Clauses.{formula_size}
@@ -26,8 +26,8 @@ counted g law shape j vars count clauses universe number is = record {
 }
 
 -- what a collector without a clause keeps
-pub kept_all : (a b : Collector) (xs : Clauses) → Takes a b xs → a.keeps ≡ true → a.formula.clauses ≡ [] → b.formula.clauses ≡ xs
-kept_all a b xs t keeps none = t.kept ∙ (λ i. cond (keeps i) (none i ++ xs) (none i))
+pub kept_all : (a b : Collector) (xs : Clauses) → Takes a b xs → a.formula.clauses ≡ [] → b.formula.clauses ≡ xs
+kept_all a b xs t none = t.kept ∙ ap (λ zs. zs ++ xs) none
 
 pub fits_all : (a b : Collector) (xs : Clauses) (size : ℕ) → Takes a b xs → a.room ≡ size → formula_size xs ≤ size
 fits_all a b xs size t room = let e = t.room in omega arith

@@ -1,4 +1,5 @@
 pub mod Families
 pub mod Literals
+pub mod Marks
 pub mod Meeting
 pub mod Taking

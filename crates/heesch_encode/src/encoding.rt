@@ -12,7 +12,7 @@ ghost use Rattle.heesch_place.specs.Universes.{IsUniverseOf};
 use crate::collector::Collector;
 use crate::families::take_formula;
 use crate::stop::EncodeStop;
-use heesch_cnf::Formula;
+use heesch_cnf::{FlatFormula, Formula};
 use heesch_grid::Grid;
 use heesch_place::Universe;
 use heesch_shape::Shape;
@@ -25,14 +25,59 @@ pub struct Encoded<G: Grid> {
     pub formula: Formula,
 }
 
-/// The corona formula of a shape and a level, where it has at most `size` literals.
+/// A corona formula whose clauses stand in one array, and what its variables stand for.
+#[derive(Drop)]
+pub struct FlatEncoded<G: Grid> {
+    pub universe: Universe<G>,
+    pub formula: FlatFormula,
+}
+
+/// The corona formula of a shape and a level, where it has at most `size` literals, with its clauses in one array.
 ///
 /// It has a model exactly where so many coronas of the shape exist, holes allowed, and the true variables of level k of a
 /// model are the k-th corona. Condition: the shape is canonical, the level 1 to 6, the size 1 to 60,000,000. `TooLarge`
 /// exactly where the formula has more than `size` literals; `NoMemory` says nothing more.
 ///
-/// The clauses are made twice, first to be counted, up to the first literal too many, and then to be kept, each without
-/// room to spare. Variables are found by the cells of their tiles, never by a look at all pairs.
+/// The clauses are made once, up to the first literal too many. Variables are found by the cells of their tiles, never by a
+/// look at all pairs.
+pub fn encode_flat<G: Grid>(
+    alloc: Global,
+    shape: &Shape<G>,
+    level: u32,
+    size: u32,
+) -> Result<FlatEncoded<G>, EncodeStop>
+    requires level { (1 ≤ level) × (level ≤ 6) }
+    requires canonical { IsCanonicalListOf G.geometry shape.now shape.now }
+    requires size { (1 ≤ size) × (size ≤ 60000000) }
+    ensures universe { IfOk result (λ e. IsUniverseOf G.geometry e.universe) }
+    ensures shape { IfOk result (λ e. e.universe.shape ≡ shape.now) }
+    ensures level { IfOk result (λ e. e.universe.level ≡ level) }
+    ensures formula { IfOk result (λ e. IsCountedFormula G.geometry shape.now level e.universe.vars e.formula.vars e.formula.clauses) }
+    ensures fits { IfOk result (λ e. formula_size e.formula.clauses ≤ size) }
+    ensures too_large { IsErrOf result EncodeStop.TooLarge → IsTooLarge G.geometry shape.now level size }
+
+    ensures satisfiable { IfOk result (λ e. ((values : ℕ → Bool) × Satisfies values e.formula.clauses) ↔ HasCoronas G.geometry shape.now level) }
+    ensures models { IfOk result (λ e. (values : ℕ → Bool) → Satisfies values e.formula.clauses
+        → AreCoronas G.geometry shape.now (chosen_layers values e.universe.vars level)) }
+{
+    // Reading the cells tells the proof that they are a polyform.
+    let _cells = shape.cells();
+    let universe = Universe::of(alloc, shape, level)?;
+    let mut collector = Collector::new(alloc, universe.count(), size);
+    take_formula(alloc, &universe, shape, level, &mut collector)?;
+    Ok(FlatEncoded {
+        universe,
+        formula: collector.formula,
+    })
+}
+
+/// The same formula, with a list for each clause.
+///
+/// It has a model exactly where so many coronas of the shape exist, holes allowed, and the true variables of level k of a
+/// model are the k-th corona. Condition: the shape is canonical, the level 1 to 6, the size 1 to 60,000,000. `TooLarge`
+/// exactly where the formula has more than `size` literals; `NoMemory` says nothing more.
+///
+/// The cost is that of `encode_flat`, and of a copy of each clause without room to spare.
 pub fn encode<G: Grid>(
     alloc: Global,
     shape: &Shape<G>,
@@ -53,15 +98,7 @@ pub fn encode<G: Grid>(
     ensures models { IfOk result (λ e. (values : ℕ → Bool) → Satisfies values e.formula.clauses
         → AreCoronas G.geometry shape.now (chosen_layers values e.universe.vars level)) }
 {
-    // Reading the cells tells the proof that they are a polyform.
-    let _cells = shape.cells();
-    let universe = Universe::of(alloc, shape, level)?;
-    let mut counter = Collector::new(alloc, universe.count(), size, false);
-    take_formula(alloc, &universe, shape, level, &mut counter)?;
-    let mut keeper = Collector::new(alloc, universe.count(), size, true);
-    take_formula(alloc, &universe, shape, level, &mut keeper)?;
-    Ok(Encoded {
-        universe,
-        formula: keeper.formula,
-    })
+    let FlatEncoded { universe, formula } = encode_flat(alloc, shape, level, size)?;
+    let formula = formula.to_formula(alloc)?;
+    Ok(Encoded { universe, formula })
 }

@@ -1,19 +1,22 @@
 //! The four families of clauses.
-ghost use Rattle.std.specs.Prelude.{◌≡◌, ◌≤◌, ℕ, List, length, flat_map};
+ghost use Rattle.std.specs.Prelude.{◌≡◌, ◌≤◌, ◌<◌, ◌^◌, ℕ, List, OnOk, length, flat_map};
 ghost use Rattle.std.specs.List.{enumerate_from};
 ghost use Rattle.heesch_grid.specs.declared.Cell.{Cell};
 ghost use Rattle.heesch_grid.specs.CoronaFormula.{Variable, GivesCellsAround, first_clauses, corona_clauses};
 ghost use Rattle.heesch_cert.specs.Literals.{literals};
 ghost use Rattle.heesch_place.specs.Universes.{IsUniverseOf, IsNumbered};
+ghost use Rattle.heesch_encode.specs.Marks.{AreUnmarked};
 ghost use Rattle.heesch_encode.specs.Taking.{IsTaken};
 ghost use Rattle.heesch_encode.specs.Families.{covering_at, support_at, apart_at, clauses_at};
 
 use crate::clauses::{minus, write_choice, write_implication};
 use crate::collector::Collector;
-use crate::meeting::{meeting, supporting};
-use crate::ring::ring_of;
+use crate::desk::Desk;
+use crate::meeting::{list_meeting, list_supporting};
+use crate::ring::write_ring;
 use crate::stop::EncodeStop;
-use heesch_grid::Grid;
+use heesch_cnf::PackedLit;
+use heesch_grid::{Cell, Grid};
 use heesch_place::Universe;
 use heesch_shape::Shape;
 use std::alloc::Global;
@@ -31,20 +34,21 @@ pub(crate) enum Family {
 
 /// Each cell around the shape is covered at level 1.
 fn take_first<G: Grid>(
-    alloc: Global,
     universe: &Universe<G>,
     shape: &Shape<G>,
+    ring: &mut Vec<Cell>,
+    clause: &mut Vec<PackedLit>,
     collector: &mut Collector,
 ) -> Result<(), EncodeStop>
+    requires few { length universe.now.vars < 2 ^ 31 }
     requires vars { collector.old.formula.vars ≡ length universe.now.vars }
     ensures { (around : List Cell → List Cell) → GivesCellsAround G.geometry around
         → IsTaken result collector.old collector.new (first_clauses literals around shape.now universe.now.vars) }
 {
-    let ring = ring_of(alloc, shape)?;
-    let mut clause = Vec::new(alloc);
-    for c in &ring {
-        write_choice(&mut clause, universe.covered_by(*c, 1))?;
-        collector.take(alloc, &clause)?;
+    write_ring(ring, shape)?;
+    for c in ring.as_slice() {
+        write_choice(clause, universe.covered_by(*c, 1))?;
+        collector.take(clause.as_slice())?;
     }
     Ok(())
 }
@@ -52,13 +56,15 @@ fn take_first<G: Grid>(
 /// Where the variable is true and of a level below `level`, each cell around its tile and outside the shape is covered
 /// one level above it or below.
 fn take_covering<G: Grid>(
-    alloc: Global,
     universe: &Universe<G>,
     shape: &Shape<G>,
     level: u32,
     var: u32,
+    ring: &mut Vec<Cell>,
+    clause: &mut Vec<PackedLit>,
     collector: &mut Collector,
 ) -> Result<(), EncodeStop>
+    requires few { length universe.now.vars < 2 ^ 31 }
     requires number { (1 ≤ var) × (var ≤ length universe.now.vars) }
     requires vars { collector.old.formula.vars ≡ length universe.now.vars }
     ensures { (around : List Cell → List Cell) (x : Variable) → GivesCellsAround G.geometry around → IsNumbered universe.now.vars var x
@@ -68,12 +74,11 @@ fn take_covering<G: Grid>(
     if of >= level {
         return Ok(());
     }
-    let ring = ring_of(alloc, universe.placement_of(var).shape())?;
-    let mut clause = Vec::new(alloc);
-    for c in &ring {
+    write_ring(ring, universe.placement_of(var).shape())?;
+    for c in ring.as_slice() {
         if !shape.has(*c) {
-            write_implication(&mut clause, var, universe.covered_by(*c, of + 1))?;
-            collector.take(alloc, &clause)?;
+            write_implication(clause, var, universe.covered_by(*c, of + 1))?;
+            collector.take(clause.as_slice())?;
         }
     }
     Ok(())
@@ -81,92 +86,126 @@ fn take_covering<G: Grid>(
 
 /// Where the variable is true and of level 2 or more, one of the level below whose tile touches its own is.
 fn take_support<G: Grid>(
-    alloc: Global,
     universe: &Universe<G>,
     var: u32,
+    desk: &mut Desk,
     collector: &mut Collector,
 ) -> Result<(), EncodeStop>
+    requires universe { IsUniverseOf G.geometry universe.now }
+    requires few { length universe.now.vars < 2 ^ 31 }
+    requires unmarked { AreUnmarked (length universe.now.vars) desk.old.marks.words.items }
     requires number { (1 ≤ var) × (var ≤ length universe.now.vars) }
     requires vars { collector.old.formula.vars ≡ length universe.now.vars }
-    ensures { (x : Variable) → IsNumbered universe.now.vars var x
+    ensures unmarked { OnOk result (AreUnmarked (length universe.now.vars) desk.new.marks.words.items) }
+    ensures taken { (x : Variable) → IsNumbered universe.now.vars var x
         → IsTaken result collector.old collector.new (support_at G.geometry universe.now.vars (var, x)) }
 {
     let of = universe.level_of(var);
     if of < 2 {
         return Ok(());
     }
-    let numbers = supporting(alloc, universe, universe.placement_of(var).shape(), of - 1)?;
-    let mut clause = Vec::new(alloc);
-    write_implication(&mut clause, var, &numbers)?;
-    collector.take(alloc, &clause)
+    let tile = universe.placement_of(var).shape();
+    write_ring(&mut desk.ring, tile)?;
+    list_supporting(
+        &mut desk.numbers,
+        &mut desk.marks,
+        universe,
+        tile,
+        &desk.ring,
+        of - 1,
+    )?;
+    write_implication(&mut desk.clause, var, &desk.numbers)?;
+    collector.take(&desk.clause)
 }
 
 /// Not both the variable and a later one whose tile meets its own.
 fn take_apart<G: Grid>(
-    alloc: Global,
     universe: &Universe<G>,
     level: u32,
     var: u32,
+    desk: &mut Desk,
     collector: &mut Collector,
 ) -> Result<(), EncodeStop>
     requires universe { IsUniverseOf G.geometry universe.now }
     requires level { universe.now.level ≡ level }
+    requires few { length universe.now.vars < 2 ^ 31 }
     requires number { (1 ≤ var) × (var ≤ length universe.now.vars) }
     requires vars { collector.old.formula.vars ≡ length universe.now.vars }
-    ensures { (x : Variable) → IsNumbered universe.now.vars var x
+    requires unmarked { AreUnmarked (length universe.now.vars) desk.old.marks.words.items }
+    ensures unmarked { OnOk result (AreUnmarked (length universe.now.vars) desk.new.marks.words.items) }
+    ensures taken { (x : Variable) → IsNumbered universe.now.vars var x
         → IsTaken result collector.old collector.new (apart_at universe.now.vars (var, x)) }
 {
     let cells = universe.placement_of(var).shape().cells();
-    let numbers = meeting(alloc, universe, cells, universe.level_of(var), level)?;
-    for other in &numbers {
-        if var < *other {
-            collector.take(alloc, &[minus(var), minus(*other)])?;
-        }
+    list_meeting(
+        &mut desk.numbers,
+        &mut desk.marks,
+        universe,
+        cells,
+        var,
+        level,
+    )?;
+    for other in &desk.numbers {
+        collector.take(&[minus(var), minus(*other)])?;
     }
     Ok(())
 }
 
 /// The clauses of a family for one variable.
 fn take_of<G: Grid>(
-    alloc: Global,
     universe: &Universe<G>,
     shape: &Shape<G>,
     level: u32,
     family: Family,
     var: u32,
+    desk: &mut Desk,
     collector: &mut Collector,
 ) -> Result<(), EncodeStop>
     requires universe { IsUniverseOf G.geometry universe.now }
     requires level { universe.now.level ≡ level }
+    requires few { length universe.now.vars < 2 ^ 31 }
     requires number { (1 ≤ var) × (var ≤ length universe.now.vars) }
     requires vars { collector.old.formula.vars ≡ length universe.now.vars }
-    ensures { (around : List Cell → List Cell) (x : Variable) → GivesCellsAround G.geometry around → IsNumbered universe.now.vars var x
+    requires unmarked { AreUnmarked (length universe.now.vars) desk.old.marks.words.items }
+    ensures unmarked { OnOk result (AreUnmarked (length universe.now.vars) desk.new.marks.words.items) }
+    ensures taken { (around : List Cell → List Cell) (x : Variable) → GivesCellsAround G.geometry around → IsNumbered universe.now.vars var x
         → IsTaken result collector.old collector.new (clauses_at family G.geometry around shape.now level universe.now.vars (var, x)) }
 {
     match family {
-        Family::Covering => take_covering(alloc, universe, shape, level, var, collector),
-        Family::Support => take_support(alloc, universe, var, collector),
-        Family::Apart => take_apart(alloc, universe, level, var, collector),
+        Family::Covering => take_covering(
+            universe,
+            shape,
+            level,
+            var,
+            &mut desk.ring,
+            &mut desk.clause,
+            collector,
+        ),
+        Family::Support => take_support(universe, var, desk, collector),
+        Family::Apart => take_apart(universe, level, var, desk, collector),
     }
 }
 
 /// The clauses of a family, by variables.
 fn take_family<G: Grid>(
-    alloc: Global,
     universe: &Universe<G>,
     shape: &Shape<G>,
     level: u32,
     family: Family,
+    desk: &mut Desk,
     collector: &mut Collector,
 ) -> Result<(), EncodeStop>
     requires universe { IsUniverseOf G.geometry universe.now }
     requires level { universe.now.level ≡ level }
+    requires few { length universe.now.vars < 2 ^ 31 }
     requires vars { collector.old.formula.vars ≡ length universe.now.vars }
-    ensures { (around : List Cell → List Cell) → GivesCellsAround G.geometry around
+    requires unmarked { AreUnmarked (length universe.now.vars) desk.old.marks.words.items }
+    ensures unmarked { OnOk result (AreUnmarked (length universe.now.vars) desk.new.marks.words.items) }
+    ensures taken { (around : List Cell → List Cell) → GivesCellsAround G.geometry around
         → IsTaken result collector.old collector.new (flat_map (clauses_at family G.geometry around shape.now level universe.now.vars) (enumerate_from 1 universe.now.vars)) }
 {
     for i in 0..universe.count() {
-        take_of(alloc, universe, shape, level, family, i + 1, collector)?;
+        take_of(universe, shape, level, family, i + 1, desk, collector)?;
     }
     Ok(())
 }
@@ -181,12 +220,28 @@ pub(crate) fn take_formula<G: Grid>(
 ) -> Result<(), EncodeStop>
     requires universe { IsUniverseOf G.geometry universe.now }
     requires level { universe.now.level ≡ level }
+    requires few { length universe.now.vars < 2 ^ 31 }
     requires vars { collector.old.formula.vars ≡ length universe.now.vars }
     ensures { (around : List Cell → List Cell) → GivesCellsAround G.geometry around
         → IsTaken result collector.old collector.new (corona_clauses literals G.geometry around shape.now level universe.now.vars) }
 {
-    take_first(alloc, universe, shape, collector)?;
-    take_family(alloc, universe, shape, level, Family::Covering, collector)?;
-    take_family(alloc, universe, shape, level, Family::Support, collector)?;
-    take_family(alloc, universe, shape, level, Family::Apart, collector)
+    let mut desk = Desk::new(alloc, universe)?;
+    take_first(universe, shape, &mut desk.ring, &mut desk.clause, collector)?;
+    take_family(
+        universe,
+        shape,
+        level,
+        Family::Covering,
+        &mut desk,
+        collector,
+    )?;
+    take_family(
+        universe,
+        shape,
+        level,
+        Family::Support,
+        &mut desk,
+        collector,
+    )?;
+    take_family(universe, shape, level, Family::Apart, &mut desk, collector)
 }

@@ -3,14 +3,16 @@
 
 mod clauses;
 mod collector;
+mod desk;
 mod encoding;
 mod families;
 mod lists;
+mod marks;
 mod meeting;
 mod ring;
 mod stop;
 
-pub use encoding::{Encoded, encode};
+pub use encoding::{Encoded, FlatEncoded, encode, encode_flat};
 pub use stop::EncodeStop;
 
 #[cfg(test)]

@@ -1,5 +1,5 @@
 //! The cells around a tile.
-ghost use Rattle.std.specs.Prelude.{◌≡◌, ◌++◌, List, filter, not, OnOk, IfOk};
+ghost use Rattle.std.specs.Prelude.{◌≡◌, ◌++◌, List, filter, not, OnOk};
 ghost use Rattle.heesch_grid.specs.declared.Cell.{Cell};
 ghost use Rattle.heesch_grid.specs.Cells.{cell_before, has};
 ghost use Rattle.heesch_grid.specs.CoronaFormula.{GivesCellsAround};
@@ -11,7 +11,6 @@ use crate::lists::add;
 use heesch_grid::{Cell, Grid};
 use heesch_io::NoMemory;
 use heesch_shape::Shape;
-use std::alloc::Global;
 
 /// Adds the cells that touch c and aren't the tile's, in cell order.
 fn add_touching<G: Grid>(ring: &mut Vec<Cell>, tile: &Shape<G>, c: Cell) -> Result<(), NoMemory>
@@ -28,16 +27,17 @@ fn add_touching<G: Grid>(ring: &mut Vec<Cell>, tile: &Shape<G>, c: Cell) -> Resu
     Ok(())
 }
 
-/// The cells around a tile, in cell order. It looks at the neighbours of each cell once, and sorts at most 384.
-pub(crate) fn ring_of<G: Grid>(alloc: Global, tile: &Shape<G>) -> Result<Vec<Cell>, NoMemory>
-    ensures listed { IfOk result (λ ring. ListsExactly cell_before (IsAround G.geometry tile.now) ring.items) }
-    ensures given { IfOk result (λ ring. (around : List Cell → List Cell) → GivesCellsAround G.geometry around → ring.items ≡ around tile.now) }
+/// Lists the cells around a tile, in cell order, in place of what the list had. It looks at the neighbours of each cell once,
+/// and sorts at most 384.
+pub(crate) fn write_ring<G: Grid>(ring: &mut Vec<Cell>, tile: &Shape<G>) -> Result<(), NoMemory>
+    ensures listed { OnOk result (ListsExactly cell_before (IsAround G.geometry tile.now) ring.new.items) }
+    ensures given { OnOk result ((around : List Cell → List Cell) → GivesCellsAround G.geometry around → ring.new.items ≡ around tile.now) }
 {
-    let mut ring = Vec::new(alloc);
+    ring.clear();
     for c in tile.cells() {
-        add_touching(&mut ring, tile, *c)?;
+        add_touching(ring, tile, *c)?;
     }
     ring.sort_unstable();
     ring.dedup();
-    Ok(ring)
+    Ok(())
 }

@@ -287,6 +287,11 @@ pub covering_all : (vars : List Variable) (k : ℕ) (c : Cell) (ns : List ℕ) (
 covering_all vars k c ns i is e low =
     sym (take-length ns) ∙ ap (λ n. take n ns) (sym e) ∙ covering_front vars k c ns i is low (λ j l m. absurd (omega arith))
 
+-- no number is above the greatest level
+pub levels_all : (vars : List Variable) (k : ℕ) (ns : List ℕ) → ((x : Variable) → Contains vars x → x.level ≤ k) → LevelsUpTo vars k ns
+levels_all vars k ns low i d l x at =
+    low x (subst (Contains vars) (get_or_from_slice_get vars (get_or ns i d - 1) x x at.1) (member_at vars (get_or ns i d - 1) x (some_within vars (get_or ns i d - 1) x at.1)))
+
 -- ---- entries by their numbers
 module _ {E : Type 0} (variable : E → Variable) (entries : List E) where
   pub numbered_entry : (n : ℕ) (x : Variable) (e : E) → IsNumbered (map variable entries) n x → e ≡ get_or entries (n - 1) e → variable e ≡ x

@@ -197,6 +197,9 @@ impl<G: Grid> Universe<G> {
         ensures { result.now ≡ covering self.now.vars up_to c }
     {
         let numbers = self.index.covering(c);
+        if self.level <= up_to {
+            return numbers;
+        }
         for (i, number) in numbers.iter().enumerate() {
             if self.entries[*number as usize - 1].level > up_to {
                 return &numbers[..i];

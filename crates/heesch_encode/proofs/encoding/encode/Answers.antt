@@ -1,59 +1,29 @@
-use Rattle.std.proofs.Common.{◌≤◌, sym, ◌∙◌, subst}
-use Rattle.std.proofs.lemmas.Result.{err_from_is_err_and}
+use Rattle.std.proofs.Common.{◌≡◌, ◌≤◌, ◌↔◌, ℕ, Bool, List, sym, subst}
+use Rattle.heesch_cnf.specs.declared.literal.Lit.{Lit}
+use Rattle.heesch_cnf.specs.Clauses.{Satisfies}
 use Rattle.heesch_grid.specs.Clauses.{formula_size}
-use Rattle.heesch_grid.specs.CoronaFormula.{IsUniverse}
-use Rattle.heesch_grid.proofs.AroundFacts.{cells_around, around_given}
+use Rattle.heesch_grid.specs.Corona.{AreCoronas, HasCoronas}
+use Rattle.heesch_grid.specs.Statements.{chosen_layers}
 use Rattle.heesch_cert.specs.Formulas.{IsCountedFormula}
-use Rattle.heesch_cert.proofs.Models.{model_where_coronas, models_are_coronas}
-use Rattle.heesch_encode.specs.Taking.{Takes}
-use Rattle.heesch_encode.proofs.Whole.{all_clauses, counted, kept_all, fits_all, too_large_where}
 use Rattle.heesch_encode.proofs.encoding.encode.Goals as goal
 
 pub returns : goal.returns
 returns g c =
     let geometry = g.G.Grid.geometry in
-    let met = g.met.G.Grid in
     let shape = c.args.shape.now in
     let j = c.args.level in
-    let vars = c.in_ok-universe.universe.vars in
-    let made = c.take_formula-2.new.collector.formula in
-    let u = c.in_ok-universe.ensures in
-    let taken : Takes c.new-keeper.result c.take_formula-2.new.collector (all_clauses geometry shape j vars) = c.in_ok-take_formula-2.ensures (cells_around geometry) (around_given geometry met.laws) in
-    let universe : IsUniverse geometry shape j vars = subst (λ s. IsUniverse geometry s j vars) u.shape (subst (λ l. IsUniverse geometry c.in_ok-universe.universe.shape l vars) u.level u.universe) in
-    let is = kept_all c.new-keeper.result c.take_formula-2.new.collector (all_clauses geometry shape j vars) taken c.new-keeper.ensures.keeps c.new-keeper.ensures.clauses in
-    let formula : IsCountedFormula geometry shape j vars made.vars made.clauses = counted geometry met.laws shape j vars made.vars made.clauses universe (taken.vars ∙ c.new-keeper.ensures.vars ∙ c.count-2.ensures.count) is in
-    let form = c.cells-cells.ensures.shape.polyform in
+    let flat = c.in_ok-universe.field-0 in
+    let e = c.in_ok-universe.ensures in
+    let made = c.in_ok-formula.formula in
+    let vars : made.vars ≡ flat.formula.vars = c.in_ok-formula.ensures.vars in
+    let clauses : made.clauses ≡ flat.formula.clauses = c.in_ok-formula.ensures.clauses in
     record {
-      universe = u.universe;
-      shape = u.shape;
-      level = u.level;
-      formula = formula;
-      fits = subst (λ cs. formula_size cs ≤ c.args.size) (sym is) (fits_all c.new-keeper.result c.take_formula-2.new.collector (all_clauses geometry shape j vars) c.args.size taken c.new-keeper.ensures.room);
-      too_large = λ e. absurd cc;
-      satisfiable = model_where_coronas geometry shape j vars made.vars made.clauses met.laws form c.requires.level.0 formula;
-      models = λ values s. models_are_coronas geometry shape j vars made.vars made.clauses values met.laws form c.requires.level.0 formula s;
+      universe = e.universe;
+      shape = e.shape;
+      level = e.level;
+      formula = subst (λ n. IsCountedFormula geometry shape j flat.universe.vars n made.clauses) (sym vars) (subst (IsCountedFormula geometry shape j flat.universe.vars flat.formula.vars) (sym clauses) e.formula);
+      fits = subst (λ cs. formula_size cs ≤ c.args.size) (sym clauses) e.fits;
+      too_large = λ never. absurd cc;
+      satisfiable = subst (λ (cs : List (List Lit)). ((values : ℕ → Bool) × Satisfies values cs) ↔ HasCoronas geometry shape j) (sym clauses) e.satisfiable;
+      models = subst (λ (cs : List (List Lit)). (values : ℕ → Bool) → Satisfies values cs → AreCoronas geometry shape (chosen_layers values flat.universe.vars j)) (sym clauses) e.models;
     }
-
-pub returns-in_err-take_formula-clause-too_large : goal.returns-in_err-take_formula-clause-too_large
-returns-in_err-take_formula-clause-too_large g c =
-    let geometry = g.G.Grid.geometry in
-    let met = g.met.G.Grid in
-    let shape = c.args.shape.now in
-    let j = c.args.level in
-    let vars = c.in_ok-universe.universe.vars in
-    let u = c.in_ok-universe.ensures in
-    let universe : IsUniverse geometry shape j vars = subst (λ s. IsUniverse geometry s j vars) u.shape (subst (λ l. IsUniverse geometry c.in_ok-universe.universe.shape l vars) u.level u.universe) in
-    let p = err_from_is_err_and c.from_residual-in_err-take_formula.result c.from_residual-in_err-take_formula.ensures.1 in
-    λ e. too_large_where geometry met.laws shape j vars c.args.size c.new-counter.result c.take_formula.new.collector c.in_err-take_formula.field-0.0 universe (c.in_err-take_formula.ensures (cells_around geometry) (around_given geometry met.laws)) c.new-counter.ensures.room (cc (e, p.1, p.2))
-
-pub returns-in_err-take_formula-2-clause-too_large : goal.returns-in_err-take_formula-2-clause-too_large
-returns-in_err-take_formula-2-clause-too_large g c =
-    let geometry = g.G.Grid.geometry in
-    let met = g.met.G.Grid in
-    let shape = c.args.shape.now in
-    let j = c.args.level in
-    let vars = c.in_ok-universe.universe.vars in
-    let u = c.in_ok-universe.ensures in
-    let universe : IsUniverse geometry shape j vars = subst (λ s. IsUniverse geometry s j vars) u.shape (subst (λ l. IsUniverse geometry c.in_ok-universe.universe.shape l vars) u.level u.universe) in
-    let p = err_from_is_err_and c.from_residual-in_err-take_formula-2.result c.from_residual-in_err-take_formula-2.ensures.1 in
-    λ e. too_large_where geometry met.laws shape j vars c.args.size c.new-keeper.result c.take_formula-2.new.collector c.in_err-take_formula-2.field-0.0 universe (c.in_err-take_formula-2.ensures (cells_around geometry) (around_given geometry met.laws)) c.new-keeper.ensures.room (cc (e, p.1, p.2))

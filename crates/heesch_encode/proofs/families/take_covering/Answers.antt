@@ -1,4 +1,4 @@
-use Rattle.std.proofs.Common.{◌≡◌, ◌+◌, ◌-◌, List, Err, true, not, length, get_or, take, pos, sym, ap, ◌∙◌, subst, arith}
+use Rattle.std.proofs.Common.{All, ◌<◌, ◌≡◌, ◌+◌, ◌-◌, List, Err, true, not, length, get_or, take, pos, sym, ap, ◌∙◌, subst, arith}
 use Rattle.std.specs.Prelude.{flat_map}
 use Rattle.std.proofs.lemmas.List.{take_all}
 use Rattle.std.proofs.lemmas.Result.{err_from_is_err_and}
@@ -15,6 +15,7 @@ use Rattle.heesch_encode.specs.Taking.{Takes, IsTaken}
 use Rattle.heesch_encode.proofs.ClauseLists.{clause_form}
 use Rattle.heesch_encode.proofs.Numbered.{no_entry}
 use Rattle.heesch_encode.proofs.Takings.{takes_none}
+use Rattle.heesch_encode.proofs.Rings.{covering_small}
 use Rattle.heesch_encode.proofs.Pieces.{covering_piece, covering_is, no_covering, piece_taken, piece_stopped, implication_clause, not_covering, covering_rising, around_outside, with_clause, without_clause, some_at}
 use Rattle.heesch_encode.proofs.families.take_covering.Goals as goal
 use Rattle.heesch_encode.proofs.families.take_covering.Goals.{then-not-has+in_ok-write_implication+in_ok-take, else-not-has}
@@ -29,30 +30,30 @@ returns-then-of-level g c =
 
 pub write_implication-requires-clause-rising : goal.write_implication-requires-clause-rising
 write_implication-requires-clause-rising g c =
-    subst (IsRising nat_lt) (sym c.covered_by.ensures) (covering_rising c.args.universe.now.vars (c.level_of-of.result + 1) (get_or c.deref-c-items.result.now c.loop-c.c-index zero_cell))
+    subst (IsRising nat_lt) (sym c.covered_by.ensures) (covering_rising c.args.universe.now.vars (c.level_of-of.result + 1) (get_or c.as_slice-c-items.result.now c.loop-c.c-index zero_cell))
 
 pub write_implication-requires-clause-absent : goal.write_implication-requires-clause-absent
 write_implication-requires-clause-absent g c =
     let vars = c.args.universe.now.vars in
     let n = c.args.var in
-    let at : Cell = get_or c.deref-c-items.result.now c.loop-c.c-index zero_cell in
+    let at : Cell = get_or c.as_slice-c-items.result.now c.loop-c.c-index zero_cell in
     let v = get_or vars (n - 1) no_entry.1 in
     let number = some_at vars n c.requires.number.0 c.requires.number.1 in
     let tile = c.shape.ensures ∙ c.placement_of.ensures.tile v number in
-    let outside = around_outside g.G.Grid.geometry c.shape.result.now v.tile c.in_ok-ring.ring.items c.deref-c-items.result.now c.loop-c.c-index zero_cell c.in_ok-ring.ensures.listed c.deref-c-items.ensures.value tile c.loop-c-test.true in
+    let outside = around_outside g.G.Grid.geometry c.shape.result.now v.tile c.write_ring.new.ring.items c.as_slice-c-items.result.now c.loop-c.c-index zero_cell c.in_ok-write_ring.ensures.listed c.as_slice-c-items.ensures.value tile c.loop-c-test.true in
     λ m. not_covering vars (c.level_of-of.result + 1) n v at number outside (subst (λ ns. Contains ns n) c.covered_by.ensures m)
 
 pub take-requires : goal.take-requires
 take-requires g c =
     let vars = c.args.universe.now.vars in
     let n = c.args.var in
-    let at : Cell = get_or c.deref-c-items.result.now c.loop-c.c-index zero_cell in
+    let at : Cell = get_or c.as_slice-c-items.result.now c.loop-c.c-index zero_cell in
     let v = get_or vars (n - 1) no_entry.1 in
     let number = some_at vars n c.requires.number.0 c.requires.number.1 in
     let tile = c.shape.ensures ∙ c.placement_of.ensures.tile v number in
-    let outside = around_outside g.G.Grid.geometry c.shape.result.now v.tile c.in_ok-ring.ring.items c.deref-c-items.result.now c.loop-c.c-index zero_cell c.in_ok-ring.ensures.listed c.deref-c-items.ensures.value tile c.loop-c-test.true in
-    let is = implication_clause vars (c.level_of-of.result + 1) n v at c.covered_by.result.now c.write_implication.new.clause.items c.deref.result.now number outside c.covered_by.ensures c.in_ok-write_implication.ensures c.deref.ensures.value in
-    subst (λ m. IsClause m c.deref.result.now) (sym (c.loop-c.invariant.vars ∙ c.requires.vars)) (subst (IsClause (length vars)) (sym is) (clause_form vars (is_numbered n) (covers (c.level_of-of.result + 1) at)))
+    let outside = around_outside g.G.Grid.geometry c.shape.result.now v.tile c.write_ring.new.ring.items c.as_slice-c-items.result.now c.loop-c.c-index zero_cell c.in_ok-write_ring.ensures.listed c.as_slice-c-items.ensures.value tile c.loop-c-test.true in
+    let is = implication_clause vars (c.level_of-of.result + 1) n v at c.covered_by.result.now c.write_implication.new.clause.items c.as_slice.result.now number outside c.covered_by.ensures c.in_ok-write_implication.ensures c.as_slice.ensures.value in
+    subst (λ m. IsClause m c.as_slice.result.now) (sym (c.loop-c.invariant.vars ∙ c.requires.vars)) (subst (IsClause (length vars)) (sym is) (clause_form vars (is_numbered n) (covers (c.level_of-of.result + 1) at)))
 
 pub returns-in_err-take : goal.returns-in_err-take
 returns-in_err-take g c =
@@ -60,22 +61,22 @@ returns-in_err-take g c =
     let shape = c.args.shape.now in
     let n = c.args.var in
     let of = c.level_of-of.result in
-    let items = c.deref-c-items.result.now in
+    let items = c.as_slice-c-items.result.now in
     let i = c.loop-c.c-index in
     let at : Cell = get_or items i zero_cell in
     let p = err_from_is_err_and c.from_residual-in_err-take.result c.from_residual-in_err-take.ensures.1 in
     let e = c.in_err-take.field-0.0 in
     λ around v gives number.
     let tile = c.shape.ensures ∙ c.placement_of.ensures.tile v number in
-    let outside = around_outside g.G.Grid.geometry c.shape.result.now v.tile c.in_ok-ring.ring.items items i zero_cell c.in_ok-ring.ensures.listed c.deref-c-items.ensures.value tile c.loop-c-test.true in
+    let outside = around_outside g.G.Grid.geometry c.shape.result.now v.tile c.write_ring.new.ring.items items i zero_cell c.in_ok-write_ring.ensures.listed c.as_slice-c-items.ensures.value tile c.loop-c-test.true in
     let clause : List Lit = clause_of literals (is_numbered n) (covers (of + 1) at) vars in
-    let is : c.deref.result.now ≡ clause = implication_clause vars (of + 1) n v at c.covered_by.result.now c.write_implication.new.clause.items c.deref.result.now number outside c.covered_by.ensures c.in_ok-write_implication.ensures c.deref.ensures.value in
+    let is : c.as_slice.result.now ≡ clause = implication_clause vars (of + 1) n v at c.covered_by.result.now c.write_implication.new.clause.items c.as_slice.result.now number outside c.covered_by.ensures c.in_ok-write_implication.ensures c.as_slice.ensures.value in
     let free : not (has shape at) ≡ true = ap not (sym c.has.ensures ∙ c.if-not-has.true) in
     let stopped : IsTaken (Err e) c.args.collector.now c.take.new.self (flat_map (covering_piece shape vars n of) items) =
     piece_stopped (covering_piece shape vars n of) items e c.args.collector.now c.loop-c.collector c.take.new.self i zero_cell c.loop-c-test.true c.loop-c.invariant
-    (with_clause (not (has shape at)) clause c.deref.result.now (IsTaken (Err e) c.loop-c.collector c.take.new.self) free is c.in_err-take.ensures)
+    (with_clause (not (has shape at)) clause c.as_slice.result.now (IsTaken (Err e) c.loop-c.collector c.take.new.self) free is c.in_err-take.ensures)
     in
-    rw (p.1, p.2) (subst (IsTaken (Err e) c.args.collector.now c.take.new.self) (covering_is around shape c.args.level vars n of v items (c.level_of-of.ensures v number) c.if-of-level.false (c.deref-c-items.ensures.value ∙ c.in_ok-ring.ensures.given around gives ∙ ap around tile)) stopped)
+    rw (p.1, p.2) (subst (IsTaken (Err e) c.args.collector.now c.take.new.self) (covering_is around shape c.args.level vars n of v items (c.level_of-of.ensures v number) c.if-of-level.false (c.as_slice-c-items.ensures.value ∙ c.in_ok-write_ring.ensures.given around gives ∙ ap around tile)) stopped)
 
 pub loop-c-preserved : goal.loop-c-preserved
 loop-c-preserved g c =
@@ -83,20 +84,20 @@ loop-c-preserved g c =
     let shape = c.args.shape.now in
     let n = c.args.var in
     let of = c.level_of-of.result in
-    let items = c.deref-c-items.result.now in
+    let items = c.as_slice-c-items.result.now in
     let i = c.loop-c.c-index in
     let at : Cell = get_or items i zero_cell in
     let v = get_or vars (n - 1) no_entry.1 in
     let number = some_at vars n c.requires.number.0 c.requires.number.1 in
     let tile = c.shape.ensures ∙ c.placement_of.ensures.tile v number in
-    let outside = around_outside g.G.Grid.geometry c.shape.result.now v.tile c.in_ok-ring.ring.items items i zero_cell c.in_ok-ring.ensures.listed c.deref-c-items.ensures.value tile c.loop-c-test.true in
+    let outside = around_outside g.G.Grid.geometry c.shape.result.now v.tile c.write_ring.new.ring.items items i zero_cell c.in_ok-write_ring.ensures.listed c.as_slice-c-items.ensures.value tile c.loop-c-test.true in
     let clause : List Lit = clause_of literals (is_numbered n) (covers (of + 1) at) vars in
     piece_taken (covering_piece shape vars n of) items c.args.collector.now c.loop-c.collector c.if-not-has.collector i zero_cell c.loop-c-test.true c.loop-c.invariant
     (elim c.if-not-has.branch [
       | then-not-has+in_ok-write_implication+in_ok-take w ↦
-          let is : w.deref.result.now ≡ clause = implication_clause vars (of + 1) n v at w.covered_by.result.now w.write_implication.new.clause.items w.deref.result.now number outside w.covered_by.ensures w.in_ok-write_implication.ensures w.deref.ensures.value in
+          let is : w.as_slice.result.now ≡ clause = implication_clause vars (of + 1) n v at w.covered_by.result.now w.write_implication.new.clause.items w.as_slice.result.now number outside w.covered_by.ensures w.in_ok-write_implication.ensures w.as_slice.ensures.value in
           let free : not (has shape at) ≡ true = ap not (sym c.has.ensures ∙ w.if-not-has.true) in
-          subst (λ z. Takes c.loop-c.collector z (covering_piece shape vars n of at)) (sym w.collector-is) (with_clause (not (has shape at)) clause w.deref.result.now (Takes c.loop-c.collector w.take.new.self) free is w.in_ok-take.ensures)
+          subst (λ z. Takes c.loop-c.collector z (covering_piece shape vars n of at)) (sym w.collector-is) (with_clause (not (has shape at)) clause w.as_slice.result.now (Takes c.loop-c.collector w.take.new.self) free is w.in_ok-take.ensures)
       | else-not-has w ↦ without_clause (not (has shape at)) clause c.loop-c.collector c.if-not-has.collector (ap not (sym c.has.ensures ∙ w.if-not-has.false)) w.collector-is
     ])
 
@@ -106,9 +107,13 @@ returns g c =
     let shape = c.args.shape.now in
     let n = c.args.var in
     let of = c.level_of-of.result in
-    let items = c.deref-c-items.result.now in
+    let items = c.as_slice-c-items.result.now in
     let i = c.loop-c.c-index in
     let whole : take i items ≡ items = take_all i items (omega (arith, c.loop-c-test.false)) in
     λ around v gives number.
     let tile = c.shape.ensures ∙ c.placement_of.ensures.tile v number in
-    subst (Takes c.args.collector.now c.loop-c.collector) (ap (flat_map (covering_piece shape vars n of)) whole ∙ covering_is around shape c.args.level vars n of v items (c.level_of-of.ensures v number) c.if-of-level.false (c.deref-c-items.ensures.value ∙ c.in_ok-ring.ensures.given around gives ∙ ap around tile)) c.loop-c.invariant
+    subst (Takes c.args.collector.now c.loop-c.collector) (ap (flat_map (covering_piece shape vars n of)) whole ∙ covering_is around shape c.args.level vars n of v items (c.level_of-of.ensures v number) c.if-of-level.false (c.as_slice-c-items.ensures.value ∙ c.in_ok-write_ring.ensures.given around gives ∙ ap around tile)) c.loop-c.invariant
+
+pub write_implication-requires-clause-others : goal.write_implication-requires-clause-others
+write_implication-requires-clause-others g c =
+    subst (All (λ n. n < 2147483648)) (sym c.covered_by.ensures) (covering_small c.args.universe.now.vars (c.level_of-of.result + 1) (get_or c.as_slice-c-items.result.now c.loop-c.c-index zero_cell) 2147483648 c.requires.few)

@@ -17,10 +17,10 @@ pub take_of-requires-clause-vars : goal.take_of-requires-clause-vars
 take_of-requires-clause-vars g c =
     let geometry = g.G.Grid.geometry in
     let met = g.met.G.Grid in
-    (c.loop-i.invariant (cells_around geometry) (around_given geometry met.laws)).vars ∙ c.requires.vars
+    (c.loop-i.invariant.taken (cells_around geometry) (around_given geometry met.laws)).vars ∙ c.requires.vars
 
-pub returns-in_err-take_of : goal.returns-in_err-take_of
-returns-in_err-take_of g c =
+pub returns-in_err-take_of-clause-taken : goal.returns-in_err-take_of-clause-taken
+returns-in_err-take_of-clause-taken g c =
     let vars = c.args.universe.now.vars in
     let i = c.loop-i.i in
     let entries : List (ℕ × Variable) = enumerate_from 1 vars in
@@ -31,8 +31,8 @@ returns-in_err-take_of g c =
     λ around gives.
     let f : ℕ × Variable → List (List Lit) = clauses_at c.args.family g.G.Grid.geometry around c.args.shape.now c.args.level vars in
     let v = get_or vars (i + 1 - 1) no_entry.1 in
-    let here : IsTaken (Err e) c.loop-i.collector c.take_of.new.collector (f (get_or entries i no_entry)) = subst (λ x. IsTaken (Err e) c.loop-i.collector c.take_of.new.collector (f x)) (sym (entry_read vars i less)) (c.in_err-take_of.ensures around v gives (some_at vars (i + 1) (omega arith) (omega arith))) in
-    rw (p.1, p.2) (piece_stopped f entries e c.args.collector.now c.loop-i.collector c.take_of.new.collector i no_entry (omega (arith, less, long)) (c.loop-i.invariant around gives) here)
+    let here : IsTaken (Err e) c.loop-i.collector c.take_of.new.collector (f (get_or entries i no_entry)) = subst (λ x. IsTaken (Err e) c.loop-i.collector c.take_of.new.collector (f x)) (sym (entry_read vars i less)) (c.in_err-take_of.ensures.taken around v gives (some_at vars (i + 1) (omega arith) (omega arith))) in
+    rw (p.1, p.2) (piece_stopped f entries e c.args.collector.now c.loop-i.collector c.take_of.new.collector i no_entry (omega (arith, less, long)) (c.loop-i.invariant.taken around gives) here)
 
 pub loop-i-preserved : goal.loop-i-preserved
 loop-i-preserved g c =
@@ -41,14 +41,17 @@ loop-i-preserved g c =
     let entries : List (ℕ × Variable) = enumerate_from 1 vars in
     let less : i < length vars = omega (arith, c.loop-i-test.true, c.count-i-end.ensures.count) in
     let long = length-enumerate_from 1 vars in
-    λ around gives.
-    let f : ℕ × Variable → List (List Lit) = clauses_at c.args.family g.G.Grid.geometry around c.args.shape.now c.args.level vars in
-    let v = get_or vars (i + 1 - 1) no_entry.1 in
-    let here : Takes c.loop-i.collector c.take_of.new.collector (f (get_or entries i no_entry)) = subst (λ x. Takes c.loop-i.collector c.take_of.new.collector (f x)) (sym (entry_read vars i less)) (c.in_ok-take_of.ensures around v gives (some_at vars (i + 1) (omega arith) (omega arith))) in
-    piece_taken f entries c.args.collector.now c.loop-i.collector c.take_of.new.collector i no_entry (omega (arith, less, long)) (c.loop-i.invariant around gives) here
+    record {
+      unmarked = c.in_ok-take_of.ensures.unmarked;
+      taken = λ around gives.
+          let f : ℕ × Variable → List (List Lit) = clauses_at c.args.family g.G.Grid.geometry around c.args.shape.now c.args.level vars in
+          let v = get_or vars (i + 1 - 1) no_entry.1 in
+          let here : Takes c.loop-i.collector c.take_of.new.collector (f (get_or entries i no_entry)) = subst (λ x. Takes c.loop-i.collector c.take_of.new.collector (f x)) (sym (entry_read vars i less)) (c.in_ok-take_of.ensures.taken around v gives (some_at vars (i + 1) (omega arith) (omega arith))) in
+          piece_taken f entries c.args.collector.now c.loop-i.collector c.take_of.new.collector i no_entry (omega (arith, less, long)) (c.loop-i.invariant.taken around gives) here;
+    }
 
-pub returns : goal.returns
-returns g c =
+pub returns-clause-taken : goal.returns-clause-taken
+returns-clause-taken g c =
     let vars = c.args.universe.now.vars in
     let i = c.loop-i.i in
     let entries : List (ℕ × Variable) = enumerate_from 1 vars in
@@ -56,4 +59,4 @@ returns g c =
     let whole : take i entries ≡ entries = take_all i entries (omega (arith, long, c.loop-i-test.false, c.count-i-end.ensures.count)) in
     λ around gives.
     let f : ℕ × Variable → List (List Lit) = clauses_at c.args.family g.G.Grid.geometry around c.args.shape.now c.args.level vars in
-    subst (λ zs. Takes c.args.collector.now c.loop-i.collector (flat_map f zs)) whole (c.loop-i.invariant around gives)
+    subst (λ zs. Takes c.args.collector.now c.loop-i.collector (flat_map f zs)) whole (c.loop-i.invariant.taken around gives)

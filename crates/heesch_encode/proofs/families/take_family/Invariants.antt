@@ -1,12 +1,15 @@
-use Rattle.std.proofs.Common.{List, take}
+use Rattle.std.proofs.Common.{List, length, take}
 use Rattle.std.specs.Prelude.{flat_map}
 use Rattle.std.specs.List.{enumerate_from}
 use Rattle.heesch_grid.specs.declared.Cell.{Cell}
 use Rattle.heesch_grid.specs.CoronaFormula.{GivesCellsAround}
+use Rattle.heesch_encode.specs.Marks.{AreUnmarked}
 use Rattle.heesch_encode.specs.Taking.{Takes}
 use Rattle.heesch_encode.specs.Families.{clauses_at}
 use Rattle.heesch_encode.proofs.families.take_family.Given as goal
 
 abbrev pub invariant-loop-i : goal.invariant-loop-i
-invariant-loop-i g l =
-    (around : List Cell → List Cell) → GivesCellsAround g.G.Grid.geometry around → Takes l.fn.collector l.collector (flat_map (clauses_at l.family g.G.Grid.geometry around l.shape l.level l.universe.vars) (take l.i (enumerate_from 1 l.universe.vars)))
+invariant-loop-i g l = record {
+  unmarked : AreUnmarked (length l.universe.vars) l.desk.marks.words.items;
+  taken : (around : List Cell → List Cell) → GivesCellsAround g.G.Grid.geometry around → Takes l.fn.collector l.collector (flat_map (clauses_at l.family g.G.Grid.geometry around l.shape l.level l.universe.vars) (take l.i (enumerate_from 1 l.universe.vars)));
+}

@@ -1,4 +1,4 @@
-use Rattle.std.proofs.Common.{◌≡◌, ◌∷◌, [], Err, length, get_or, take, pos, sym, ap, ◌∙◌, subst, arith}
+use Rattle.std.proofs.Common.{All, ◌<◌, ◌≡◌, ◌∷◌, [], Err, length, get_or, take, pos, sym, ap, ◌∙◌, subst, arith}
 use Rattle.std.specs.Prelude.{flat_map}
 use Rattle.std.proofs.lemmas.List.{take_all}
 use Rattle.std.proofs.lemmas.Result.{err_from_is_err_and}
@@ -10,6 +10,7 @@ use Rattle.heesch_grid.specs.CoronaFormula.{covers}
 use Rattle.heesch_encode.specs.Taking.{Takes, IsTaken}
 use Rattle.heesch_encode.proofs.ClauseLists.{clause_form}
 use Rattle.heesch_encode.proofs.Takings.{takes_none}
+use Rattle.heesch_encode.proofs.Rings.{covering_small}
 use Rattle.heesch_encode.proofs.Pieces.{first_piece, first_is, piece_taken, piece_stopped, choice_clause}
 use Rattle.heesch_encode.proofs.families.take_first.Goals as goal
 
@@ -22,38 +23,42 @@ loop-c-init g c = takes_none c.args.collector.now
 pub take-requires : goal.take-requires
 take-requires g c =
     let vars = c.args.universe.now.vars in
-    let at : Cell = get_or c.deref-c-items.result.now c.loop-c.c-index zero_cell in
-    let is = choice_clause vars at c.covered_by.result.now c.write_choice.new.clause.items c.deref.result.now c.covered_by.ensures c.in_ok-write_choice.ensures c.deref.ensures.value in
-    subst (λ n. IsClause n c.deref.result.now) (sym (c.loop-c.invariant.vars ∙ c.requires.vars)) (subst (IsClause (length vars)) (sym is) (clause_form vars no_variable (covers 1 at)))
+    let at : Cell = get_or c.as_slice-c-items.result.now c.loop-c.c-index zero_cell in
+    let is = choice_clause vars at c.covered_by.result.now c.write_choice.new.clause.items c.as_slice.result.now c.covered_by.ensures c.in_ok-write_choice.ensures c.as_slice.ensures.value in
+    subst (λ n. IsClause n c.as_slice.result.now) (sym (c.loop-c.invariant.vars ∙ c.requires.vars)) (subst (IsClause (length vars)) (sym is) (clause_form vars no_variable (covers 1 at)))
 
 pub returns-in_err-take : goal.returns-in_err-take
 returns-in_err-take g c =
     let vars = c.args.universe.now.vars in
-    let items = c.deref-c-items.result.now in
+    let items = c.as_slice-c-items.result.now in
     let i = c.loop-c.c-index in
     let at : Cell = get_or items i zero_cell in
-    let is = choice_clause vars at c.covered_by.result.now c.write_choice.new.clause.items c.deref.result.now c.covered_by.ensures c.in_ok-write_choice.ensures c.deref.ensures.value in
+    let is = choice_clause vars at c.covered_by.result.now c.write_choice.new.clause.items c.as_slice.result.now c.covered_by.ensures c.in_ok-write_choice.ensures c.as_slice.ensures.value in
     let p = err_from_is_err_and c.from_residual-in_err-take.result c.from_residual-in_err-take.ensures.1 in
     let e = c.in_err-take.field-0.0 in
     let stopped : IsTaken (Err e) c.args.collector.now c.take.new.self (flat_map (first_piece vars) items) =
     piece_stopped (first_piece vars) items e c.args.collector.now c.loop-c.collector c.take.new.self i zero_cell c.loop-c-test.true c.loop-c.invariant (subst (λ z. IsTaken (Err e) c.loop-c.collector c.take.new.self (z ∷ [])) is c.in_err-take.ensures)
     in
-    λ around gives. rw (p.1, p.2) (subst (IsTaken (Err e) c.args.collector.now c.take.new.self) (first_is around c.args.shape.now vars items (c.deref-c-items.ensures.value ∙ c.in_ok-ring.ensures.given around gives)) stopped)
+    λ around gives. rw (p.1, p.2) (subst (IsTaken (Err e) c.args.collector.now c.take.new.self) (first_is around c.args.shape.now vars items (c.as_slice-c-items.ensures.value ∙ c.in_ok-write_ring.ensures.given around gives)) stopped)
 
 pub loop-c-preserved : goal.loop-c-preserved
 loop-c-preserved g c =
     let vars = c.args.universe.now.vars in
-    let items = c.deref-c-items.result.now in
+    let items = c.as_slice-c-items.result.now in
     let i = c.loop-c.c-index in
     let at : Cell = get_or items i zero_cell in
-    let is = choice_clause vars at c.covered_by.result.now c.write_choice.new.clause.items c.deref.result.now c.covered_by.ensures c.in_ok-write_choice.ensures c.deref.ensures.value in
+    let is = choice_clause vars at c.covered_by.result.now c.write_choice.new.clause.items c.as_slice.result.now c.covered_by.ensures c.in_ok-write_choice.ensures c.as_slice.ensures.value in
     piece_taken (first_piece vars) items c.args.collector.now c.loop-c.collector c.take.new.self i zero_cell c.loop-c-test.true c.loop-c.invariant (subst (λ z. Takes c.loop-c.collector c.take.new.self (z ∷ [])) is c.in_ok-take.ensures)
 
 pub returns : goal.returns
 returns g c =
     let vars = c.args.universe.now.vars in
-    let items = c.deref-c-items.result.now in
+    let items = c.as_slice-c-items.result.now in
     let i = c.loop-c.c-index in
     let whole : take i items ≡ items = take_all i items (omega (arith, c.loop-c-test.false)) in
     λ around gives.
-    subst (Takes c.args.collector.now c.loop-c.collector) (ap (flat_map (first_piece vars)) whole ∙ first_is around c.args.shape.now vars items (c.deref-c-items.ensures.value ∙ c.in_ok-ring.ensures.given around gives)) c.loop-c.invariant
+    subst (Takes c.args.collector.now c.loop-c.collector) (ap (flat_map (first_piece vars)) whole ∙ first_is around c.args.shape.now vars items (c.as_slice-c-items.ensures.value ∙ c.in_ok-write_ring.ensures.given around gives)) c.loop-c.invariant
+
+pub write_choice-requires : goal.write_choice-requires
+write_choice-requires g c =
+    subst (All (λ n. n < 2147483648)) (sym c.covered_by.ensures) (covering_small c.args.universe.now.vars 1 (get_or c.as_slice-c-items.result.now c.loop-c.c-index zero_cell) 2147483648 c.requires.few)

@@ -29,7 +29,7 @@ returns-in_err-take_family g c =
     let first : Clauses = first_clauses literals around shape vars in
     let covering : Clauses = covering_clauses literals around shape j vars in
     let support : Clauses = support_clauses literals geometry vars in
-    let stop : IsTaken (Err e) b d covering = subst (IsTaken (Err e) b d) (covering_family geometry around shape j vars) (c.in_err-take_family.ensures around gives) in
+    let stop : IsTaken (Err e) b d covering = subst (IsTaken (Err e) b d) (covering_family geometry around shape j vars) (c.in_err-take_family.ensures.taken around gives) in
     rw (p.1, p.2) (stopped_before e a d ((first ++ covering) ++ support) (apart_clauses literals vars) (stopped_before e a d (first ++ covering) support (taken_after (Err e) a b d first covering (c.in_ok-take_first.ensures around gives) stop)))
 
 pub take_family-requires-2-clause-vars : goal.take_family-requires-2-clause-vars
@@ -38,7 +38,7 @@ take_family-requires-2-clause-vars g c =
     let met = g.met.G.Grid in
     let around = cells_around geometry in
     let gives = around_given geometry met.laws in
-    (c.in_ok-take_family.ensures around gives).vars ∙ (c.in_ok-take_first.ensures around gives).vars ∙ c.requires.vars
+    (c.in_ok-take_family.ensures.taken around gives).vars ∙ (c.in_ok-take_first.ensures around gives).vars ∙ c.requires.vars
 
 pub returns-in_err-take_family-2 : goal.returns-in_err-take_family-2
 returns-in_err-take_family-2 g c =
@@ -56,8 +56,8 @@ returns-in_err-take_family-2 g c =
     let first : Clauses = first_clauses literals around shape vars in
     let covering : Clauses = covering_clauses literals around shape j vars in
     let support : Clauses = support_clauses literals geometry vars in
-    let second : Takes b d covering = subst (Takes b d) (covering_family geometry around shape j vars) (c.in_ok-take_family.ensures around gives) in
-    let stop : IsTaken (Err e) d f support = subst (IsTaken (Err e) d f) (support_family geometry around shape j vars) (c.in_err-take_family-2.ensures around gives) in
+    let second : Takes b d covering = subst (Takes b d) (covering_family geometry around shape j vars) (c.in_ok-take_family.ensures.taken around gives) in
+    let stop : IsTaken (Err e) d f support = subst (IsTaken (Err e) d f) (support_family geometry around shape j vars) (c.in_err-take_family-2.ensures.taken around gives) in
     rw (p.1, p.2)
     (stopped_before e a f ((first ++ covering) ++ support) (apart_clauses literals vars) (taken_after (Err e) a d f (first ++ covering) support (takes_more a b d first covering (c.in_ok-take_first.ensures around gives) second) stop))
 
@@ -67,7 +67,7 @@ take_family-requires-3-clause-vars g c =
     let met = g.met.G.Grid in
     let around = cells_around geometry in
     let gives = around_given geometry met.laws in
-    (c.in_ok-take_family-2.ensures around gives).vars ∙ (c.in_ok-take_family.ensures around gives).vars ∙ (c.in_ok-take_first.ensures around gives).vars ∙ c.requires.vars
+    (c.in_ok-take_family-2.ensures.taken around gives).vars ∙ (c.in_ok-take_family.ensures.taken around gives).vars ∙ (c.in_ok-take_first.ensures around gives).vars ∙ c.requires.vars
 
 pub returns : goal.returns
 returns g c =
@@ -83,7 +83,7 @@ returns g c =
     let first : Clauses = first_clauses literals around shape vars in
     let covering : Clauses = covering_clauses literals around shape j vars in
     let support : Clauses = support_clauses literals geometry vars in
-    let second : Takes b d covering = subst (Takes b d) (covering_family geometry around shape j vars) (c.in_ok-take_family.ensures around gives) in
-    let third : Takes d f support = subst (Takes d f) (support_family geometry around shape j vars) (c.in_ok-take_family-2.ensures around gives) in
+    let second : Takes b d covering = subst (Takes b d) (covering_family geometry around shape j vars) (c.in_ok-take_family.ensures.taken around gives) in
+    let third : Takes d f support = subst (Takes d f) (support_family geometry around shape j vars) (c.in_ok-take_family-2.ensures.taken around gives) in
     let before : Takes a f ((first ++ covering) ++ support) = takes_more a d f (first ++ covering) support (takes_more a b d first covering (c.in_ok-take_first.ensures around gives) second) third in
-    taken_after c.take_family-3.result a f c.take_family-3.new.collector ((first ++ covering) ++ support) (apart_clauses literals vars) before (c.take_family-3.ensures around gives)
+    taken_after c.take_family-3.result a f c.take_family-3.new.collector ((first ++ covering) ++ support) (apart_clauses literals vars) before (c.take_family-3.ensures.taken around gives)

@@ -1,4 +1,4 @@
-use Rattle.std.proofs.Common.{◌≡◌, ◌+◌, ◌-◌, ◌∷◌, [], ℕ, length, get_or, sym, ap, ◌∙◌, subst, arith}
+use Rattle.std.proofs.Common.{All, ◌<◌, ◌≡◌, ◌+◌, ◌-◌, ◌∷◌, [], ℕ, length, get_or, sym, ap, ◌∙◌, subst, arith}
 use Rattle.heesch_cnf.specs.Clauses.{IsClause}
 use Rattle.heesch_grid.specs.Listing.{IsRising}
 use Rattle.heesch_grid.specs.Clauses.{is_numbered}
@@ -8,12 +8,12 @@ use Rattle.std.specs.Prelude.{nat_lt, ◌==◌, ◌&&◌, Contains}
 use Rattle.heesch_grid.specs.Placement.{touch}
 use Rattle.heesch_encode.proofs.ClauseLists.{clause_form}
 use Rattle.heesch_encode.proofs.Numbered.{no_entry}
-use Rattle.heesch_encode.proofs.Pieces.{some_at, not_supporting, supporting_rising, support_clause, support_is}
+use Rattle.heesch_encode.proofs.Pieces.{some_at, not_supporting, supporting_rising, supporting_small, support_clause, support_is}
 use Rattle.heesch_encode.proofs.families.take_support.Goals as goal
 
 pub write_implication-requires-clause-rising : goal.write_implication-requires-clause-rising
 write_implication-requires-clause-rising g c =
-    subst (IsRising nat_lt) (sym (c.deref.ensures.value ∙ c.in_ok-numbers.ensures)) (supporting_rising g.G.Grid.geometry c.args.universe.now.vars (c.level_of-of.result - 1) c.shape.result.now)
+    subst (IsRising nat_lt) (sym (c.deref-2.ensures.value ∙ c.in_ok-list_supporting.ensures.listed)) (supporting_rising g.G.Grid.geometry c.args.universe.now.vars (c.level_of-of.result - 1) c.shape-tile.result.now)
 
 pub write_implication-requires-clause-absent : goal.write_implication-requires-clause-absent
 write_implication-requires-clause-absent g c =
@@ -22,7 +22,7 @@ write_implication-requires-clause-absent g c =
     let v = get_or vars (n - 1) no_entry.1 in
     let number = some_at vars n c.requires.number.0 c.requires.number.1 in
     let level = c.level_of-of.ensures v number in
-    λ m. not_supporting g.G.Grid.geometry vars (c.level_of-of.result - 1) n v c.shape.result.now number (λ e. let two = c.if-of-lt2.false in omega arith) (subst (λ ns. Contains ns n) (c.deref.ensures.value ∙ c.in_ok-numbers.ensures) m)
+    λ m. not_supporting g.G.Grid.geometry vars (c.level_of-of.result - 1) n v c.shape-tile.result.now number (λ e. let two = c.if-of-lt2.false in omega arith) (subst (λ ns. Contains ns n) (c.deref-2.ensures.value ∙ c.in_ok-list_supporting.ensures.listed) m)
 
 pub take-requires : goal.take-requires
 take-requires g c =
@@ -33,18 +33,22 @@ take-requires g c =
     let v = get_or vars (n - 1) no_entry.1 in
     let number = some_at vars n c.requires.number.0 c.requires.number.1 in
     let level : of ≡ v.level = c.level_of-of.ensures v number in
-    let tile = c.shape.ensures ∙ c.placement_of.ensures.tile v number in
-    let is = support_clause geometry vars n of v c.shape.result.now c.deref.result.now c.write_implication.new.clause.items c.deref-2.result.now number level c.if-of-lt2.false tile (c.deref.ensures.value ∙ c.in_ok-numbers.ensures) c.in_ok-write_implication.ensures c.deref-2.ensures.value in
-    subst (λ m. IsClause m c.deref-2.result.now) (sym c.requires.vars) (subst (IsClause (length vars)) (sym is) (clause_form vars (is_numbered n) (λ (y : ℕ × Variable). (y.1.level + 1 == v.level) && touch geometry y.1.tile v.tile)))
+    let tile = c.shape-tile.ensures ∙ c.placement_of.ensures.tile v number in
+    let is = support_clause geometry vars n of v c.shape-tile.result.now c.deref-2.result.now c.write_implication.new.clause.items c.deref-3.result.now number level c.if-of-lt2.false tile (c.deref-2.ensures.value ∙ c.in_ok-list_supporting.ensures.listed) c.in_ok-write_implication.ensures c.deref-3.ensures.value in
+    subst (λ m. IsClause m c.deref-3.result.now) (sym c.requires.vars) (subst (IsClause (length vars)) (sym is) (clause_form vars (is_numbered n) (λ (y : ℕ × Variable). (y.1.level + 1 == v.level) && touch geometry y.1.tile v.tile)))
 
-pub returns : goal.returns
-returns g c =
+pub returns-clause-taken : goal.returns-clause-taken
+returns-clause-taken g c =
     let geometry = g.G.Grid.geometry in
     let vars = c.args.universe.now.vars in
     let n = c.args.var in
     let of = c.level_of-of.result in
     λ v number.
     let level : of ≡ v.level = c.level_of-of.ensures v number in
-    let tile = c.shape.ensures ∙ c.placement_of.ensures.tile v number in
-    let is = support_clause geometry vars n of v c.shape.result.now c.deref.result.now c.write_implication.new.clause.items c.deref-2.result.now number level c.if-of-lt2.false tile (c.deref.ensures.value ∙ c.in_ok-numbers.ensures) c.in_ok-write_implication.ensures c.deref-2.ensures.value in
+    let tile = c.shape-tile.ensures ∙ c.placement_of.ensures.tile v number in
+    let is = support_clause geometry vars n of v c.shape-tile.result.now c.deref-2.result.now c.write_implication.new.clause.items c.deref-3.result.now number level c.if-of-lt2.false tile (c.deref-2.ensures.value ∙ c.in_ok-list_supporting.ensures.listed) c.in_ok-write_implication.ensures c.deref-3.ensures.value in
     subst (IsTaken c.take.result c.args.collector.now c.take.new.self) (ap (λ z. z ∷ []) is ∙ support_is geometry vars n of v level c.if-of-lt2.false) c.take.ensures
+
+pub write_implication-requires-clause-others : goal.write_implication-requires-clause-others
+write_implication-requires-clause-others g c =
+    subst (All (λ n. n < 2147483648)) (sym (c.deref-2.ensures.value ∙ c.in_ok-list_supporting.ensures.listed)) (supporting_small g.G.Grid.geometry c.args.universe.now.vars (c.level_of-of.result - 1) c.shape-tile.result.now 2147483648 c.requires.few)

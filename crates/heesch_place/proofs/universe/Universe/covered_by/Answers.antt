@@ -1,10 +1,11 @@
-use Rattle.std.proofs.Common.{◌≡◌, ◌+◌, ◌<◌, List, map, take, length, get_or, sym, ap, subst, ◌∙◌, arith}
+use Rattle.std.proofs.Common.{◌≡◌, refl, ◌+◌, ◌<◌, List, map, take, length, get_or, sym, ap, subst, ◌∙◌, arith}
+use Rattle.std.proofs.lemmas.List.Elements.{All-contains}
 use Rattle.heesch_grid.specs.declared.Cell.{Cell}
-use Rattle.heesch_grid.specs.CoronaFormula.{Variable}
+use Rattle.heesch_grid.specs.CoronaFormula.{Variable, IsVariable}
 use Rattle.heesch_index.specs.Covering.{numbers_with}
 use Rattle.heesch_index.proofs.NumberFacts.{numbers_with-at}
 use Rattle.heesch_place.specs.Universes.{Levels, LevelsUpTo, covering}
-use Rattle.heesch_place.proofs.Numbering.{covering_cut, covering_all, numbered_entry, levels_more, index_tiles, length-mapped}
+use Rattle.heesch_place.proofs.Numbering.{covering_cut, covering_all, levels_all, numbered_entry, levels_more, index_tiles, length-mapped}
 use Rattle.heesch_place.specs.declared.universe.Entry.{Entry}
 use Rattle.heesch_place.proofs.universe.Universe.covered_by.Goals as goal
 
@@ -54,3 +55,14 @@ returns g c =
     let low = subst (λ vs. LevelsUpTo vs c.args.up_to (take c.loop-i.i ns)) (sym view) c.loop-i.invariant in
     covering_all vars c.args.up_to c.args.c ns c.loop-i.i is (omega (arith, c.loop-i-test.false, c.loop-i.auto.i-end)) low
     ∙ ap (λ vs. covering vs c.args.up_to c.args.c) view
+
+pub returns-then-self-up_to : goal.returns-then-self-up_to
+returns-then-self-up_to g c =
+    let variable : Entry g.row.G.Denot → Variable = λ e. record { level = e.level; tile = e.place.tile } in
+    let entries = c.self.inside.entries.items in
+    let vars = map variable entries in
+    let view : vars ≡ c.args.self.now.vars = ap (λ (u : Levels). u.vars) c.self.view_is in
+    let ns = c.covering-numbers.result.now in
+    let is = c.covering-numbers.ensures ∙ ap (λ sets. numbers_with sets c.args.c) (index_tiles variable entries c.self.inside.index c.self.invariant.indexed) in
+    let low = levels_all vars c.args.up_to (take (length ns) ns) (λ x m. let top = (All-contains (IsVariable g.G.Grid.geometry c.self.inside.shape c.self.inside.level) vars x c.self.invariant.universe.only m).level_to in omega (arith, top, c.if-self-up_to.true)) in
+    covering_all vars c.args.up_to c.args.c ns (length ns) is refl low ∙ ap (λ vs. covering vs c.args.up_to c.args.c) view

@@ -10,13 +10,10 @@ use Rattle.heesch_grid.proofs.CellFacts.{cell_before-irreflexive, cell_before-as
 use Rattle.heesch_shape.proofs.Loops.{has_at}
 use Rattle.heesch_encode.proofs.Rising.{pieces_more}
 use Rattle.heesch_encode.proofs.Rings.{outer, ring_listed}
-use Rattle.heesch_encode.proofs.ring.ring_of.Goals as goal
+use Rattle.heesch_encode.proofs.ring.write_ring.Goals as goal
 
 abbrev zero_cell : Cell
 zero_cell = cell (pos 0) (pos 0)
-
-pub loop-c-init : goal.loop-c-init
-loop-c-init g c = c.new-ring.ensures.items
 
 pub add_touching-requires-clause-within : goal.add_touching-requires-clause-within
 add_touching-requires-clause-within g c =
