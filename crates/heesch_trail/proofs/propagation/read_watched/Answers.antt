@@ -1,5 +1,5 @@
 use Rattle.heesch_trail.proofs.Guards.{Code-fits, Var-fits, GoesOn-watch}
-use Rattle.heesch_trail.proofs.propagation.visit_clause.Goals as goal
+use Rattle.heesch_trail.proofs.propagation.read_watched.Goals as goal
 
 pub watch-requires-clause-one : goal.watch-requires-clause-one
 watch-requires-clause-one c =
