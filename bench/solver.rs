@@ -1,8 +1,7 @@
-//! A plain solver that learns clauses, to compare with: `solver scan|count|watch true|false J < SHAPES`, a shape a
-//! line as `0,0 1,0`, over its corona formula of level J. `scan` looks at all clauses in order after each assignment and
-//! takes the first that is unit; `count` finds that clause by counters; `watch` propagates by two watched literals, as
-//! heesch_trail does; `emit` prints the formulas for solver.sh. Decisions, analysis with the shortening of learnt clauses,
-//! and phases are those of heesch_cdcl.
+//! A plain solver that learns clauses, to compare with: `solver scan|watch J < SHAPES`, a shape a line as `0,0 1,0`, over
+//! its corona formula of level J. `scan` looks at all clauses in order after each assignment and takes the first that is
+//! unit; `watch` propagates by two watched literals, with another literal of the clause in each entry of a list. `emit`
+//! prints the formulas for solver.sh. Decisions and analysis with the shortening of learnt clauses are those of heesch_cdcl.
 use std::collections::{BTreeSet, HashMap, HashSet};
 use std::io::BufRead;
 use std::time::Instant;
@@ -134,192 +133,273 @@ fn corona(shape: &[Cell], levels: usize) -> (usize, Vec<Vec<i32>>) {
     (vars.len(), clauses)
 }
 
+/// A literal as heesch_cnf packs it: twice its variable, and one more where it is positive.
+type Literal = u32;
+
+fn packed(l: i32) -> Literal {
+    2 * l.unsigned_abs() + (l > 0) as u32
+}
+
+/// Reads and writes without a test of the bounds, as a proved program has none.
+fn at<T: Copy>(items: &[T], place: usize) -> T {
+    debug_assert!(place < items.len());
+    unsafe { *items.get_unchecked(place) }
+}
+
+fn put<T>(items: &mut [T], place: usize, item: T) {
+    debug_assert!(place < items.len());
+    unsafe { *items.get_unchecked_mut(place) = item }
+}
+
+/// A clause by its index, with another literal of it, whose value is looked at first.
+#[derive(Clone, Copy)]
+struct Entry {
+    index: u32,
+    other: Literal,
+}
+
+/// In an entry's index: the clause has two literals, so that the entry is the clause.
+const BINARY: u32 = 1 << 31;
+const DEPTH: u32 = 500;
+const LEAST: usize = 2;
+
+/// What is known of a marked variable.
+const CLEAR: u8 = 0;
+const BELOW: u8 = 1;
+const HERE: u8 = 2;
+
+/// The clauses, one after another, and the place where each ends.
+#[derive(Default)]
+struct Store {
+    literals: Vec<Literal>,
+    ends: Vec<u32>,
+}
+
+impl Store {
+    fn clause(&self, index: usize) -> &[Literal] {
+        let start = if index == 0 { 0 } else { at(&self.ends, index - 1) } as usize;
+        let end = at(&self.ends, index) as usize;
+        unsafe { self.literals.get_unchecked(start..end) }
+    }
+
+    fn push(&mut self, clause: impl IntoIterator<Item = Literal>) {
+        self.literals.extend(clause);
+        self.ends.push(self.literals.len() as u32);
+    }
+}
+
 struct Solver {
     vars: usize,
-    clauses: Vec<Vec<i32>>,
-    value: Vec<i8>,
-    level_of: Vec<usize>,
-    reason: Vec<usize>,
-    made: Vec<i32>,
+    store: Store,
+    values: Vec<i8>,
+    levels: Vec<u32>,
+    /// The number of the clause, from 1, or 0.
+    reasons: Vec<u32>,
+    made: Vec<Literal>,
     starts: Vec<usize>,
-    before: Vec<usize>,
-    after: Vec<usize>,
-    stamp: Vec<u64>,
-    phase: Vec<bool>,
-    from: usize,
-    clock: u64,
-    scan: bool,
-    walk: bool,
+    pairs: Vec<(Literal, Literal)>,
+    places: Vec<u32>,
+    lists: Vec<Vec<Entry>>,
     head: usize,
-    watch: Vec<Vec<usize>>,
-    uses: Vec<Vec<usize>>,
-    satisfied: Vec<u32>,
-    left: Vec<u32>,
-    ready: BTreeSet<usize>,
+    fresh: usize,
+    fresh_at: Vec<usize>,
+    covers: Vec<u32>,
+    cover_ends: Vec<usize>,
+    covered: usize,
+    passed: usize,
+    marks: Vec<u8>,
+    touched: Vec<u32>,
+    pending: usize,
+    known: Vec<u8>,
+    judged: Vec<u32>,
+    scan: bool,
     literals: usize,
     hints: usize,
 }
 
-const NONE: usize = usize::MAX;
-const DEPTH: usize = 500;
-
-fn slot(l: i32) -> usize {
-    2 * l.unsigned_abs() as usize + (l < 0) as usize
-}
-
 impl Solver {
-    fn new(vars: usize, scan: bool, walk: bool, phase: bool) -> Self {
-        let mut s = Solver {
+    fn new(vars: usize, clauses: &[Vec<i32>], scan: bool) -> Self {
+        let mut store = Store::default();
+        let mut guards: Vec<Vec<u32>> = vec![vec![]; vars + 1];
+        for (index, clause) in clauses.iter().enumerate() {
+            store.push(clause.iter().map(|&l| packed(l)));
+            let mut negative = clause.iter().filter(|&&l| l < 0);
+            match (negative.next(), negative.next()) {
+                (None, _) => guards[0].push(index as u32),
+                (Some(l), None) => guards[l.unsigned_abs() as usize].push(index as u32),
+                _ => {}
+            }
+        }
+        let mut covers = vec![];
+        let mut cover_ends = vec![];
+        for guarded in &guards {
+            covers.extend(guarded);
+            cover_ends.push(covers.len());
+        }
+        Solver {
             vars,
-            clauses: vec![],
-            value: vec![0; vars + 1],
-            level_of: vec![0; vars + 1],
-            reason: vec![NONE; vars + 1],
+            store,
+            values: vec![0; 2 * vars + 2],
+            levels: vec![0; vars + 1],
+            reasons: vec![0; vars + 1],
             made: vec![],
             starts: vec![],
-            before: (0..=vars).map(|v| if v < vars { v + 1 } else { 0 }).collect(),
-            after: (0..=vars).map(|v| if v == 0 { vars } else { v - 1 }).collect(),
-            stamp: (0..=vars).map(|v| (vars - v) as u64).collect(),
-            phase: vec![phase; vars + 1],
-            from: 1,
-            clock: vars as u64,
-            scan,
-            walk,
+            pairs: vec![(0, 0); clauses.len()],
+            places: vec![0; clauses.len()],
+            lists: vec![vec![]; 2 * vars + 2],
             head: 0,
-            watch: vec![vec![]; 2 * vars + 2],
-            uses: vec![vec![]; 2 * vars + 2],
-            satisfied: vec![],
-            left: vec![],
-            ready: BTreeSet::new(),
+            fresh: 0,
+            fresh_at: vec![],
+            covers,
+            cover_ends,
+            covered: 0,
+            passed: 0,
+            marks: vec![CLEAR; vars + 1],
+            touched: vec![],
+            pending: 0,
+            known: vec![0; vars + 1],
+            judged: vec![],
+            scan,
             literals: 0,
             hints: 0,
-        };
-        s.stamp[0] = 0;
-        s
-    }
-
-    fn lit(&self, l: i32) -> i8 {
-        self.value[l.unsigned_abs() as usize] * l.signum() as i8
-    }
-
-    fn note(&mut self, c: usize) {
-        if self.satisfied[c] == 0 && self.left[c] <= 1 {
-            self.ready.insert(c);
-        } else {
-            self.ready.remove(&c);
         }
     }
 
-    /// The clause, with the literals that were assigned last in front.
-    fn add(&mut self, mut clause: Vec<i32>) {
-        let c = self.clauses.len();
-        if self.walk {
-            self.clauses.push(clause);
-            return;
-        }
-        if self.scan {
-            for &l in &clause {
-                self.uses[slot(l)].push(c);
-            }
-            self.satisfied.push(clause.iter().filter(|&&l| self.lit(l) > 0).count() as u32);
-            self.left.push(clause.iter().filter(|&&l| self.lit(l) == 0).count() as u32);
-            self.clauses.push(clause);
-            self.note(c);
-            return;
-        }
-        clause.sort_by_key(|&l| if self.lit(l) >= 0 { 0 } else { NONE - self.level_of[l.unsigned_abs() as usize] });
-        for &l in clause.iter().take(2) {
-            self.watch[slot(l)].push(c);
-        }
-        self.clauses.push(clause);
+    fn value(&self, l: Literal) -> i8 {
+        at(&self.values, l as usize)
     }
 
-    fn assign(&mut self, l: i32, reason: usize) {
-        let v = l.unsigned_abs() as usize;
-        self.value[v] = l.signum() as i8;
-        self.level_of[v] = self.starts.len();
-        self.reason[v] = reason;
+    fn assign(&mut self, l: Literal, reason: u32) {
+        put(&mut self.values, l as usize, 1);
+        put(&mut self.values, (l ^ 1) as usize, -1);
+        put(&mut self.levels, (l / 2) as usize, self.starts.len() as u32);
+        put(&mut self.reasons, (l / 2) as usize, reason);
         self.made.push(l);
-        if self.scan && !self.walk {
-            for i in 0..self.uses[slot(l)].len() {
-                let c = self.uses[slot(l)][i];
-                self.satisfied[c] += 1;
-                self.left[c] -= 1;
-                self.note(c);
+    }
+
+    fn watch(&mut self, l: Literal, index: u32, other: Literal) {
+        self.lists[l as usize].push(Entry { index, other });
+    }
+
+    /// The first look at a clause, or one after going back: false where all its literals are.
+    fn read_fresh(&mut self, index: usize) -> bool {
+        let pair = self.pairs[index];
+        if pair.0 != 0 && self.value(pair.0) >= 0 && self.value(pair.1) >= 0 {
+            return true;
+        }
+        let clause = self.store.clause(index);
+        let binary = if clause.len() == 2 { BINARY } else { 0 };
+        let mut left = clause.iter().copied().filter(|&l| self.value(l) >= 0);
+        match (left.next(), left.next()) {
+            (None, _) => return false,
+            (Some(one), None) => {
+                if self.value(one) == 0 {
+                    self.assign(one, index as u32 + 1);
+                }
             }
-            for i in 0..self.uses[slot(-l)].len() {
-                let c = self.uses[slot(-l)][i];
-                self.left[c] -= 1;
-                self.note(c);
+            (Some(one), Some(other)) => {
+                for (l, m) in [(one, other), (other, one)] {
+                    if pair.0 != l && pair.1 != l {
+                        self.watch(l, index as u32 | binary, m);
+                    }
+                }
+                self.pairs[index] = (one, other);
             }
         }
+        true
+    }
+
+    /// The place of another literal that isn't false, looked for from where the last one was found.
+    fn other_left(&self, index: usize, beside: Literal) -> Option<usize> {
+        let clause = self.store.clause(index);
+        let from = at(&self.places, index) as usize;
+        let left = |&place: &usize| at(clause, place) != beside && self.value(at(clause, place)) >= 0;
+        (from..clause.len()).find(left).or_else(|| (0..from).find(left))
+    }
+
+    /// Reads the clauses watched by a literal that was made false; the number of one whose literals are all false.
+    fn visit_list(&mut self, l: Literal) -> Option<u32> {
+        let mut list = std::mem::take(&mut self.lists[l as usize]);
+        let (mut from, mut to) = (0, 0);
+        let mut conflict = None;
+        while from < list.len() {
+            let entry = at(&list, from);
+            from += 1;
+            let index = (entry.index & !BINARY) as usize;
+            let mut beside = entry.other;
+            if self.value(beside) <= 0 && entry.index & BINARY == 0 {
+                let pair = at(&self.pairs, index);
+                beside = match pair {
+                    (one, other) if one == l => other,
+                    (one, other) if other == l => one,
+                    _ => continue,
+                };
+                if self.value(beside) <= 0 {
+                    if let Some(place) = self.other_left(index, beside) {
+                        let m = at(self.store.clause(index), place);
+                        put(&mut self.places, index, place as u32);
+                        put(&mut self.pairs, index, (m, beside));
+                        self.watch(m, entry.index, beside);
+                        continue;
+                    }
+                }
+            }
+            put(&mut list, to, Entry { index: entry.index, other: beside });
+            to += 1;
+            match self.value(beside) {
+                0 => self.assign(beside, index as u32 + 1),
+                1 => {}
+                _ => {
+                    conflict = Some(index as u32 + 1);
+                    break;
+                }
+            }
+        }
+        while from < list.len() {
+            let entry = at(&list, from);
+            put(&mut list, to, entry);
+            from += 1;
+            to += 1;
+        }
+        list.truncate(to);
+        self.lists[l as usize] = list;
+        conflict
     }
 
     /// The first clause with one literal that isn't false, where that is open, or with none.
-    fn first_ready(&self) -> Option<(usize, Option<i32>)> {
-        self.clauses.iter().enumerate().find_map(|(c, clause)| {
-            let mut left = clause.iter().filter(|&&l| self.lit(l) >= 0);
+    fn first_ready(&self) -> Option<(usize, Option<Literal>)> {
+        (0..self.store.ends.len()).find_map(|c| {
+            let mut left = self.store.clause(c).iter().copied().filter(|&l| self.value(l) >= 0);
             match (left.next(), left.next()) {
                 (None, _) => Some((c, None)),
-                (Some(&l), None) if self.lit(l) == 0 => Some((c, Some(l))),
+                (Some(l), None) if self.value(l) == 0 => Some((c, Some(l))),
                 _ => None,
             }
         })
     }
 
-    fn propagate(&mut self) -> Option<usize> {
-        if self.walk {
+    fn propagate(&mut self) -> Option<u32> {
+        if self.scan {
             while let Some((c, unit)) = self.first_ready() {
                 match unit {
-                    Some(l) => self.assign(l, c),
-                    None => return Some(c),
+                    Some(l) => self.assign(l, c as u32 + 1),
+                    None => return Some(c as u32 + 1),
                 }
             }
             return None;
         }
-        if self.scan {
-            while let Some(&c) = self.ready.first() {
-                if self.left[c] == 0 {
-                    return Some(c);
-                }
-                let l = *self.clauses[c].iter().find(|&&l| self.lit(l) == 0).unwrap();
-                self.assign(l, c);
+        while self.fresh < self.store.ends.len() {
+            if !self.read_fresh(self.fresh) {
+                return Some(self.fresh as u32 + 1);
             }
-            return None;
+            self.fresh += 1;
         }
         while self.head < self.made.len() {
-            let l = -self.made[self.head];
-            self.head += 1;
-            let mut list = std::mem::take(&mut self.watch[slot(l)]);
-            let mut i = 0;
-            while i < list.len() {
-                let c = list[i];
-                let values = &self.value;
-                let value = |m: i32| values[m.unsigned_abs() as usize] * m.signum() as i8;
-                let clause = &mut self.clauses[c];
-                if clause[0] == l {
-                    clause.swap(0, 1);
-                }
-                if value(clause[0]) > 0 {
-                    i += 1;
-                    continue;
-                }
-                if let Some(k) = (2..clause.len()).find(|&k| value(clause[k]) >= 0) {
-                    clause.swap(1, k);
-                    let m = clause[1];
-                    self.watch[slot(m)].push(c);
-                    list.swap_remove(i);
-                    continue;
-                }
-                let first = clause[0];
-                if value(first) < 0 {
-                    self.watch[slot(l)] = list;
-                    return Some(c);
-                }
-                self.assign(first, c);
-                i += 1;
+            let conflict = self.visit_list(self.made[self.head] ^ 1);
+            if conflict.is_some() {
+                return conflict;
             }
-            self.watch[slot(l)] = list;
+            self.head += 1;
         }
         None
     }
@@ -329,164 +409,176 @@ impl Solver {
             return;
         }
         let start = self.starts[level];
-        while self.made.len() > start {
-            let l = self.made.pop().unwrap();
-            let v = l.unsigned_abs() as usize;
-            self.value[v] = 0;
-            self.phase[v] = l > 0;
-            if self.stamp[v] > self.stamp[self.from] {
-                self.from = v;
-            }
-            if self.scan && !self.walk {
-                for i in 0..self.uses[slot(l)].len() {
-                    let c = self.uses[slot(l)][i];
-                    self.satisfied[c] -= 1;
-                    self.left[c] += 1;
-                    self.note(c);
-                }
-                for i in 0..self.uses[slot(-l)].len() {
-                    let c = self.uses[slot(-l)][i];
-                    self.left[c] += 1;
-                    self.note(c);
-                }
-            }
+        for l in self.made.drain(start..) {
+            put(&mut self.values, l as usize, 0);
+            put(&mut self.values, (l ^ 1) as usize, 0);
         }
         self.starts.truncate(level);
         self.head = start;
+        self.fresh = self.fresh_at[level];
+        self.fresh_at.truncate(level);
+        self.covered = 0;
+        self.passed = 0;
     }
 
-    fn bump(&mut self, v: usize) {
-        if self.from == v {
-            self.from = if self.before[v] == 0 { self.after[v] } else { self.before[v] };
+    /// The number of open literals of a clause, where none is true and fewer than `most` are open.
+    fn open_below(&self, index: usize, most: usize) -> Option<usize> {
+        let mut open = 0;
+        for &l in self.store.clause(index) {
+            match self.value(l) {
+                0 => {
+                    open += 1;
+                    if most <= open {
+                        return None;
+                    }
+                }
+                1 => return None,
+                _ => {}
+            }
         }
-        let (b, a) = (self.before[v], self.after[v]);
-        self.after[b] = a;
-        self.before[a] = b;
-        let last = self.before[0];
-        self.after[last] = v;
-        self.before[v] = last;
-        self.after[v] = 0;
-        self.before[0] = v;
-        self.clock += 1;
-        self.stamp[v] = self.clock;
+        Some(open)
     }
 
-    /// The variables of a clause are seen too, in number order; how many of them are new, and of the level.
-    fn see(&self, clause: usize, level: usize, seen: &mut [bool], touched: &mut Vec<usize>) -> usize {
-        let mut vars: Vec<usize> = self.clauses[clause].iter().map(|l| l.unsigned_abs() as usize).collect();
-        vars.sort();
-        vars.retain(|&v| !seen[v]);
-        for &v in &vars {
-            seen[v] = true;
-            touched.push(v);
+    /// The first clause with the fewest open literals, of those with at most one negative literal, whose variable is true,
+    /// and no true one.
+    fn fewest_open(&self) -> Option<usize> {
+        let mut best = None;
+        let mut fewest = usize::MAX;
+        let guards = self.made[self.covered..].iter().filter(|&&l| l & 1 == 1).map(|&l| (l / 2) as usize);
+        for guard in (self.covered == 0).then_some(0).into_iter().chain(guards) {
+            let start = if guard == 0 { 0 } else { at(&self.cover_ends, guard - 1) };
+            for &index in &self.covers[start..at(&self.cover_ends, guard)] {
+                if let Some(open) = self.open_below(index as usize, fewest) {
+                    (best, fewest) = (Some(index as usize), open);
+                    if open <= LEAST {
+                        return best;
+                    }
+                }
+            }
         }
-        vars.iter().filter(|&&v| self.level_of[v] == level).count()
+        best
     }
 
-    /// Whether a variable follows from those that are seen and from level 0, by at most `depth` reasons in a row.
-    fn follows(&self, seen: &[bool], known: &mut [Option<bool>], v: usize, depth: usize) -> bool {
-        if let Some(verdict) = known[v] {
-            return verdict;
+    /// The last open literal of that clause, made true; where there is none, the first open variable, made false.
+    fn choose(&mut self) -> Option<Literal> {
+        if let Some(index) = self.fewest_open() {
+            return self.store.clause(index).iter().rev().copied().find(|&l| self.value(l) == 0);
         }
-        if depth == 0 || self.reason[v] == NONE {
-            return false;
+        self.covered = self.made.len();
+        self.passed = (self.passed + 1..self.vars + 1).find(|&v| self.value(2 * v as u32) == 0)?;
+        Some(2 * self.passed as u32)
+    }
+
+    /// The variables of a clause are marked too.
+    fn mark(&mut self, number: u32) {
+        let level = self.starts.len() as u32;
+        for &l in self.store.clause(number as usize - 1) {
+            let v = (l / 2) as usize;
+            if at(&self.marks, v) == CLEAR {
+                self.touched.push(l / 2);
+                let here = at(&self.levels, v) == level;
+                put(&mut self.marks, v, if here { HERE } else { BELOW });
+                self.pending += here as usize;
+            }
         }
-        let all = self.clauses[self.reason[v]].iter().all(|l| {
-            let w = l.unsigned_abs() as usize;
-            w == v || seen[w] || self.level_of[w] == 0 || self.follows(seen, known, w, depth - 1)
+    }
+
+    /// Whether a variable follows from those that are marked and from level 0, by at most `depth` reasons in a row.
+    fn follows(&mut self, v: usize, depth: u32) -> bool {
+        match at(&self.known, v) {
+            0 if depth == 0 || at(&self.reasons, v) == 0 => return false,
+            0 => {}
+            verdict => return verdict == 1,
+        }
+        let index = at(&self.reasons, v) as usize - 1;
+        let all = (0..self.store.clause(index).len()).all(|place| {
+            let w = (at(self.store.clause(index), place) / 2) as usize;
+            w == v || at(&self.marks, w) != CLEAR || at(&self.levels, w) == 0 || self.follows(w, depth - 1)
         });
-        known[v] = Some(all);
+        self.judged.push(v as u32);
+        put(&mut self.known, v, if all { 1 } else { 2 });
         all
     }
 
     /// The clause of the first unique implication point, without what follows from its other literals and from level 0; its
     /// hints, in the order of the assignments; and the level to go back to.
-    fn analyse(&mut self, conflict: usize) -> (Vec<i32>, Vec<usize>, usize) {
-        let level = self.starts.len();
-        let mut seen = vec![false; self.vars + 1];
-        let (mut touched, mut hints) = (vec![], vec![conflict]);
-        let mut pending = self.see(conflict, level, &mut seen, &mut touched);
+    fn analyse(&mut self, conflict: u32) -> (Vec<Literal>, Vec<u32>, usize) {
+        let mut hints = vec![conflict];
+        self.mark(conflict);
         let mut place = self.made.len();
-        while pending > 1 {
+        while self.pending > 1 {
             place -= 1;
-            let v = self.made[place].unsigned_abs() as usize;
-            if seen[v] {
-                hints.push(self.reason[v]);
-                pending += self.see(self.reason[v], level, &mut seen, &mut touched);
-                seen[v] = false;
-                pending -= 1;
+            let v = (self.made[place] / 2) as usize;
+            if at(&self.marks, v) != CLEAR {
+                hints.push(self.reasons[v]);
+                self.mark(self.reasons[v]);
+                put(&mut self.marks, v, CLEAR);
+                self.pending -= 1;
             }
         }
-        let mut known = vec![None; self.vars + 1];
         let mut passed = hints.len();
-        while place > 0 && passed < touched.len() {
+        while place > 0 && passed < self.touched.len() {
             place -= 1;
-            let v = self.made[place].unsigned_abs() as usize;
-            if seen[v] && self.level_of[v] < level {
+            let v = (self.made[place] / 2) as usize;
+            if at(&self.marks, v) == BELOW {
                 passed += 1;
-                if self.follows(&seen, &mut known, v, DEPTH) {
-                    hints.push(self.reason[v]);
-                    self.see(self.reason[v], level, &mut seen, &mut touched);
-                    seen[v] = false;
+                if self.follows(v, DEPTH) {
+                    hints.push(self.reasons[v]);
+                    self.mark(self.reasons[v]);
+                    put(&mut self.marks, v, CLEAR);
                 }
             }
         }
         hints.reverse();
-        let vars: Vec<usize> = touched.iter().copied().filter(|&v| seen[v]).collect();
-        for v in touched {
-            self.bump(v);
+        let mut vars: Vec<u32> = self.touched.iter().copied().filter(|&v| at(&self.marks, v as usize) != CLEAR).collect();
+        vars.sort_unstable();
+        vars.dedup();
+        let level = self.starts.len() as u32;
+        let back = vars.iter().map(|&v| at(&self.levels, v as usize)).filter(|&k| k < level).max().unwrap_or(0);
+        for v in self.touched.drain(..) {
+            put(&mut self.marks, v as usize, CLEAR);
         }
-        let back = vars.iter().map(|&v| self.level_of[v]).filter(|&k| k < level).max().unwrap_or(0);
-        (vars.iter().map(|&v| -(self.value[v] as i32) * v as i32).collect(), hints, back)
+        for v in self.judged.drain(..) {
+            put(&mut self.known, v as usize, 0);
+        }
+        self.pending = 0;
+        (vars.iter().map(|&v| 2 * v + (self.value(2 * v) > 0) as u32).collect(), hints, back as usize)
     }
 
     /// Whether there is a model, and the number of conflicts; `literals` and `hints` are those learnt.
     fn run(&mut self, most: usize) -> (Option<bool>, usize) {
         let mut conflicts = 0;
         loop {
-            if let Some(c) = self.propagate() {
-                if self.starts.is_empty() {
-                    return (Some(false), conflicts);
-                }
-                if conflicts == most {
-                    return (None, conflicts);
-                }
-                conflicts += 1;
-                let (clause, hints, back) = self.analyse(c);
-                self.literals += clause.len();
-                self.hints += hints.len();
-                self.back_to(back);
-                if clause.len() == 1 && !self.scan {
-                    self.assign(clause[0], self.clauses.len());
-                    self.clauses.push(clause);
-                } else {
-                    let top = *clause.iter().find(|&&l| self.lit(l) == 0).unwrap();
-                    self.add(clause);
-                    if !self.scan {
-                        let c = self.clauses.len() - 1;
-                        self.assign(top, c);
-                    }
-                }
+            let Some(conflict) = self.propagate() else {
+                let Some(l) = self.choose() else {
+                    return (Some(true), conflicts);
+                };
+                self.fresh_at.push(if self.head < self.made.len() { 0 } else { self.fresh });
+                self.starts.push(self.made.len());
+                self.assign(l, 0);
                 continue;
+            };
+            if self.starts.is_empty() {
+                return (Some(false), conflicts);
             }
-            let mut v = self.from;
-            while v != 0 && self.value[v] != 0 {
-                v = self.before[v];
+            if conflicts == most {
+                return (None, conflicts);
             }
-            if v == 0 {
-                return (Some(true), conflicts);
-            }
-            self.from = v;
-            self.starts.push(self.made.len());
-            let l = if self.phase[v] { v as i32 } else { -(v as i32) };
-            self.assign(l, NONE);
+            conflicts += 1;
+            let (clause, hints, back) = self.analyse(conflict);
+            self.literals += clause.len();
+            self.hints += hints.len();
+            self.pairs.push((0, 0));
+            self.places.push(0);
+            self.store.push(clause);
+            self.back_to(back);
         }
     }
 }
 
 fn main() {
     let args: Vec<String> = std::env::args().collect();
-    let levels: usize = args[3].parse().unwrap();
+    let levels: usize = args[2].parse().unwrap();
     for line in std::io::stdin().lock().lines() {
         let line = line.unwrap();
         let shape: Vec<Cell> = line
@@ -506,27 +598,14 @@ fn main() {
             continue;
         }
         let literals: usize = clauses.iter().map(Vec::len).sum();
-        let mut s = Solver::new(vars, args[1] != "watch", args[1] == "scan", args[2] == "true");
         if clauses.iter().any(Vec::is_empty) {
             println!("{vars} {} {literals}: empty clause", clauses.len());
             continue;
         }
         let start = Instant::now();
-        let count = clauses.len();
-        let mut units = vec![];
-        for clause in clauses {
-            if clause.len() == 1 && !s.scan {
-                units.push((clause[0], s.clauses.len()));
-            }
-            s.add(clause);
-        }
-        for (l, c) in units {
-            if s.lit(l) == 0 {
-                s.assign(l, c);
-            }
-        }
+        let mut s = Solver::new(vars, &clauses, args[1] == "scan");
         let (answer, conflicts) = s.run(20000);
         let took = start.elapsed();
-        println!("{vars} {count} {literals}: {answer:?} conflicts {conflicts} literals {} hints {} {took:.2?}", s.literals, s.hints);
+        println!("{vars} {} {literals}: {answer:?} conflicts {conflicts} literals {} hints {} {took:.2?}", clauses.len(), s.literals, s.hints);
     }
 }

@@ -9,5 +9,5 @@ work=$(mktemp -d)
 rustc -O -o "$work/solver" solver.rs
 solver=$(./throwaway.sh solver.rattle)
 ../crates/heesch/out/heesch plain square 8 | sed -n 's/ none$//p' | head -n "${1:-4}" > "$work/shapes"
-echo "Rattle:"; "$work/solver" emit - 2 < "$work/shapes" | "$solver"
-for kind in scan watch; do echo "plain Rust, $kind:"; "$work/solver" $kind false 2 < "$work/shapes"; done
+echo "Rattle:"; "$work/solver" emit 2 < "$work/shapes" | "$solver"
+for kind in scan watch; do echo "plain Rust, $kind:"; "$work/solver" $kind 2 < "$work/shapes"; done

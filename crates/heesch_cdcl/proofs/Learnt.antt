@@ -4,9 +4,8 @@ use Rattle.std.proofs.lemmas.Bool.{cases_lt}
 use Rattle.std.proofs.lemmas.Bool.Decides.{Decides-eqb}
 use Rattle.std.proofs.lemmas.List.Elements.{All-contains}
 use Rattle.heesch_cnf.specs.declared.literal.Lit.{Lit}
-use Rattle.heesch_cnf.specs.declared.log.Line.{Line}
 use Rattle.heesch_cnf.specs.Literals.{lit_value, signed}
-use Rattle.heesch_cnf.specs.Lines.{refuting, FinalHolds, clauses_with}
+use Rattle.heesch_cnf.specs.Lines.{refuting, FinalHolds}
 use Rattle.heesch_cnf.proofs.Lists.{Contains-none, Contains-cases, Contains-here, Contains-there}
 use Rattle.heesch_trail.specs.declared.step.Step.{Step}
 use Rattle.heesch_trail.specs.Fixpoint.{HasTwoOpen}
@@ -17,7 +16,6 @@ use Rattle.heesch_cdcl.specs.Marking.{marked}
 use Rattle.heesch_cdcl.specs.Marked.{falsified, IsClauseOfMarked, IsLevelIn}
 use Rattle.heesch_cdcl.specs.Learning.{IsLearnt}
 use Rattle.heesch_cdcl.specs.Resolved.{IsDerived, IsResolved}
-use Rattle.heesch_cdcl.specs.Searching.{IsSearching}
 use Rattle.heesch_cdcl.proofs.MarkLemmas.{same_or_not, some_marked}
 use Rattle.heesch_cdcl.proofs.Facts.{Trail-apart, assigned-fact, fact-level, value-low, value-high}
 use Rattle.heesch_cdcl.proofs.Resolving.{HasHere, here_facts, only_marked, positive_count, level_of_some}
@@ -155,25 +153,19 @@ Learnt-resolved trail seen here pending learnt valid above res read below reache
         }
 
 -- what it leaves at level 0 is a final line
-pub Final-resolved : (vars : ℕ) (clauses : List (List Lit)) (lines : List Line) (trail : State) (seen here : List Bool) (pending : ℕ) (hints : List ℕ) → IsSearching vars clauses lines trail → level_of trail.steps ≡ 0 → IsResolved trail 0 seen here pending hints →
-    FinalHolds (clauses_with clauses lines) hints
-Final-resolved vars clauses lines trail seen here pending hints s ground_level res =
+pub Final-resolved : (trail : State) (seen here : List Bool) (pending : ℕ) (hints : List ℕ) → IsTrail trail → level_of trail.steps ≡ 0 → IsResolved trail 0 seen here pending hints → FinalHolds trail.clauses hints
+Final-resolved trail seen here pending hints valid ground_level res =
     let r = res.derived in
-    subst (λ cs. FinalHolds cs hints) s.same_clauses (record {
+    record {
       numbers = r.numbers;
       conflict = r.derives (refuting []) (record { same = λ v m. absurd (none v m); others = λ v b e. absurd (let bad : None ≡ Some b = e in cc) });
-    })
+    }
   where
     none : (v : ℕ) → marked seen v ≡ true → ⊥
     none v m =
         let r = res.derived in
         let f = assigned-fact trail.steps v (r.valued v m) in
-        let high = fact-level trail v f.0 s.valid f.1 in
+        let high = fact-level trail v f.0 valid f.1 in
         let level : f.0.level ≡ level_of trail.steps = omega arith in
         let is_here = r.marks.seen_here v m (ap (option_map (λ (x : Step). x.level)) f.1 ∙ ap Some level) in
         omega (arith, positive_count here v is_here, r.marks.counted, res.few)
-
--- what is so of the value of an Ok, where more is
-pub IfOk-weaker : {T E : Type 0} (P Q : T → Type 0) (r : Result T E) → ((x : T) → P x → Q x) → IfOk r P → IfOk r Q
-IfOk-weaker P Q (Ok x) weaker p = weaker x p
-IfOk-weaker P Q (Err e) weaker p = p

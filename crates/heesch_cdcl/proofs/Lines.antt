@@ -1,38 +1,62 @@
 use Rattle.std.proofs.Common.{◌≡◌, ◌≢◌, ℕ, ◌-◌, ◌<◌, List, [], ◌∷◌, ◌++◌, length, get_or, take, map, sym, ap, ◌∙◌, subst, inl, inr, refl, arith, append_assoc, append-nil, length-append}
 use Rattle.std.specs.List.{Contains}
 use Rattle.std.proofs.lemmas.Bool.{cases_lt}
-use Rattle.std.proofs.lemmas.List.{take-append-le, take_at, get_or_append_left, get_or_at, map-append}
-use Rattle.std.proofs.lemmas.List.Elements.{All-nil, All-push}
+use Rattle.std.proofs.lemmas.List.{take-append-le, take_at, get_or_append_left, get_or_at, map-append, length-map}
+use Rattle.std.proofs.lemmas.List.Elements.{All-nil, All-push, All-weaker}
 use Rattle.heesch_cnf.specs.declared.literal.Lit.{Lit}
 use Rattle.heesch_cnf.specs.declared.log.Line.{Line}
 use Rattle.heesch_cnf.specs.declared.log.Line.TheVariants.{Learn, Given}
 use Rattle.heesch_cnf.specs.Clauses.{IsClause, IsNew}
-use Rattle.heesch_cnf.specs.Lines.{clauses_with, clause_of, LineHolds, IsShown, FinalHolds}
+use Rattle.heesch_cnf.specs.Lines.{clauses_with, clause_of, LineHolds, IsNumber, IsShown, FinalHolds}
 use Rattle.heesch_cnf.proofs.Lists.{Contains-none}
 use Rattle.heesch_trail.specs.Fixpoint.{IsSettled, IsFixpoint}
 use Rattle.heesch_trail.specs.State.{State, IsTrail, values_of, level_of, up_to}
 use Rattle.heesch_cdcl.specs.declared.analysis.Learnt.{Learnt}
+use Rattle.heesch_cdcl.specs.declared.marks.Marks.{Marks}
+use Rattle.heesch_cdcl.specs.declared.workspace.Workspace.{Workspace}
+use Rattle.heesch_cdcl.specs.Covers.{Scope, Guides}
+use Rattle.heesch_cdcl.specs.Marking.{AreClear}
+use Rattle.heesch_cdcl.specs.Ready.{IsReady}
 use Rattle.heesch_cdcl.specs.Search.{LowerFixpoints, SameClauses}
 use Rattle.heesch_cnf.specs.Meaning.{IsLearn}
 use Rattle.heesch_cdcl.specs.Learning.{IsLearnt, LearnsOne, LearnsMore}
-use Rattle.heesch_cdcl.specs.Searching.{IsSearching, NoFinal}
+use Rattle.heesch_cdcl.specs.Searching.{IsSearching, Searches, SameFormula, formula_in, NoFinal}
 use Rattle.heesch_cdcl.proofs.Newness.{learnt_is_new, no_final}
 use Rattle.heesch_cdcl.proofs.Lower.{Lower-back, Lower-add, up_to-up_to}
+
+-- the formula is what the lines continue
+pub formula_is : (vars : ℕ) (clauses : List (List Lit)) (lines : List Line) (trail : State) → IsSearching vars clauses lines trail → formula_in trail.clauses lines ≡ clauses
+formula_is vars clauses lines trail s =
+    let short : length clauses ≡ length trail.clauses - length lines = omega (arith, ap length s.same_clauses, length-append clauses (map clause_of lines), length-map lines clause_of) in
+    ap (take (length trail.clauses - length lines)) s.same_clauses ∙ take_at clauses (map clause_of lines) (length trail.clauses - length lines) short
+
+pub Searches-own : (vars : ℕ) (clauses : List (List Lit)) (lines : List Line) (trail : State) → IsSearching vars clauses lines trail → Searches lines trail
+Searches-own vars clauses lines trail s =
+    subst (λ cs. IsSearching trail.vars cs lines trail) (sym (formula_is vars clauses lines trail s)) (subst (λ v. IsSearching v clauses lines trail) (sym s.same_vars) s)
 
 -- the search goes on with other assignments
 pub Searching-moves : (vars : ℕ) (clauses : List (List Lit)) (lines : List Line) (old new : State) → IsSearching vars clauses lines old → SameClauses old new → IsTrail new → LowerFixpoints new → IsSearching vars clauses lines new
 Searching-moves vars clauses lines old new s same valid lower =
     record { form = s.form; valid = valid; same_vars = same.vars ∙ s.same_vars; same_clauses = same.clauses ∙ s.same_clauses; lower = lower; hold = s.hold; fresh = s.fresh }
 
+pub Searches-moves : (lines : List Line) (old new : State) → Searches lines old → SameClauses old new → IsTrail new → LowerFixpoints new → Searches lines new
+Searches-moves lines old new s same valid lower = Searches-own old.vars (formula_in old.clauses lines) lines new (Searching-moves old.vars (formula_in old.clauses lines) lines old new s same valid lower)
+
+-- with the same clauses the formula is the same
+pub Formula-moves : (first : List Line) (begin : State) (lines : List Line) (old new : State) → SameFormula first begin lines old → SameClauses old new → SameFormula first begin lines new
+Formula-moves first begin lines old new f same = record { vars = same.vars ∙ f.vars; clauses = ap (λ cs. formula_in cs lines) same.clauses ∙ f.clauses }
+
+pub Formula-own : (old_lines : List Line) (old : State) (lines : List Line) (new : State) → IsSearching old.vars (formula_in old.clauses old_lines) lines new → SameFormula old_lines old lines new
+Formula-own old_lines old lines new s = record { vars = s.same_vars; clauses = formula_is old.vars (formula_in old.clauses old_lines) lines new s }
+
+pub Formula-on : (first mid last : List Line) (begin middle end : State) → SameFormula first begin mid middle → SameFormula mid middle last end → SameFormula first begin last end
+Formula-on first mid last begin middle end one other = record { vars = other.vars ∙ one.vars; clauses = other.clauses ∙ one.clauses }
+
 pub Lower-zero : (new : State) → level_of new.steps ≡ 0 → LowerFixpoints new
 Lower-zero new zero j below = absurd (omega arith)
 
-pub Searching-restart : (vars : ℕ) (clauses : List (List Lit)) (lines : List Line) (old new : State) → IsSearching vars clauses lines old → SameClauses old new → IsTrail new → level_of new.steps ≡ 0 → IsSearching vars clauses lines new
-Searching-restart vars clauses lines old new s same valid zero = Searching-moves vars clauses lines old new s same valid (Lower-zero new zero)
-
-pub Searching-no_final : (vars : ℕ) (clauses : List (List Lit)) (lines : List Line) (trail : State) → IsSearching vars clauses lines trail → IsFixpoint (values_of trail.steps) trail.clauses → NoFinal (clauses_with clauses lines)
-Searching-no_final vars clauses lines trail s fixpoint hints final =
-    no_final (values_of trail.steps) trail.clauses hints fixpoint (subst (λ cs. FinalHolds cs hints) (sym s.same_clauses) final)
+pub NoFinal-fixpoint : (trail : State) → IsFixpoint (values_of trail.steps) trail.clauses → NoFinal trail.clauses
+NoFinal-fixpoint trail fixpoint hints final = no_final (values_of trail.steps) trail.clauses hints fixpoint final
 
 clauses_with-push : (clauses : List (List Lit)) (lines : List Line) (line : Line) → clauses_with clauses (lines ++ line ∷ []) ≡ clauses_with clauses lines ++ clause_of line ∷ []
 clauses_with-push clauses lines line = ap (λ cs. clauses ++ cs) (map-append clause_of lines (line ∷ [])) ∙ sym (append_assoc clauses (map clause_of lines) (clause_of line ∷ []))
@@ -111,3 +135,21 @@ Searching-gives vars clauses lines old mid new clause copy s form fresh same add
       hold = λ i lt d. hold i d lt;
       fresh = lines-push (λ cs x. IsNew cs (clause_of x)) clauses lines line s.fresh fresh;
     }
+
+-- with more clauses the covers are still clauses of the trail
+pub Guides-more : (scope : Scope) (old new : State) (more : List (List Lit)) → new.vars ≡ old.vars → new.clauses ≡ old.clauses ++ more → Guides scope old → Guides scope new
+Guides-more scope old new more vars clauses g = record {
+  vars = g.vars ∙ sym vars;
+  numbers = All-weaker (IsNumber old.clauses) (IsNumber new.clauses) (λ n is. (is.0, omega (arith, is.1, ap length clauses, length-append old.clauses more))) scope.numbers g.numbers;
+}
+
+-- the workspace is ready over a trail with more clauses too, and over one with the same
+pub Ready-more : (old new : State) (more : List (List Lit)) (before after : Workspace) → new.vars ≡ old.vars → new.clauses ≡ old.clauses ++ more → after.decisions.covers ≡ before.decisions.covers → after.marks ≡ before.marks → IsReady old before → IsReady new after
+Ready-more old new more before after vars clauses covers marks ready = record {
+  guides = subst (λ s. Guides s new) (sym covers) (Guides-more before.decisions.covers old new more vars clauses ready.guides);
+  clear = subst (λ (m : Marks). AreClear new.vars m.seen.items m.here.items m.touched.items m.pending) (sym marks)
+      (subst (λ v. AreClear v before.marks.seen.items before.marks.here.items before.marks.touched.items before.marks.pending) (sym vars) ready.clear);
+}
+
+pub Ready-same : (old new : State) (before after : Workspace) → SameClauses old new → after.decisions.covers ≡ before.decisions.covers → after.marks ≡ before.marks → IsReady old before → IsReady new after
+Ready-same old new before after same covers marks ready = Ready-more old new [] before after same.vars (same.clauses ∙ sym (append-nil old.clauses)) covers marks ready

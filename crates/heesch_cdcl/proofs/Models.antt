@@ -1,4 +1,4 @@
-use Rattle.std.proofs.Common.{◌≡◌, ℕ, ◌+◌, ◌-◌, ◌<◌, ◌≤◌, Bool, true, false, not, unwrap_or, IfSome, IsSomeAnd, Option, None, Some, List, [], ◌∷◌, ◌++◌, is_some, ◌^◌, length, sym, ap, ◌∙◌, subst, inl, inr, refl, arith}
+use Rattle.std.proofs.Common.{◌≡◌, ℕ, ◌+◌, ◌-◌, ◌<◌, ◌≤◌, Bool, true, false, not, unwrap_or, IfSome, IsSomeAnd, MatchOption, All, append-nil, Option, None, Some, List, [], ◌∷◌, ◌++◌, is_some, ◌^◌, length, sym, ap, ◌∙◌, subst, inl, inr, refl, arith}
 use Rattle.std.specs.List.{range_with_len}
 use Rattle.std.proofs.lemmas.List.{length-map}
 use Rattle.std.proofs.lemmas.List.FromFn.{get_or-map-range_with_len, length-range_with_len, map-range_with_len_more}
@@ -8,14 +8,18 @@ use Rattle.heesch_cnf.specs.Literals.{signed}
 use Rattle.heesch_cnf.specs.Clauses.{IsClause, AreClauses, IsNew, IsSatisfied}
 use Rattle.heesch_trail.specs.declared.step.Step.{Step}
 use Rattle.heesch_trail.specs.Fixpoint.{IsSettled, IsFixpoint}
-use Rattle.heesch_trail.specs.State.{State, values_of}
+use Rattle.heesch_trail.specs.State.{State, IsTrail, values_of, level_of}
 use Rattle.heesch_cdcl.specs.Newness.{IsMadeFalse}
 use Rattle.heesch_cnf.specs.declared.log.Line.{Line}
-use Rattle.heesch_cnf.specs.Lines.{clauses_with}
+use Rattle.heesch_cnf.specs.Lines.{clauses_with, IsNumber}
+use Rattle.heesch_cdcl.specs.Covers.{Scope, Guides}
+use Rattle.heesch_cdcl.specs.Marking.{AreClear}
+use Rattle.heesch_cdcl.proofs.Lines.{Lower-zero, Searches-own, formula_is}
 use Rattle.heesch_cdcl.specs.Search.{IsComplete}
 use Rattle.heesch_cdcl.specs.declared.workspace.Workspace.{Workspace}
 use Rattle.heesch_cdcl.specs.Ready.{IsReady}
-use Rattle.heesch_cdcl.specs.Searching.{IsSearching}
+use Rattle.heesch_cdcl.specs.Empty.{IsFirstEmpty, NoneEmpty}
+use Rattle.heesch_cdcl.specs.Searching.{IsSearching, Searches, SameFormula, formula_in}
 use Rattle.heesch_cnf.specs.Clauses.{assignment_of}
 use Rattle.heesch_cdcl.specs.Problem.{values_list, IsModel, IsInner, LastHolds}
 use Rattle.heesch_cdcl.proofs.Newness.{given_is_new_lem}
@@ -64,25 +68,62 @@ Model-from_fixpoint vars trail clauses same form fixpoint complete = record {
 pub values_list-more : (n : ℕ) (steps : List Step) → values_list (n + 1) steps ≡ values_list n steps ++ unwrap_or (values_of steps (n + 1)) false ∷ []
 values_list-more n steps = map-range_with_len_more (λ v. unwrap_or (values_of steps (v + 1)) false) 0 n n (omega arith)
 
-pub none_if : {A : Type 0} (o : Option A) → is_some o ≡ false → o ≡ None
-none_if None e = refl
-none_if (Some x) e = absurd (let bad : true ≡ false = e in cc)
+-- a solver over a formula, with an empty log
+pub Inner-opened : (turns : ℕ) (empty : Option ℕ) (vars n : ℕ) (clauses : List (List Lit)) (trail : State) (work : Workspace) (scope : Scope) (lines : List Line) → trail ≡ record { vars = vars; clauses = clauses; steps = [] } → IsTrail trail → lines ≡ [] →
+    MatchOption empty (NoneEmpty clauses) (IsFirstEmpty clauses) → length clauses + turns < 2 ^ 31 → work.decisions.covers ≡ scope → scope.vars ≡ vars → All (IsNumber clauses) scope.numbers →
+    n ≡ vars → AreClear n work.marks.seen.items work.marks.here.items work.marks.touched.items work.marks.pending → IsInner turns empty trail work (record { lines = lines; last = None }) false
+Inner-opened turns empty vars n clauses trail work scope lines is valid none first room covers same numbers count clear =
+    let vars_is = ap (λ (t : State). t.vars) is in
+    let clauses_is = ap (λ (t : State). t.clauses) is in
+    let zero_level : level_of trail.steps ≡ 0 = ap (λ (t : State). level_of t.steps) is in
+    let form : AreClauses vars clauses = subst (λ cs. AreClauses vars cs) clauses_is (subst (λ v. AreClauses v trail.clauses) vars_is valid.clauses) in
+    let going : IsSearching vars clauses lines trail = subst (λ ls. IsSearching vars clauses ls trail) (sym none) (record {
+      form = form;
+      valid = valid;
+      same_vars = vars_is;
+      same_clauses = clauses_is ∙ sym (append-nil clauses);
+      lower = Lower-zero trail zero_level;
+      hold = λ i lt. absurd (omega arith);
+      fresh = λ i d lt. absurd (omega arith);
+    }) in
+    let s = Searches-own vars clauses lines trail going in
+    let formula = formula_is vars clauses lines trail going in
+    record {
+      ready = record {
+        guides = subst (λ c. Guides c trail) (sym covers) (record { vars = same ∙ sym vars_is; numbers = subst (λ cs. All (IsNumber cs) scope.numbers) (sym clauses_is) numbers });
+        clear = subst (λ v. AreClear v work.marks.seen.items work.marks.here.items work.marks.touched.items work.marks.pending) (count ∙ sym vars_is) clear;
+      };
+      searching = s;
+      first = subst (λ cs. MatchOption empty (NoneEmpty cs) (IsFirstEmpty cs)) (sym formula) first;
+      solver = record {
+        form = s.form;
+        room = subst (λ cs. length cs + turns < 2 ^ 31) (sym formula) room;
+        few = omega (arith, ap length none);
+        hold = s.hold;
+        fresh = s.fresh;
+        last = tt;
+        model = tt;
+        unfinished = λ e. refl;
+      };
+    }
 
 -- a solver that keeps a model
-pub Inner-model : (vars : ℕ) (clauses : List (List Lit)) (turns : ℕ) (trail : State) (work : Workspace) (lines : List Line) (last : Option (List ℕ)) → IsReady vars work → IsSearching vars clauses lines trail → length clauses + turns < 2 ^ 31 → length lines ≤ turns →
-    IsFixpoint (values_of trail.steps) trail.clauses × IsComplete trail → last ≡ None → IsInner vars clauses turns trail work (record { lines = lines; last = last }) true
-Inner-model vars clauses turns trail work lines last ready s room few ending none = record {
+pub Inner-model : (turns : ℕ) (empty : Option ℕ) (old trail : State) (work : Workspace) (old_lines lines : List Line) (last : Option (List ℕ)) → MatchOption empty (NoneEmpty (formula_in old.clauses old_lines)) (IsFirstEmpty (formula_in old.clauses old_lines)) →
+    length (formula_in old.clauses old_lines) + turns < 2 ^ 31 → SameFormula old_lines old lines trail → IsReady trail work → Searches lines trail → length lines ≤ turns →
+    IsFixpoint (values_of trail.steps) trail.clauses × IsComplete trail → last ≡ None → IsInner turns empty trail work (record { lines = lines; last = last }) true
+Inner-model turns empty old trail work old_lines lines last first room same ready s few ending none = record {
   ready = ready;
   searching = s;
+  first = subst (λ cs. MatchOption empty (NoneEmpty cs) (IsFirstEmpty cs)) (sym same.clauses) first;
   solver = record {
     form = s.form;
-    room = room;
+    room = subst (λ cs. length cs + turns < 2 ^ 31) (sym same.clauses) room;
     few = few;
     hold = s.hold;
     fresh = s.fresh;
-    last = subst (LastHolds (clauses_with clauses lines)) (sym none) tt;
-    model = Model-from_fixpoint vars trail (clauses_with clauses lines) s.same_vars
-        (subst (AreClauses vars) s.same_clauses (subst (λ v. AreClauses v trail.clauses) s.same_vars s.valid.clauses)) (subst (IsFixpoint (values_of trail.steps)) s.same_clauses ending.0) ending.1;
+    last = subst (LastHolds (clauses_with (formula_in trail.clauses lines) lines)) (sym none) tt;
+    model = Model-from_fixpoint trail.vars trail (clauses_with (formula_in trail.clauses lines) lines) refl
+        (subst (AreClauses trail.vars) s.same_clauses s.valid.clauses) (subst (IsFixpoint (values_of trail.steps)) s.same_clauses ending.0) ending.1;
     unfinished = λ e. none;
   };
 }

@@ -310,15 +310,8 @@ Begun-conflict trail n none seen here pending valid lower conflict empty marks a
     by_settled above (inr two) = counted above two.one two.has_one (λ f. let bad : None ≡ Some false = sym two.one_open ∙ f in cc)
 
 -- the clause of a number, as it is read
-pub same_clause : (vars : ℕ) (clauses : List (List Lit)) (lines : List Line) (trail : State) (n : ℕ) (clause : List Lit) → IsSearching vars clauses lines trail → clause ≡ numbered (clauses_with clauses lines) n → clause ≡ numbered trail.clauses n
-same_clause vars clauses lines trail n clause s is = is ∙ ap (λ cs. numbered cs n) (sym s.same_clauses)
-
-pub form_of : (vars : ℕ) (clauses : List (List Lit)) (lines : List Line) (trail : State) (n : ℕ) (clause : List Lit) → IsSearching vars clauses lines trail → IsNumber trail.clauses n → clause ≡ numbered (clauses_with clauses lines) n → IsClause trail.vars clause
-form_of vars clauses lines trail n clause s number is =
-    subst (IsClause trail.vars) (sym (same_clause vars clauses lines trail n clause s is)) (s.valid.clauses (n - 1) [] (let num = number in omega arith))
-
-pub high_number : (vars : ℕ) (clauses : List (List Lit)) (lines : List Line) (trail : State) (n : ℕ) → IsSearching vars clauses lines trail → IsNumber trail.clauses n → n ≤ length (clauses_with clauses lines)
-high_number vars clauses lines trail n s number = subst (λ cs. n ≤ length cs) s.same_clauses number.1
+pub form_of : (trail : State) (n : ℕ) (clause : List Lit) → IsTrail trail → IsNumber trail.clauses n → clause ≡ numbered trail.clauses n → IsClause trail.vars clause
+form_of trail n clause valid number is = subst (IsClause trail.vars) (sym is) (valid.clauses (n - 1) [] (let num = number in omega arith))
 
 -- the assignment whose variable was read at a place
 pub record IsRead (trail : State) (p n : ℕ) : Type 0 where

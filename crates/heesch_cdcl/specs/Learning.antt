@@ -2,7 +2,7 @@ use Rattle.std.specs.Prelude.{◌≡◌, ℕ, ◌-◌, ◌<◌, List, [], ◌∷
 use Rattle.heesch_cnf.specs.declared.literal.Lit.{Lit}
 use Rattle.heesch_cnf.specs.declared.log.Line.{Line}
 use Rattle.heesch_cnf.specs.Clauses.{IsClause}
-use Rattle.heesch_cnf.specs.Lines.{clauses_with, IsNumber, numbered, IsShown, FinalHolds}
+use Rattle.heesch_cnf.specs.Lines.{IsNumber, numbered, IsShown, FinalHolds}
 use Rattle.heesch_cnf.specs.Meaning.{IsLearn, LearnsAlone}
 use Rattle.heesch_trail.specs.Fixpoint.{IsFixpoint, IsFalse, IsSettled}
 use Rattle.heesch_trail.specs.State.{State, values_of, level_of, up_to}
@@ -35,9 +35,13 @@ LearnsOne old new = (line : Line) × ((new ≡ old ++ line ∷ []) × IsLearn li
 abbrev pub LearnsMore : List Line → List Line → Type 0
 LearnsMore old new = (more : List Line) × ((new ≡ old ++ more) × LearnsAlone more)
 
--- how the search ended: a complete assignment, under which every clause has a true literal; a final line that holds;
--- or no turn left, and no final line that holds
-abbrev pub IsEnding : ℕ → List (List Lit) → ℕ → List Line → State → Ending → Type 0
-IsEnding vars clauses turns lines trail Model = IsFixpoint (values_of trail.steps) trail.clauses × IsComplete trail
-IsEnding vars clauses turns lines trail (Refuted hints) = FinalHolds (clauses_with clauses lines) hints
-IsEnding vars clauses turns lines trail Spent = (length lines ≡ turns) × NoFinal (clauses_with clauses lines)
+-- how the search ended at a level: a complete assignment, under which every clause has a true literal; a final line
+-- that holds; or none that does
+abbrev pub IsOver : State → Ending → Type 0
+IsOver trail Model = IsFixpoint (values_of trail.steps) trail.clauses × IsComplete trail
+IsOver trail (Refuted hints) = FinalHolds trail.clauses hints
+IsOver trail Spent = NoFinal trail.clauses
+
+-- how the search ended; no turn is left where it is spent
+abbrev pub IsEnding : ℕ → List Line → State → Ending → Type 0
+IsEnding turns lines trail ending = IsOver trail ending × (ending ≡ Spent → length lines ≡ turns)

@@ -1,4 +1,5 @@
 pub mod Bound
+pub mod Covers
 pub mod Derivation
 pub mod Empty
 pub mod Found
@@ -7,7 +8,6 @@ pub mod Marked
 pub mod Marking
 pub mod Newness
 pub mod Problem
-pub mod Queue
 pub mod Ready
 pub mod Resolved
 pub mod Search

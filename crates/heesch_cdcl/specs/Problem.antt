@@ -1,4 +1,4 @@
-use Rattle.std.specs.Prelude.{◌≡◌, ℕ, ◌+◌, ◌<◌, ◌≤◌, ◌^◌, Bool, false, Option, Some, None, List, length, map, unwrap_or, IfSome, IsSome, if◌then◌else◌}
+use Rattle.std.specs.Prelude.{◌≡◌, ℕ, ◌+◌, ◌<◌, ◌≤◌, ◌^◌, Bool, false, Option, Some, None, List, length, map, unwrap_or, MatchOption, IfSome, IsSome, if◌then◌else◌}
 use Rattle.std.specs.List.{range_with_len}
 use Rattle.heesch_cnf.specs.declared.literal.Lit.{Lit}
 use Rattle.heesch_cnf.specs.declared.log.Log.{Log}
@@ -7,8 +7,9 @@ use Rattle.heesch_cnf.specs.Lines.{clauses_with, LinesHold, LinesAreNew, FinalHo
 use Rattle.heesch_trail.specs.declared.step.Step.{Step}
 use Rattle.heesch_trail.specs.State.{State, values_of}
 use Rattle.heesch_cdcl.specs.declared.workspace.Workspace.{Workspace}
+use Rattle.heesch_cdcl.specs.Empty.{IsFirstEmpty, NoneEmpty}
 use Rattle.heesch_cdcl.specs.Ready.{IsReady}
-use Rattle.heesch_cdcl.specs.Searching.{IsSearching}
+use Rattle.heesch_cdcl.specs.Searching.{Searches, formula_in}
 
 -- what contracts see of a solver: its formula and turns, its log, and the model that it keeps
 pub record Problem : Type 0 where
@@ -56,12 +57,13 @@ values_list vars steps = map (λ v. unwrap_or (values_of steps (v + 1)) false) (
 abbrev pub kept_model : Bool → ℕ → List Step → Option (List Bool)
 kept_model kept vars steps = if kept then Some (values_list vars steps) else None
 
-abbrev pub problem_of : ℕ → List (List Lit) → ℕ → State → Log → Bool → Problem
-problem_of vars clauses turns trail log kept =
-    record { vars = vars; clauses = clauses; turns = turns; log = log; model = kept_model kept vars trail.steps }
+abbrev pub problem_of : ℕ → State → Log → Bool → Problem
+problem_of turns trail log kept =
+    record { vars = trail.vars; clauses = formula_in trail.clauses log.lines; turns = turns; log = log; model = kept_model kept trail.vars trail.steps }
 
 -- how the fields of a solver belong together
-pub record IsInner (vars : ℕ) (clauses : List (List Lit)) (turns : ℕ) (trail : State) (work : Workspace) (log : Log) (kept : Bool) : Type 0 where
-  pub ready : IsReady vars work
-  pub searching : IsSearching vars clauses log.lines trail
-  pub solver : IsSolver (problem_of vars clauses turns trail log kept)
+pub record IsInner (turns : ℕ) (empty : Option ℕ) (trail : State) (work : Workspace) (log : Log) (kept : Bool) : Type 0 where
+  pub ready : IsReady trail work
+  pub searching : Searches log.lines trail
+  pub first : MatchOption empty (NoneEmpty (formula_in trail.clauses log.lines)) (IsFirstEmpty (formula_in trail.clauses log.lines))
+  pub solver : IsSolver (problem_of turns trail log kept)

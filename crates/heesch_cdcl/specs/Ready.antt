@@ -1,13 +1,14 @@
-use Rattle.std.specs.Prelude.{◌≡◌, ℕ}
+use Rattle.heesch_trail.specs.State.{State}
 use Rattle.heesch_cdcl.specs.declared.workspace.Workspace.{Workspace}
+use Rattle.heesch_cdcl.specs.Covers.{Guides}
 use Rattle.heesch_cdcl.specs.Marking.{AreListed, AreClear}
 
--- the order is one of these variables, and nothing is marked
-pub record IsReady (vars : ℕ) (work : Workspace) : Type 0 where
-  pub order : work.order ≡ vars
-  pub clear : AreClear vars work.marks.seen.items work.marks.here.items work.marks.touched.items work.marks.pending
+-- the covers are clauses of the trail, and nothing is marked
+pub record IsReady (trail : State) (work : Workspace) : Type 0 where
+  pub guides : Guides work.decisions.covers trail
+  pub clear : AreClear trail.vars work.marks.seen.items work.marks.here.items work.marks.touched.items work.marks.pending
 
--- the order is one of these variables, and each marked variable is listed
-pub record IsInUse (vars : ℕ) (work : Workspace) : Type 0 where
-  pub order : work.order ≡ vars
-  pub listed : AreListed vars work.marks.seen.items work.marks.here.items work.marks.touched.items
+-- the covers are clauses of the trail, and each marked variable is listed
+pub record IsInUse (trail : State) (work : Workspace) : Type 0 where
+  pub guides : Guides work.decisions.covers trail
+  pub listed : AreListed trail.vars work.marks.seen.items work.marks.here.items work.marks.touched.items

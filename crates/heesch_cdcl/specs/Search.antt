@@ -21,6 +21,11 @@ IsDescent trail (Some n) = IsNumber trail.clauses n × IsFalse (values_of trail.
 abbrev pub IsOpen : State → ℕ → Type 0
 IsOpen trail v = (1 ≤ v) × (v ≤ trail.vars) × (values_of trail.steps v ≡ None)
 
+-- a variable behind this one without a value, or none where each of these has one
+abbrev pub IsNextOpen : State → ℕ → Option ℕ → Type 0
+IsNextOpen trail passed None = (v : ℕ) → passed < v → v ≤ trail.vars → values_of trail.steps v ≢ None
+IsNextOpen trail passed (Some v) = IsOpen trail v
+
 -- a variable without a value, or none where each has one
 abbrev pub IsAnyOpen : State → Option ℕ → Type 0
 IsAnyOpen trail None = IsComplete trail

@@ -4,15 +4,15 @@ ghost use Rattle.heesch_cdcl.specs.Marked.{IsClauseOfMarked, IsLevelIn};
 ghost use Rattle.heesch_cdcl.specs.Ready.{IsReady, IsInUse};
 ghost use Rattle.heesch_cdcl.specs.Resolved.{IsDerived, IsResolving, IsResolved, IsBegun};
 ghost use Rattle.heesch_cnf.specs.Clauses.{IsClause};
-ghost use Rattle.heesch_cnf.specs.Lines.{clauses_with, FinalHolds};
-ghost use Rattle.heesch_trail.specs.State.{level_of};
+ghost use Rattle.heesch_cnf.specs.Lines.{FinalHolds};
+ghost use Rattle.heesch_trail.specs.State.{IsTrail, level_of};
 ghost use Rattle.heesch_cdcl.specs.Learning.{IsConflict, IsLearnt};
-ghost use Rattle.heesch_cdcl.specs.Searching.{IsSearching};
+ghost use Rattle.heesch_cdcl.specs.Search.{LowerFixpoints};
 
 use crate::assembly::clause_of_marks;
 use crate::marks::Marks;
 use crate::workspace::Workspace;
-use heesch_cnf::{Formula, Hints, Line, Lit, Lits, clause_numbered};
+use heesch_cnf::{Hints, Lit, Lits};
 use heesch_io::{NoMemory, Seq};
 use heesch_trail::Trail;
 use std::alloc::Global;
@@ -26,34 +26,25 @@ pub struct Learnt {
 }
 
 /// The variables of the conflict are marked.
-fn begin(
-    formula: &Formula,
-    lines: &[Line],
-    trail: &Trail,
-    conflict: u32,
-    marks: &mut Marks,
-) -> Result<(), NoMemory>
-    requires searching { IsSearching formula.now.vars formula.now.clauses lines.now trail.now }
+fn begin(trail: &Trail, conflict: u32, marks: &mut Marks) -> Result<(), NoMemory>
+    requires lower { LowerFixpoints trail.now }
     requires conflict { IsConflict trail.now conflict }
     requires clear { AreClear trail.now.vars marks.old.seen.items marks.old.here.items marks.old.touched.items marks.old.pending }
     ensures begun { OnOk result (IsBegun trail.now conflict marks.new.seen.items marks.new.here.items marks.new.pending) }
     ensures listed { AreListed trail.now.vars marks.new.seen.items marks.new.here.items marks.new.touched.items }
 {
-    let clause = clause_numbered(formula, lines, conflict);
+    let clause = trail.clause(conflict);
     marks.mark(trail, trail.level(), clause)?;
     Ok(())
 }
 
 /// The assignment at the place is left out, resolved with its reason where it is marked.
 fn resolve_at(
-    formula: &Formula,
-    lines: &[Line],
     trail: &Trail,
     place: usize,
     marks: &mut Marks,
     hints: &mut Vec<u32>,
 ) -> Result<(), NoMemory>
-    requires searching { IsSearching formula.now.vars formula.now.clauses lines.now trail.now }
     requires place { place < length trail.now.steps }
     requires many { (2 ≤ marks.old.pending) ⊎ ((1 ≤ marks.old.pending) × (level_of trail.now.steps ≡ 0)) }
     requires resolving { IsResolving trail.now (place + 1) marks.old.seen.items marks.old.here.items marks.old.pending (reverse hints.old.items) }
@@ -71,7 +62,7 @@ fn resolve_at(
     };
     hints.push(reason).map_err(|_| NoMemory)?;
     let level = trail.level();
-    marks.mark(trail, level, clause_numbered(formula, lines, reason))?;
+    marks.mark(trail, level, trail.clause(reason))?;
     marks.unmark(trail, level, var);
     Ok(())
 }
@@ -79,14 +70,11 @@ fn resolve_at(
 /// The assignment at the place is left out, resolved with its reason, where it is marked, of a lower level, and follows
 /// from the other marked ones and from level 0. Whether it was marked and of a lower level is answered.
 fn shorten_at(
-    formula: &Formula,
-    lines: &[Line],
     trail: &Trail,
     place: usize,
     marks: &mut Marks,
     hints: &mut Vec<u32>,
 ) -> Result<bool, NoMemory>
-    requires searching { IsSearching formula.now.vars formula.now.clauses lines.now trail.now }
     requires place { place < length trail.now.steps }
     requires derived { IsDerived trail.now (place + 1) marks.old.seen.items marks.old.here.items marks.old.pending (reverse hints.old.items) }
     requires listed { AreListed trail.now.vars marks.old.seen.items marks.old.here.items marks.old.touched.items }
@@ -98,7 +86,7 @@ fn shorten_at(
     if !marks.is_below(var) {
         return Ok(false);
     }
-    if !marks.follows(formula, lines, trail, var)? {
+    if !marks.follows(trail, var)? {
         return Ok(true);
     }
     let Some(reason) = trail.reason_of(var) else {
@@ -106,7 +94,7 @@ fn shorten_at(
     };
     hints.push(reason).map_err(|_| NoMemory)?;
     let level = trail.level();
-    marks.mark(trail, level, clause_numbered(formula, lines, reason))?;
+    marks.mark(trail, level, trail.clause(reason))?;
     marks.leave_out(trail, level, var);
     Ok(true)
 }
@@ -115,14 +103,11 @@ fn shorten_at(
 /// are passed over from this place down to the earliest of a marked variable: each variable that was marked is either
 /// passed by then or resolved before, which the hints count, or the one of the present level that stays.
 fn shorten(
-    formula: &Formula,
-    lines: &[Line],
     trail: &Trail,
     from: usize,
     marks: &mut Marks,
     hints: &mut Vec<u32>,
 ) -> Result<(), NoMemory>
-    requires searching { IsSearching formula.now.vars formula.now.clauses lines.now trail.now }
     requires derived { IsDerived trail.now from marks.old.seen.items marks.old.here.items marks.old.pending (reverse hints.old.items) }
     requires listed { AreListed trail.now.vars marks.old.seen.items marks.old.here.items marks.old.touched.items }
     ensures derived { OnOk result (IsDerived trail.now 0 marks.new.seen.items marks.new.here.items marks.new.pending (reverse hints.new.items)) }
@@ -133,7 +118,7 @@ fn shorten(
     let mut passed = hints.len();
     while place > 0 && passed < marks.touched.len() {
         place -= 1;
-        if shorten_at(formula, lines, trail, place, marks, hints)? {
+        if shorten_at(trail, place, marks, hints)? {
             passed = passed.saturating_add(1);
         }
     }
@@ -144,32 +129,38 @@ fn shorten(
 /// are left, and then leaves out what follows from the other literals. The hints are those of the resolved clauses, in the
 /// order of the assignments.
 fn resolve(
-    alloc: Global,
-    formula: &Formula,
-    lines: &[Line],
     trail: &Trail,
     conflict: u32,
     stop: usize,
     marks: &mut Marks,
-) -> Result<Hints, NoMemory>
-    requires searching { IsSearching formula.now.vars formula.now.clauses lines.now trail.now }
+    hints: &mut Vec<u32>,
+) -> Result<(), NoMemory>
+    requires lower { LowerFixpoints trail.now }
     requires conflict { IsConflict trail.now conflict }
     requires stop { (1 ≤ stop) ⊎ (level_of trail.now.steps ≡ 0) }
     requires clear { AreClear trail.now.vars marks.old.seen.items marks.old.here.items marks.old.touched.items marks.old.pending }
-    ensures resolved { IfOk result (λ hints. IsResolved trail.now stop marks.new.seen.items marks.new.here.items marks.new.pending hints) }
+    ensures resolved { OnOk result (IsResolved trail.now stop marks.new.seen.items marks.new.here.items marks.new.pending hints.new.items) }
     ensures listed { AreListed trail.now.vars marks.new.seen.items marks.new.here.items marks.new.touched.items }
 {
-    begin(formula, lines, trail, conflict, marks)?;
-    let mut hints = Vec::new(alloc);
+    begin(trail, conflict, marks)?;
+    hints.clear();
     hints.push(conflict).map_err(|_| NoMemory)?;
     let mut place = trail.made().len();
     while marks.pending > stop {
         place -= 1;
-        resolve_at(formula, lines, trail, place, marks, &mut hints)?;
+        resolve_at(trail, place, marks, hints)?;
     }
-    shorten(formula, lines, trail, place, marks, &mut hints)?;
+    shorten(trail, place, marks, hints)?;
     hints.reverse();
-    Ok(Seq::from_vec(hints))
+    Ok(())
+}
+
+/// The same hints, without spare room.
+fn copy_of(alloc: Global, hints: &[u32]) -> Result<Hints, NoMemory>
+    ensures { IfOk result (λ copy. copy ≡ hints.now) }
+{
+    let copy = Vec::from_slice(alloc, hints).map_err(|_| NoMemory)?;
+    Ok(Seq::from_vec(copy))
 }
 
 /// A level of the clause below the present one, and the highest of these, or 0.
@@ -178,7 +169,9 @@ fn back_of(trail: &Trail, clause: &[Lit]) -> u32
     requires level { 1 ≤ level_of trail.now.steps }
     ensures below { result < level_of trail.now.steps }
     ensures reached { IsLevelIn trail.now.steps clause.now result }
+    ensures valid { IsTrail trail.now }
 {
+    let _ = trail.vars();
     let level = trail.level();
     let mut back = 0;
     for lit in clause {
@@ -191,29 +184,26 @@ fn back_of(trail: &Trail, clause: &[Lit]) -> u32
     back
 }
 
-/// The clause that is learnt from the conflict. The variables that were marked move to the end of the order.
+/// The clause that is learnt from the conflict.
 fn learnt_from(
     alloc: Global,
-    formula: &Formula,
-    lines: &[Line],
     trail: &Trail,
     conflict: u32,
     work: &mut Workspace,
 ) -> Result<Learnt, NoMemory>
-    requires searching { IsSearching formula.now.vars formula.now.clauses lines.now trail.now }
+    requires lower { LowerFixpoints trail.now }
     requires conflict { IsConflict trail.now conflict }
     requires level { 1 ≤ level_of trail.now.steps }
-    requires ready { IsReady formula.now.vars work.old }
+    requires ready { IsReady trail.now work.old }
     ensures learnt { IfOk result (IsLearnt trail.now) }
-    ensures in_use { IsInUse formula.now.vars work.new }
+    ensures in_use { IsInUse trail.now work.new }
 {
-    let hints = resolve(alloc, formula, lines, trail, conflict, 1, &mut work.marks)?;
-    work.order.bump_all(&work.marks.touched);
-    let clause = clause_of_marks(alloc, trail, &work.marks)?;
+    resolve(trail, conflict, 1, &mut work.marks, &mut work.hints)?;
+    let clause = clause_of_marks(alloc, trail, &work.marks, &mut work.kept)?;
     let back = back_of(trail, clause.as_slice());
     Ok(Learnt {
         clause,
-        hints,
+        hints: copy_of(alloc, &work.hints)?,
         back,
     })
 }
@@ -223,41 +213,38 @@ fn learnt_from(
 /// and the sorting of the clause's variables.
 pub fn analyse(
     alloc: Global,
-    formula: &Formula,
-    lines: &[Line],
     trail: &Trail,
     conflict: u32,
     work: &mut Workspace,
 ) -> Result<Learnt, NoMemory>
-    requires searching { IsSearching formula.now.vars formula.now.clauses lines.now trail.now }
+    requires lower { LowerFixpoints trail.now }
     requires conflict { IsConflict trail.now conflict }
     requires level { 1 ≤ level_of trail.now.steps }
-    requires ready { IsReady formula.now.vars work.old }
+    requires ready { IsReady trail.now work.old }
     ensures learnt { IfOk result (IsLearnt trail.now) }
-    ensures ready { IsReady formula.now.vars work.new }
+    ensures ready { IsReady trail.now work.new }
 {
-    let learnt = learnt_from(alloc, formula, lines, trail, conflict, work);
-    work.marks.clear(formula.vars);
+    let learnt = learnt_from(alloc, trail, conflict, work);
+    work.marks.clear(trail.vars());
     learnt
 }
 
 /// The hints of the final line, from a conflict at level 0.
 pub fn final_hints(
     alloc: Global,
-    formula: &Formula,
-    lines: &[Line],
     trail: &Trail,
     conflict: u32,
     work: &mut Workspace,
 ) -> Result<Hints, NoMemory>
-    requires searching { IsSearching formula.now.vars formula.now.clauses lines.now trail.now }
+    requires lower { LowerFixpoints trail.now }
     requires conflict { IsConflict trail.now conflict }
     requires level { level_of trail.now.steps ≡ 0 }
-    requires ready { IsReady formula.now.vars work.old }
-    ensures last { IfOk result (FinalHolds (clauses_with formula.now.clauses lines.now)) }
-    ensures ready { IsReady formula.now.vars work.new }
+    requires ready { IsReady trail.now work.old }
+    ensures last { IfOk result (FinalHolds trail.now.clauses) }
+    ensures ready { IsReady trail.now work.new }
 {
-    let hints = resolve(alloc, formula, lines, trail, conflict, 0, &mut work.marks);
-    work.marks.clear(formula.vars);
-    hints
+    let resolved = resolve(trail, conflict, 0, &mut work.marks, &mut work.hints);
+    work.marks.clear(trail.vars());
+    resolved?;
+    copy_of(alloc, &work.hints)
 }

@@ -20,19 +20,26 @@ fn false_literal(trail: &Trail, var: u32) -> Lit
 }
 
 /// The clause of the marked variables, whose literals are false. They are sorted, since the variables of a clause rise.
-pub fn clause_of_marks(alloc: Global, trail: &Trail, marks: &Marks) -> Result<Lits, NoMemory>
+pub fn clause_of_marks(
+    alloc: Global,
+    trail: &Trail,
+    marks: &Marks,
+    kept: &mut Vec<u32>,
+) -> Result<Lits, NoMemory>
     requires { AreListed trail.now.vars marks.now.seen.items marks.now.here.items marks.now.touched.items }
     ensures { IfOk result (IsClauseOfMarked trail.now.vars trail.now.steps marks.now.seen.items) }
 {
-    let mut vars = marks.kept(alloc, trail.vars())?;
-    vars.sort_unstable();
-    let mut clause = Seq::new(alloc);
+    marks.keep(trail.vars(), kept)?;
+    kept.sort_unstable();
+    let mut clause = Vec::with_capacity(alloc, kept.len())?;
     let mut last = 0;
-    for var in &vars {
+    for var in &*kept {
         if last < *var {
-            clause.push(false_literal(trail, *var))?;
+            clause
+                .push(false_literal(trail, *var))
+                .map_err(|_| NoMemory)?;
             last = *var;
         }
     }
-    Ok(clause)
+    Ok(Seq::from_vec(clause))
 }

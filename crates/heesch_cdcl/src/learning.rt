@@ -1,15 +1,16 @@
 ghost use Rattle.std.specs.Prelude.{◌≡◌, ◌<◌, ◌≤◌, ◌+◌, ◌^◌, length, IfOk, OnOk, OnErr, ◌++◌, ◌∷◌, []};
 ghost use Rattle.heesch_cnf.specs.Clauses.{IsClause, IsNew};
 ghost use Rattle.heesch_cnf.specs.Lines.{clauses_with, FinalHolds};
-ghost use Rattle.heesch_trail.specs.State.{level_of};
-ghost use Rattle.heesch_cdcl.specs.Learning.{IsConflict, IsLearnt, LearnsOne, LearnsMore, IsEnding};
+ghost use Rattle.heesch_trail.specs.State.{IsTrail, level_of};
+ghost use Rattle.heesch_cdcl.specs.Learning.{IsConflict, IsLearnt, LearnsOne, LearnsMore, IsOver, IsEnding};
 ghost use Rattle.heesch_cdcl.specs.Ready.{IsReady};
-ghost use Rattle.heesch_cdcl.specs.Searching.{IsSearching};
+ghost use Rattle.heesch_cdcl.specs.Searching.{Searches, SameFormula, formula_in};
+ghost use Rattle.heesch_cdcl.specs.Search.{SameClauses};
 
 use crate::analysis::{analyse, final_hints};
 use crate::search::{descend, go_back, restart};
 use crate::workspace::Workspace;
-use heesch_cnf::{Formula, Hints, Line, Lits};
+use heesch_cnf::{Hints, Line, Lits};
 use heesch_io::{NoMemory, Seq};
 use heesch_trail::Trail;
 use std::alloc::Global;
@@ -31,23 +32,23 @@ fn copy_of(alloc: Global, clause: &Lits) -> Result<Lits, NoMemory>
 /// One more line, which holds and is new, or nothing has changed but the assignments.
 fn learn(
     alloc: Global,
-    formula: &Formula,
     lines: &mut Seq<Line>,
     trail: &mut Trail,
     work: &mut Workspace,
     conflict: u32,
 ) -> Result<(), NoMemory>
-    requires searching { IsSearching formula.now.vars formula.now.clauses lines.old trail.old }
-    requires ready { IsReady formula.now.vars work.old }
+    requires searching { Searches lines.old trail.old }
+    requires ready { IsReady trail.old work.old }
     requires conflict { IsConflict trail.old conflict }
     requires level { 1 ≤ level_of trail.old.steps }
-    requires room { length formula.now.clauses + length lines.old < 2 ^ 31 }
-    ensures searching { IsSearching formula.now.vars formula.now.clauses lines.new trail.new }
-    ensures ready { IsReady formula.now.vars work.new }
+    requires room { length (formula_in trail.old.clauses lines.old) + length lines.old < 2 ^ 31 }
+    ensures searching { Searches lines.new trail.new }
+    ensures formula { SameFormula lines.old trail.old lines.new trail.new }
+    ensures ready { IsReady trail.new work.new }
     ensures ok { OnOk result (LearnsOne lines.old lines.new) }
     ensures err { OnErr result (lines.new ≡ lines.old) }
 {
-    let learnt = analyse(alloc, formula, lines.as_slice(), trail, conflict, work)?;
+    let learnt = analyse(alloc, trail, conflict, work)?;
     let clause = copy_of(alloc, &learnt.clause)?;
     lines.push(Line::Learn {
         clause: learnt.clause,
@@ -57,28 +58,23 @@ fn learn(
         let _ = lines.pop();
         return Err(NoMemory);
     }
-    go_back(trail, &mut work.order, learnt.back);
+    go_back(trail, &mut work.decisions, learnt.back);
     Ok(())
 }
 
 /// Without turns left: the final line, where it holds.
-fn give_up(
-    alloc: Global,
-    formula: &Formula,
-    lines: &[Line],
-    trail: &mut Trail,
-    work: &mut Workspace,
-) -> Result<Ending, NoMemory>
-    requires searching { IsSearching formula.now.vars formula.now.clauses lines.now trail.old }
-    requires ready { IsReady formula.now.vars work.old }
-    ensures searching { IsSearching formula.now.vars formula.now.clauses lines.now trail.new }
-    ensures ready { IsReady formula.now.vars work.new }
-    ensures ended { IfOk result (IsEnding formula.now.vars formula.now.clauses (length lines.now) lines.now trail.new) }
+fn give_up(alloc: Global, trail: &mut Trail, work: &mut Workspace) -> Result<Ending, NoMemory>
+    requires { IsReady trail.old work.old }
+    ensures ended { IfOk result (IsOver trail.new) }
+    ensures level { level_of trail.new.steps ≡ 0 }
+    ensures same { SameClauses trail.old trail.new }
+    ensures valid { IsTrail trail.new }
+    ensures ready { IsReady trail.new work.new }
 {
-    match restart(trail, &mut work.order)? {
+    match restart(trail, &mut work.decisions)? {
         None => Ok(Ending::Spent),
         Some(conflict) => {
-            let hints = final_hints(alloc, formula, lines, trail, conflict, work)?;
+            let hints = final_hints(alloc, trail, conflict, work)?;
             Ok(Ending::Refuted(hints))
         }
     }
@@ -87,53 +83,53 @@ fn give_up(
 /// Searches and learns until there is a model, a refutation, or no turn left.
 pub fn run(
     alloc: Global,
-    formula: &Formula,
     turns: u32,
     lines: &mut Seq<Line>,
     trail: &mut Trail,
     work: &mut Workspace,
 ) -> Result<Ending, NoMemory>
-    requires searching { IsSearching formula.now.vars formula.now.clauses lines.old trail.old }
-    requires ready { IsReady formula.now.vars work.old }
-    requires room { length formula.now.clauses + turns < 2 ^ 31 }
+    requires searching { Searches lines.old trail.old }
+    requires ready { IsReady trail.old work.old }
+    requires room { length (formula_in trail.old.clauses lines.old) + turns < 2 ^ 31 }
     requires few { length lines.old ≤ turns }
-    ensures searching { IsSearching formula.now.vars formula.now.clauses lines.new trail.new }
-    ensures ready { IsReady formula.now.vars work.new }
+    ensures searching { Searches lines.new trail.new }
+    ensures formula { SameFormula lines.old trail.old lines.new trail.new }
+    ensures ready { IsReady trail.new work.new }
     ensures few { length lines.new ≤ turns }
     ensures learns { LearnsMore lines.old lines.new }
-    ensures ended { IfOk result (IsEnding formula.now.vars formula.now.clauses turns lines.new trail.new) }
+    ensures ended { IfOk result (IsEnding turns lines.new trail.new) }
 {
     loop {
-        let Some(conflict) = descend(trail, &mut work.order)? else {
+        let Some(conflict) = descend(trail, &mut work.decisions)? else {
             return Ok(Ending::Model);
         };
         if trail.level() == 0 {
-            let hints = final_hints(alloc, formula, lines.as_slice(), trail, conflict, work)?;
+            let hints = final_hints(alloc, trail, conflict, work)?;
             return Ok(Ending::Refuted(hints));
         }
         if lines.len() == turns as usize {
-            return give_up(alloc, formula, lines.as_slice(), trail, work);
+            return give_up(alloc, trail, work);
         }
-        learn(alloc, formula, lines, trail, work, conflict)?;
+        learn(alloc, lines, trail, work, conflict)?;
     }
 }
 
 /// A clause that was given stands in a line of its own, or nothing has changed.
 pub fn give_line(
     alloc: Global,
-    formula: &Formula,
     lines: &mut Seq<Line>,
     trail: &mut Trail,
     work: &mut Workspace,
     clause: Lits,
 ) -> Result<(), NoMemory>
-    requires searching { IsSearching formula.now.vars formula.now.clauses lines.old trail.old }
-    requires ready { IsReady formula.now.vars work.old }
-    requires form { IsClause formula.now.vars clause }
-    requires fresh { IsNew (clauses_with formula.now.clauses lines.old) clause }
-    requires room { length formula.now.clauses + length lines.old < 2 ^ 31 }
-    ensures searching { IsSearching formula.now.vars formula.now.clauses lines.new trail.new }
-    ensures ready { IsReady formula.now.vars work.new }
+    requires searching { Searches lines.old trail.old }
+    requires ready { IsReady trail.old work.old }
+    requires form { IsClause trail.old.vars clause }
+    requires fresh { IsNew trail.old.clauses clause }
+    requires room { length (formula_in trail.old.clauses lines.old) + length lines.old < 2 ^ 31 }
+    ensures searching { Searches lines.new trail.new }
+    ensures formula { SameFormula lines.old trail.old lines.new trail.new }
+    ensures ready { IsReady trail.new work.new }
     ensures ok { OnOk result (lines.new ≡ lines.old ++ Line.Given clause ∷ []) }
     ensures lines_stay { OnErr result (lines.new ≡ lines.old) }
     ensures trail_stays { OnErr result (trail.new ≡ trail.old) }
@@ -144,6 +140,6 @@ pub fn give_line(
         let _ = lines.pop();
         return Err(NoMemory);
     }
-    go_back(trail, &mut work.order, 0);
+    go_back(trail, &mut work.decisions, 0);
     Ok(())
 }

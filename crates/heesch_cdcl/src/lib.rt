@@ -3,13 +3,13 @@
 
 mod analysis;
 mod assembly;
+mod covers;
+mod decisions;
 mod empty;
 mod filled;
 mod laws;
 mod learning;
 mod marks;
-mod order;
-mod ring;
 mod search;
 mod solver;
 mod values;

@@ -1,12 +1,11 @@
 ghost use Rattle.std.specs.Prelude.{◌≡◌, ◌<◌, ◌≤◌, ◌+◌, IfOk, OnOk, IsTrue, ◌↔◌, Some, true, false, slice_set, filter, length};
 ghost use Rattle.heesch_cnf.specs.Clauses.{IsClause};
 ghost use Rattle.heesch_trail.specs.State.{level_of};
-ghost use Rattle.heesch_cdcl.specs.Searching.{IsSearching};
 ghost use Rattle.heesch_cdcl.specs.Marking.{AreMarks, AreListed, AreClear, MarksClause, marked, level_in};
 
 use crate::filled::filled;
 use crate::verdicts::Verdicts;
-use heesch_cnf::{Formula, Line, Lit};
+use heesch_cnf::PackedLit;
 use heesch_io::NoMemory;
 use heesch_trail::Trail;
 use std::alloc::Global;
@@ -77,7 +76,7 @@ impl Marks {
     }
 
     /// The variables of the clause are marked too.
-    pub fn mark(&mut self, trail: &Trail, level: u32, clause: &[Lit]) -> Result<(), NoMemory>
+    pub fn mark(&mut self, trail: &Trail, level: u32, clause: &[PackedLit]) -> Result<(), NoMemory>
         requires form { IsClause trail.now.vars clause.now }
         requires marks { AreMarks trail.now.vars level trail.now.steps self.old.seen.items self.old.here.items self.old.pending }
         requires listed { AreListed trail.now.vars self.old.seen.items self.old.here.items self.old.touched.items }
@@ -87,7 +86,7 @@ impl Marks {
         ensures more { self.old.pending ≤ self.new.pending }
     {
         for lit in clause {
-            self.mark_one(trail, level, lit.var)?;
+            self.mark_one(trail, level, lit.var())?;
         }
         Ok(())
     }
@@ -133,14 +132,7 @@ impl Marks {
     }
 
     /// Whether the variable follows from the marked ones and from level 0.
-    pub fn follows(
-        &mut self,
-        formula: &Formula,
-        lines: &[Line],
-        trail: &Trail,
-        var: u32,
-    ) -> Result<bool, NoMemory>
-        requires searching { IsSearching formula.now.vars formula.now.clauses lines.now trail.now }
+    pub fn follows(&mut self, trail: &Trail, var: u32) -> Result<bool, NoMemory>
         requires range { var ≤ trail.now.vars }
         requires room { length self.old.seen.items ≡ trail.now.vars + 1 }
         ensures seen { self.new.seen.items ≡ self.old.seen.items }
@@ -148,23 +140,22 @@ impl Marks {
         ensures touched { self.new.touched.items ≡ self.old.touched.items }
         ensures pending { self.new.pending ≡ self.old.pending }
     {
-        self.verdicts
-            .follows(formula, lines, trail, &self.seen, var, DEPTH)
+        self.verdicts.follows(trail, &self.seen, var, DEPTH)
     }
 
     /// The variables that are marked, in the order in which they were, each at least once.
-    pub fn kept(&self, alloc: Global, vars: u32) -> Result<Vec<u32>, NoMemory>
+    pub fn keep(&self, vars: u32, kept: &mut Vec<u32>) -> Result<(), NoMemory>
         requires { AreListed vars self.now.seen.items self.now.here.items self.now.touched.items }
-        ensures { IfOk result (λ v. v.items ≡ filter (marked self.now.seen.items) self.now.touched.items) }
+        ensures { OnOk result (kept.new.items ≡ filter (marked self.now.seen.items) self.now.touched.items) }
     {
         let _vars = vars;
-        let mut kept = Vec::new(alloc);
+        kept.clear();
         for var in &self.touched {
             if self.seen[*var as usize] {
                 kept.push(*var).map_err(|_| NoMemory)?;
             }
         }
-        Ok(kept)
+        Ok(())
     }
 
     /// Nothing is marked any more. The cost is the number of the variables that were.

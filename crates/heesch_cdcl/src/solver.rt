@@ -1,17 +1,18 @@
-ghost use Rattle.std.specs.Prelude.{◌≡◌, ◌≢◌, ℕ, ◌+◌, ◌<◌, ◌≤◌, ◌^◌, [], ◌∷◌, ◌++◌, length, None, IfOk, OnOk, OnErr, IsSomeAnd};
+ghost use Rattle.std.specs.Prelude.{◌≡◌, ◌≢◌, ℕ, ◌+◌, ◌<◌, ◌≤◌, ◌^◌, [], ◌∷◌, ◌++◌, length, None, IfOk, OnOk, OnErr, IsSomeAnd, MatchOption};
 ghost use Rattle.heesch_cnf.specs.Clauses.{IsClause, AreClauses, assignment_of};
 ghost use Rattle.heesch_cnf.specs.Lines.{FinalHolds};
 ghost use Rattle.heesch_trail.specs.State.{values_of};
 ghost use Rattle.heesch_cdcl.specs.Newness.{IsMadeFalse};
 ghost use Rattle.heesch_cdcl.specs.Learning.{LearnsMore};
 ghost use Rattle.heesch_cdcl.specs.Problem.{Problem, IsSolver, SameProblem, IsLeftOpen, values_list};
-ghost use Rattle.heesch_cdcl.specs.Empty.{IsFirstEmpty};
+ghost use Rattle.heesch_cdcl.specs.Empty.{IsFirstEmpty, NoneEmpty};
 ghost use Rattle.heesch_cdcl.specs.Found.{IsFound, IsRefutedAtOnce};
 
+use crate::covers::Covers;
 use crate::empty::{first_empty, only};
 use crate::learning::{Ending, give_line, run};
 use crate::workspace::Workspace;
-use heesch_cnf::{Formula, Line, Lits, Log};
+use heesch_cnf::{FlatFormula, Formula, Line, Lits, Log};
 use heesch_io::{NoMemory, Seq};
 use heesch_trail::Trail;
 use std::alloc::Global;
@@ -25,11 +26,12 @@ pub enum Found {
     Spent,
 }
 
-/// A formula, the log of what was learnt from it and given to it, and the state of the search.
+/// A formula, the log of what was learnt from it and given to it, and the state of the search. The clauses of the formula
+/// are those of the trail before those of the log.
 #[derive(Drop)]
 pub struct Solver {
-    formula: Formula,
     turns: u32,
+    empty: Option<u32>,
     trail: Trail,
     work: Workspace,
     log: Log,
@@ -42,18 +44,17 @@ impl Model for Solver {
 
     ghost Value = { Problem };
 
-    ghost view = { λ s. problem_of s.formula.vars s.formula.clauses s.turns s.trail s.log s.kept };
+    ghost view = { λ s. problem_of s.turns s.trail s.log s.kept };
 
-    ghost invariant = { λ s. IsInner s.formula.vars s.formula.clauses s.turns s.trail s.work s.log s.kept };
+    ghost invariant = { λ s. IsInner s.turns s.empty s.trail s.work s.log s.kept };
 }
 
 /// The values of the variables, in number order.
-fn values_in(alloc: Global, vars: u32, trail: &Trail) -> Result<Seq<bool>, NoMemory>
-    requires { trail.now.vars ≡ vars }
-    ensures { IfOk result (λ values. values ≡ values_list vars trail.now.steps) }
+fn values_in(alloc: Global, trail: &Trail) -> Result<Seq<bool>, NoMemory>
+    ensures { IfOk result (λ values. values ≡ values_list trail.now.vars trail.now.steps) }
 {
     let mut values = Seq::new(alloc);
-    for before in 0..vars {
+    for before in 0..trail.vars() {
         values.push(trail.value(before + 1).unwrap_or(false))?;
     }
     Ok(values)
@@ -68,12 +69,24 @@ impl Solver {
         ensures opened { IfOk result (λ s. s ≡ record { vars = formula.vars; clauses = formula.clauses; turns = turns; log = record { lines = []; last = None }; model = None }) }
         ensures valid { IfOk result IsSolver }
     {
-        let trail = Trail::open(alloc, &formula)?;
-        let work = Workspace::new(alloc, formula.vars)?;
+        Solver::over(alloc, FlatFormula::of(alloc, &formula)?, turns)
+    }
+
+    /// An empty log over the formula, which is taken over and not copied, with room for `turns` lines. The cost is the
+    /// number of the variables and of all literals.
+    pub fn over(alloc: Global, formula: FlatFormula, turns: u32) -> Result<Solver, NoMemory>
+        requires turns { 1 ≤ turns }
+        requires room { length formula.clauses + turns < 2 ^ 31 }
+        ensures opened { IfOk result (λ s. s ≡ record { vars = formula.vars; clauses = formula.clauses; turns = turns; log = record { lines = []; last = None }; model = None }) }
+        ensures valid { IfOk result IsSolver }
+    {
+        let empty = first_empty(&formula);
+        let covers = Covers::of(alloc, &formula)?;
+        let work = Workspace::new(alloc, covers, formula.vars())?;
         Ok(Solver {
-            formula,
             turns,
-            trail,
+            empty,
+            trail: Trail::over(alloc, formula)?,
             work,
             log: Log {
                 lines: Seq::new(alloc),
@@ -90,11 +103,11 @@ impl Solver {
     /// formula refutes at once, and the final line has the least number of one. With more turns than 3 to the power of the
     /// number of variables the search is never spent. The same formula, turns and given clauses give the same log.
     ///
-    /// The cost is a look at each clause of the formula, and then that of the search: for an assignment the clauses
-    /// watched by the literal made false; for a decision the variables passed over in a queue; for a conflict the clauses
-    /// resolved or looked at to shorten the learnt clause, the assignments after the earliest of its variables, the
-    /// assignments taken back, the sorting of the learnt clause, and a look at each clause learnt since the level gone back
-    /// to was left. All variables are looked at once, for a model.
+    /// The cost is that of the search: for an assignment the clauses watched by the literal made false; for a decision
+    /// the clauses with at most one negative literal, whose variable is true, each up to a true literal or to as many open
+    /// ones as the best has; for a conflict the clauses resolved or looked at to shorten the learnt clause, the assignments
+    /// after the earliest of its variables, the assignments taken back, the sorting of the learnt clause, and a look at
+    /// each clause learnt since the level gone back to was left. All variables are looked at once, for a model.
     pub fn next(&mut self) -> Result<Found, NoMemory>
         ensures found { IfOk result (IsFound self.new) }
         ensures ends { 3 ^ self.old.vars < self.old.turns → IfOk result (λ found. found ≢ Found.Spent) }
@@ -104,10 +117,17 @@ impl Solver {
         ensures err { OnErr result (IsLeftOpen self.old self.new) }
         ensures valid { IsSolver self.new }
     {
-        match first_empty(self.formula.clauses.as_slice()) {
+        match self.first_empty() {
             Some(number) => self.refute_by(number),
             None => self.search(),
         }
+    }
+
+    /// The least number of a clause of the formula without literals, which was looked up when the solver was opened.
+    fn first_empty(&self) -> Option<u32>
+        ensures { MatchOption result (NoneEmpty self.now.clauses) (IsFirstEmpty self.now.clauses) }
+    {
+        self.empty
     }
 
     fn refute_by(&mut self, number: u32) -> Result<Found, NoMemory>
@@ -137,14 +157,13 @@ impl Solver {
         }
         match run(
             self.alloc,
-            &self.formula,
             self.turns,
             &mut self.log.lines,
             &mut self.trail,
             &mut self.work,
         )? {
             Ending::Model => {
-                let values = values_in(self.alloc, self.formula.vars, &self.trail)?;
+                let values = values_in(self.alloc, &self.trail)?;
                 self.kept = true;
                 Ok(Found::Model { values })
             }
@@ -168,7 +187,6 @@ impl Solver {
     {
         give_line(
             self.alloc,
-            &self.formula,
             &mut self.log.lines,
             &mut self.trail,
             &mut self.work,

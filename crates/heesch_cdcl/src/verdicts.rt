@@ -1,8 +1,7 @@
 ghost use Rattle.std.specs.Prelude.{◌≡◌, ◌+◌, ◌≤◌, IfOk, IfSome, length};
 ghost use Rattle.heesch_cnf.specs.Clauses.{IsClause};
-ghost use Rattle.heesch_cdcl.specs.Searching.{IsSearching};
 
-use heesch_cnf::{Formula, Line, Lit, clause_numbered};
+use heesch_cnf::PackedLit;
 use heesch_io::NoMemory;
 use heesch_trail::Trail;
 use std::alloc::Global;
@@ -16,19 +15,14 @@ pub struct Verdicts {
 }
 
 /// The clause that a variable's value follows from.
-fn reason_in<'a>(
-    formula: &'a Formula,
-    lines: &'a [Line],
-    trail: &Trail,
-    var: u32,
-) -> Option<&'a [Lit]>
-    requires searching { IsSearching formula.now.vars formula.now.clauses lines.now trail.now }
-    requires range { var ≤ trail.now.vars }
+fn reason_in(trail: &Trail, var: u32) -> Option<&[PackedLit]>
+    requires { var ≤ trail.now.vars }
     ensures { IfSome result (λ clause. IsClause trail.now.vars clause.now) }
 {
+    let _ = trail.vars();
     match trail.reason_of(var) {
         None => None,
-        Some(reason) => Some(clause_numbered(formula, lines, reason)),
+        Some(reason) => Some(trail.clause(reason)),
     }
 }
 
@@ -66,14 +60,11 @@ impl Verdicts {
     /// of the reasons of the variables that weren't asked about before.
     pub fn follows(
         &mut self,
-        formula: &Formula,
-        lines: &[Line],
         trail: &Trail,
         seen: &[bool],
         var: u32,
         depth: u32,
     ) -> Result<bool, NoMemory>
-        requires searching { IsSearching formula.now.vars formula.now.clauses lines.now trail.now }
         requires range { var ≤ trail.now.vars }
         requires room { length seen.now ≡ trail.now.vars + 1 }
     {
@@ -83,13 +74,13 @@ impl Verdicts {
         if depth == 0 {
             return Ok(false);
         }
-        let Some(reason) = reason_in(formula, lines, trail, var) else {
+        let Some(reason) = reason_in(trail, var) else {
             return Ok(false);
         };
         for lit in reason {
-            let other = lit.var;
+            let other = lit.var();
             let given = other == var || seen[other as usize] || trail.level_of(other) == Some(0);
-            if !given && !self.follows(formula, lines, trail, seen, other, depth - 1)? {
+            if !given && !self.follows(trail, seen, other, depth - 1)? {
                 return self.judge(var, false);
             }
         }

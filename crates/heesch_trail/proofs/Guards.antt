@@ -9,7 +9,8 @@ use Rattle.heesch_trail.specs.declared.pair.Pair.{Pair}
 use Rattle.heesch_trail.specs.declared.step.Step.{Step}
 use Rattle.heesch_trail.specs.Fixpoint.{IsSettled}
 use Rattle.heesch_trail.specs.State.{State, IsTrail, Continues, values_of}
-use Rattle.heesch_trail.specs.Watches.{Watching, code_of, list_of, pair_of, AreKept, IsWatch, AreWhole, IsNotFalse, AreNotFalse, AreMoved}
+use Rattle.heesch_cnf.specs.Flat.{code_of}
+use Rattle.heesch_trail.specs.Watches.{Watching, list_of, pair_of, AreKept, IsWatch, AreWhole, IsNotFalse, AreNotFalse, AreMoved}
 use Rattle.heesch_trail.specs.Readings.{AreLeft}
 use Rattle.heesch_trail.specs.Seen.{IsGuarded, IsAlert, AreAlert, IsSeen, AreSeen, GoesOn}
 use Rattle.heesch_trail.proofs.Levels.{Continues-none}

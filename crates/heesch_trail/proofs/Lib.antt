@@ -1,4 +1,3 @@
-pub mod FlatLemmas
 pub mod Settled
 pub mod Inner
 pub mod Levels

@@ -9,7 +9,8 @@ use Rattle.heesch_trail.specs.declared.propagation.Visit.{Visit}
 use Rattle.heesch_trail.specs.declared.propagation.Visit.TheVariants.{HasTrue as TrueVisit, Watched, AllFalse}
 use Rattle.heesch_trail.specs.Fixpoint.{HasTrue}
 use Rattle.heesch_trail.specs.State.{State, IsTrail, values_of}
-use Rattle.heesch_trail.specs.Watches.{Watching, code_of, list_of, pair_of, OthersStay, IsWithout, AreWhole, AreNotFalse}
+use Rattle.heesch_cnf.specs.Flat.{code_of}
+use Rattle.heesch_trail.specs.Watches.{Watching, list_of, pair_of, OthersStay, IsWithout, AreWhole, AreNotFalse}
 use Rattle.heesch_trail.specs.Seen.{GoesOn, IsVisit, IsUnwatched, IsVisitBy, IsPassed, AreVisitedBy}
 use Rattle.heesch_trail.proofs.Levels.{Continues-none}
 use Rattle.heesch_trail.proofs.Visits.{Value-continues, HasTrue-continues}

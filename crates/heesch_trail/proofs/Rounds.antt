@@ -10,7 +10,8 @@ use Rattle.heesch_trail.specs.declared.propagation.Visit.{Visit}
 use Rattle.heesch_trail.specs.declared.propagation.Visit.TheVariants.{HasTrue as TrueVisit, Watched, AllFalse}
 use Rattle.heesch_trail.specs.Fixpoint.{IsSettled, IsFixpoint}
 use Rattle.heesch_trail.specs.State.{State, IsTrail, StepsHold, Continues, made_by, values_of}
-use Rattle.heesch_trail.specs.Watches.{Watching, code_of, pair_of, AreWhole}
+use Rattle.heesch_cnf.specs.Flat.{code_of}
+use Rattle.heesch_trail.specs.Watches.{Watching, pair_of, AreWhole}
 use Rattle.heesch_trail.specs.Seen.{IsAlert, AreAlert, IsSeen, AreSeen, GoesOn, IsVisit, AreVisitedBy, StaySeen}
 use Rattle.heesch_trail.proofs.Visits.{true-pushed, Value-push, Steps-more, same_clauses, more_steps}
 use Rattle.heesch_trail.proofs.Guards.{Code-fits, Alert-up, AreSeen-goes_on, Seen-guarded, Guarded-settled}

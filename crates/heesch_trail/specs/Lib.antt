@@ -1,5 +1,4 @@
 pub mod Fixpoint
-pub mod Flat
 pub mod Inner
 pub mod Readings
 pub mod Seen

@@ -1,6 +1,7 @@
-use Rattle.std.specs.Prelude.{◌≡◌, ◌≢◌, ℕ, ◌+◌, ◌*◌, ◌<◌, ◌≤◌, ◌⊎◌, if◌then◌else◌, Option, None, Some, false, List, [], length, take, Contains, slice_index_or}
+use Rattle.std.specs.Prelude.{◌≡◌, ◌≢◌, ℕ, ◌+◌, ◌*◌, ◌<◌, ◌≤◌, ◌⊎◌, Option, None, Some, false, List, [], length, take, Contains, slice_index_or}
 use Rattle.heesch_cnf.specs.declared.literal.Lit.{Lit}
 use Rattle.heesch_cnf.specs.Literals.{Values, lit_value}
+use Rattle.heesch_cnf.specs.Flat.{code_of}
 use Rattle.heesch_trail.specs.declared.pair.Pair.{Pair}
 
 -- what contracts see of the watches: by a clause's index, from 0, the two of its literals that are watched, where there are such,
@@ -8,10 +9,6 @@ use Rattle.heesch_trail.specs.declared.pair.Pair.{Pair}
 pub record Watching : Type 0 where
   pub pairs : List (Option Pair)
   pub lists : List (List ℕ)
-
--- where the list of a literal stands
-abbrev pub code_of : Lit → ℕ
-code_of l = 2 * l.var + (if l.positive then 1 else 0)
 
 -- the indices of the clauses that a literal may watch
 abbrev pub list_of : List (List ℕ) → Lit → List ℕ

@@ -1,13 +1,13 @@
 ghost use Rattle.std.specs.Prelude.{◌≡◌, ℕ, ◌+◌, ◌<◌, ◌≤◌, ◌^◌, [], ◌∷◌, ◌++◌, length, Some, None, All, IfOk, IfErr, OnOk, OnErr, option_map, option_and_then, replicate, take, ◌-◌, slice_index_or};
 ghost use Rattle.heesch_cnf.specs.Clauses.{IsClause};
+ghost use Rattle.heesch_cnf.specs.Lines.{IsNumber, numbered};
 ghost use Rattle.heesch_cnf.specs.Literals.{lit_value, is_true_value, is_false_value};
 ghost use Rattle.heesch_trail.specs.Readings.{IsReading};
 ghost use Rattle.heesch_trail.specs.State.{State, IsTrail, StepHolds, fact_of, values_of, made_by, level_of, up_to, decision};
 
 use crate::Step;
 use crate::scan::{Reading, read_clause};
-use crate::store::ClauseStore;
-use heesch_cnf::{Formula, Lit, Lits};
+use heesch_cnf::{FlatFormula, Lit, Lits, PackedLit};
 use heesch_io::NoMemory;
 use std::alloc::Global;
 use std::marker::Model;
@@ -15,8 +15,7 @@ use std::marker::Model;
 /// Clauses, and assignments to their variables in the order in which they were made, by variable too.
 #[derive(Drop)]
 pub struct Assigned {
-    vars: u32,
-    clauses: ClauseStore,
+    formula: FlatFormula,
     values: Vec<Option<bool>>,
     facts: Vec<Option<Step>>,
     steps: Vec<Step>,
@@ -30,9 +29,9 @@ impl Model for Assigned {
 
     ghost use Rattle.heesch_trail.specs.Inner.{IsInner};
 
-    ghost view = { λ t. record { vars = t.vars; clauses = t.clauses; steps = t.steps.items } };
+    ghost view = { λ t. record { vars = t.formula.vars; clauses = t.formula.clauses; steps = t.steps.items } };
 
-    ghost invariant = { λ t. IsInner t.vars t.clauses t.values.items t.facts.items t.steps.items t.made.items };
+    ghost invariant = { λ t. IsInner t.formula.vars t.formula.clauses t.values.items t.facts.items t.steps.items t.made.items };
 }
 
 /// `count` places with nothing in them.
@@ -49,16 +48,14 @@ pub fn nones<T: Drop>(alloc: Global, count: usize) -> Result<Vec<Option<T>>, NoM
 }
 
 impl Assigned {
-    /// No assignments, over the clauses of the formula, which are copied. The cost is the number of the variables and of
-    /// all literals.
-    pub fn open(alloc: Global, formula: &Formula) -> Result<Assigned, NoMemory>
-        ensures opened { IfOk result (λ t. t ≡ record { vars = formula.now.vars; clauses = formula.now.clauses; steps = [] }) }
+    /// No assignments, over the clauses of the formula, which are taken over. The cost is the number of the variables.
+    pub fn over(alloc: Global, formula: FlatFormula) -> Result<Assigned, NoMemory>
+        ensures opened { IfOk result (λ t. t ≡ record { vars = formula.vars; clauses = formula.clauses; steps = [] }) }
         ensures valid { IfOk result IsTrail }
     {
-        let places = formula.vars as usize + 1;
+        let places = formula.vars() as usize + 1;
         Ok(Assigned {
-            vars: formula.vars,
-            clauses: ClauseStore::copy_of(alloc, formula.clauses.as_slice())?,
+            formula,
             values: nones(alloc, places)?,
             facts: nones(alloc, places)?,
             steps: Vec::new(alloc),
@@ -71,7 +68,7 @@ impl Assigned {
         ensures vars { result ≡ self.now.vars }
         ensures valid { IsTrail self.now }
     {
-        self.vars
+        self.formula.vars()
     }
 
     /// The true literals, in the order in which they were made. The other literals of a reason are false, and their
@@ -175,8 +172,8 @@ impl Assigned {
         ensures err { OnErr result (self.new ≡ self.old) }
         ensures valid { IsTrail self.new }
     {
-        self.clauses.push(clause.as_slice())?;
-        Ok(self.clauses.len() as u32)
+        self.formula.add(clause.as_slice())?;
+        Ok(self.formula.len() as u32)
     }
 
     /// The assignment stands last, or nothing has changed.
@@ -205,7 +202,7 @@ impl Assigned {
         requires is_open { values_of self.now.steps lit.var ≡ None }
         ensures { result ≡ level_of self.now.steps + 1 }
     {
-        let _vars = self.vars;
+        let _ = self.formula.vars();
         self.level() + 1
     }
 
@@ -234,7 +231,12 @@ impl Assigned {
         ensures few { length self.now.clauses ≤ 2 ^ 31 }
         ensures valid { IsTrail self.now }
     {
-        read_clause(&self.values, self.vars, self.clauses.clause(index))
+        let _ = self.formula.len();
+        read_clause(
+            &self.values,
+            self.formula.vars(),
+            self.formula.clause(index),
+        )
     }
 
     /// The number of the clauses. It takes no memory.
@@ -243,7 +245,16 @@ impl Assigned {
         ensures few { result ≤ 2 ^ 31 }
         ensures valid { IsTrail self.now }
     {
-        self.clauses.len()
+        self.formula.len()
+    }
+
+    /// The clause of a number, which counts from 1. Nothing is copied.
+    pub fn clause(&self, number: u32) -> &[PackedLit]
+        requires { IsNumber self.now.clauses number }
+        ensures clause { result.now ≡ numbered self.now.clauses number }
+        ensures valid { IsTrail self.now }
+    {
+        self.formula.clause(number as usize - 1)
     }
 
     /// The last assignment is gone.
@@ -268,7 +279,7 @@ impl Assigned {
         ensures level { level_of self.new.steps ≡ level }
         ensures valid { IsTrail self.new }
     {
-        let _ = &self.vars;
+        let _ = &self.formula;
         while self.level() > level {
             self.undo();
         }

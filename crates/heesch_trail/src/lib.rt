@@ -6,7 +6,6 @@ mod pair;
 mod propagation;
 mod scan;
 mod step;
-mod store;
 mod trail;
 mod watch_list;
 mod watches;

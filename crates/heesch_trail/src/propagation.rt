@@ -2,7 +2,8 @@ ghost use Rattle.std.specs.Prelude.{◌≡◌, ◌+◌, ◌<◌, ◌≤◌, ◌^
 ghost use Rattle.heesch_cnf.specs.Literals.{lit_value};
 ghost use Rattle.heesch_cnf.specs.Clauses.{left_of};
 ghost use Rattle.heesch_trail.specs.Fixpoint.{HasTrue};
-ghost use Rattle.heesch_trail.specs.Watches.{AreWhole, list_of, code_of};
+ghost use Rattle.heesch_cnf.specs.Flat.{code_of};
+ghost use Rattle.heesch_trail.specs.Watches.{AreWhole, list_of};
 ghost use Rattle.heesch_trail.specs.Seen.{AreSeen, GoesOn, IsVisit, IsVisitBy, AreVisitedBy, AreRead, StaySeen};
 ghost use Rattle.heesch_trail.specs.State.{IsTrail, Continues, IsPropagated, values_of};
 
@@ -45,7 +46,7 @@ fn follow(assigned: &mut Assigned, index: u32, lit: Lit) -> Result<(), NoMemory>
 
 /// Reads the clause of an index: watches it by two literals that aren't false, or makes the assignment that follows from it.
 /// The cost is at most the clause's length.
-fn visit_clause(
+fn read_watched(
     assigned: &mut Assigned,
     watches: &mut Watches,
     index: u32,
@@ -67,6 +68,22 @@ fn visit_clause(
             Ok(Visit::Watched)
         }
     }
+}
+
+/// Reads the clause of an index, and counts this.
+fn visit_clause(
+    assigned: &mut Assigned,
+    watches: &mut Watches,
+    index: u32,
+) -> Result<Visit, NoMemory>
+    requires within { index < length assigned.old.clauses }
+    requires whole { AreWhole assigned.old.vars assigned.old.clauses watches.old }
+    ensures goes_on { GoesOn assigned.old watches.old assigned.new watches.new }
+    ensures found { IfOk result (IsVisit assigned.new watches.new index) }
+    ensures stays { (l : Lit) → lit_value (values_of assigned.old.steps) l ≡ Some false → list_of watches.new.lists l ≡ list_of watches.old.lists l }
+{
+    watches.note_visit();
+    read_watched(assigned, watches, index)
 }
 
 /// Visits the clause of an index that stands in the list of a false literal. It is read only where the literal watches it and
@@ -138,6 +155,7 @@ fn visit_first(
         && !assigned.is_false(pair.one)
         && !assigned.is_false(pair.other)
     {
+        watches.note_visit();
         return Ok(Visit::Watched);
     }
     visit_clause(assigned, watches, index)

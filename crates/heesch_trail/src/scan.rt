@@ -4,7 +4,7 @@ ghost use Rattle.heesch_cnf.specs.Clauses.{IsClause};
 ghost use Rattle.heesch_trail.specs.Readings.{IsReading};
 
 use crate::pair::Pair;
-use heesch_cnf::{Lit, value_of};
+use heesch_cnf::{Lit, PackedLit, value_of};
 
 /// Which literals of a clause aren't false.
 #[derive(Debug, Clone, Copy)]
@@ -25,17 +25,18 @@ fn is_false(values: &[Option<bool>], lit: Lit) -> bool
 }
 
 /// Which literals of the clause aren't false: none, the only one, or the first two. The cost is at most its length.
-pub fn read_clause(values: &[Option<bool>], vars: u32, clause: &[Lit]) -> Reading
+pub fn read_clause(values: &[Option<bool>], vars: u32, clause: &[PackedLit]) -> Reading
     requires room { vars < length values.now }
     requires form { IsClause vars clause.now }
     ensures { IsReading (held values.now) clause.now result }
 {
     let mut left = None;
-    for lit in clause {
-        if !is_false(values, *lit) {
+    for packed in clause {
+        let lit = packed.lit();
+        if !is_false(values, lit) {
             match left {
-                None => left = Some(*lit),
-                Some(one) => return Reading::Two(Pair { one, other: *lit }),
+                None => left = Some(lit),
+                Some(one) => return Reading::Two(Pair { one, other: lit }),
             }
         }
     }

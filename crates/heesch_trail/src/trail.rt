@@ -1,12 +1,14 @@
 ghost use Rattle.std.specs.Prelude.{◌≡◌, ℕ, ◌+◌, ◌<◌, ◌≤◌, ◌^◌, [], ◌∷◌, ◌++◌, length, Some, None, All, IfOk, IfErr, OnOk, OnErr, option_map, option_and_then, replicate, take, ◌-◌};
 ghost use Rattle.heesch_cnf.specs.Clauses.{IsClause};
+ghost use Rattle.heesch_cnf.specs.Lines.{IsNumber, numbered};
+ghost use Rattle.heesch_cnf.specs.Literals.{lit_value, is_true_value, is_false_value};
 ghost use Rattle.heesch_trail.specs.Fixpoint.{IsFixpoint};
 ghost use Rattle.heesch_trail.specs.State.{State, IsTrail, fact_of, values_of, made_by, level_of, up_to, Continues, IsPropagated, decision};
 
 use crate::assigned::Assigned;
 use crate::propagation::{drain, guarded, read_fresh};
 use crate::watches::Watches;
-use heesch_cnf::{Formula, Lit, Lits};
+use heesch_cnf::{FlatFormula, Formula, Lit, Lits, PackedLit};
 use heesch_io::NoMemory;
 use std::alloc::Global;
 use std::marker::Model;
@@ -34,19 +36,30 @@ impl Model for Trail {
 }
 
 impl Trail {
-    /// No assignments, over the clauses of the formula, which are copied. The cost is the number of the variables and of
-    /// all literals.
-    pub fn open(alloc: Global, formula: &Formula) -> Result<Trail, NoMemory>
-        ensures opened { IfOk result (λ t. t ≡ record { vars = formula.now.vars; clauses = formula.now.clauses; steps = [] }) }
+    /// No assignments, over the clauses of the formula, which are taken over and not copied. The cost is the number of the
+    /// variables and of the clauses.
+    pub fn over(alloc: Global, formula: FlatFormula) -> Result<Trail, NoMemory>
+        ensures opened { IfOk result (λ t. t ≡ record { vars = formula.vars; clauses = formula.clauses; steps = [] }) }
         ensures valid { IfOk result IsTrail }
     {
+        let vars = formula.vars();
+        let count = formula.len();
         Ok(Trail {
-            assigned: Assigned::open(alloc, formula)?,
-            watches: Watches::open(alloc, formula.vars, formula.clauses.len())?,
+            assigned: Assigned::over(alloc, formula)?,
+            watches: Watches::open(alloc, vars, count)?,
             head: 0,
             fresh: 0,
             marks: Vec::new(alloc),
         })
+    }
+
+    /// No assignments, over the clauses of the formula, which are copied. A formula of 2^31 variables or more counts as want
+    /// of memory. The cost is the number of the variables and of all literals.
+    pub fn open(alloc: Global, formula: &Formula) -> Result<Trail, NoMemory>
+        ensures opened { IfOk result (λ t. t ≡ record { vars = formula.now.vars; clauses = formula.now.clauses; steps = [] }) }
+        ensures valid { IfOk result IsTrail }
+    {
+        Trail::over(alloc, FlatFormula::of(alloc, formula)?)
     }
 
     /// The number of the variables. It takes no memory.
@@ -55,6 +68,24 @@ impl Trail {
         ensures valid { IsTrail self.now }
     {
         self.assigned.vars()
+    }
+
+    /// The number of the clauses. It takes no memory.
+    pub fn count(&self) -> usize
+        ensures count { result ≡ length self.now.clauses }
+        ensures few { result ≤ 2 ^ 31 }
+        ensures valid { IsTrail self.now }
+    {
+        self.assigned.count()
+    }
+
+    /// The clause of a number, which counts from 1. Nothing is copied. The cost is one look-up.
+    pub fn clause(&self, number: u32) -> &[PackedLit]
+        requires { IsNumber self.now.clauses number }
+        ensures clause { result.now ≡ numbered self.now.clauses number }
+        ensures valid { IsTrail self.now }
+    {
+        self.assigned.clause(number)
     }
 
     /// The true literals, in the order in which they were made. The other literals of a reason are false, and their
@@ -72,6 +103,30 @@ impl Trail {
         ensures { result ≡ values_of self.now.steps var }
     {
         self.assigned.value(var)
+    }
+
+    /// The value of a literal, or None where its variable is open. The cost is one look-up.
+    pub fn value_of(&self, lit: PackedLit) -> Option<bool>
+        requires { lit.var ≤ self.now.vars }
+        ensures { result ≡ lit_value (values_of self.now.steps) lit }
+    {
+        self.assigned.value_of(lit.lit())
+    }
+
+    /// Whether a literal is true. The cost is one look-up.
+    pub fn is_true(&self, lit: PackedLit) -> bool
+        requires { lit.var ≤ self.now.vars }
+        ensures { result ≡ is_true_value (lit_value (values_of self.now.steps) lit) }
+    {
+        self.assigned.is_true(lit.lit())
+    }
+
+    /// Whether a literal is false. The cost is one look-up.
+    pub fn is_false(&self, lit: PackedLit) -> bool
+        requires { lit.var ≤ self.now.vars }
+        ensures { result ≡ is_false_value (lit_value (values_of self.now.steps) lit) }
+    {
+        self.assigned.is_false(lit.lit())
     }
 
     /// The level at which a variable was assigned, or None where it is open. The cost is one look-up.
@@ -150,6 +205,12 @@ impl Trail {
             return Ok(found);
         }
         drain(&mut self.assigned, &mut self.watches, &mut self.head)
+    }
+
+    /// The number of clauses that `propagate` read since `open`, a look at a clause's watched literals after going back counted
+    /// too; it stays at the greatest `u64` once it is there. It takes no memory.
+    pub fn visits(&self) -> u64 {
+        self.watches.visits()
     }
 
     /// The assignments above the level are gone, and the others stay, with their order, levels and reasons. The cost is the

@@ -1,5 +1,6 @@
 ghost use Rattle.std.specs.Prelude.{◌≡◌, ◌≢◌, ℕ, ◌+◌, ◌*◌, ◌<◌, ◌^◌, [], ◌∷◌, ◌++◌, length, set, replicate, None, Some, Contains, IfOk, OnOk, OnErr};
-ghost use Rattle.heesch_trail.specs.Watches.{Watching, code_of, list_of, pair_of, AreKept, OthersStay, IsWithout, IsListed};
+ghost use Rattle.heesch_cnf.specs.Flat.{code_of};
+ghost use Rattle.heesch_trail.specs.Watches.{Watching, list_of, pair_of, AreKept, OthersStay, IsWithout, IsListed};
 
 use crate::assigned::nones;
 use crate::pair::Pair;
@@ -15,6 +16,7 @@ use std::marker::Model;
 pub struct Watches {
     pairs: Vec<Option<Pair>>,
     lists: Vec<WatchList>,
+    visits: u64,
 }
 
 impl Model for Watches {
@@ -49,7 +51,20 @@ impl Watches {
         Ok(Watches {
             pairs: nones(alloc, count)?,
             lists: no_lists(alloc, vars)?,
+            visits: 0,
         })
+    }
+
+    /// A clause was read, or its watched literals looked at.
+    pub fn note_visit(&mut self)
+        ensures { self.new ≡ self.old }
+    {
+        self.visits = self.visits.saturating_add(1);
+    }
+
+    /// How often `note_visit` was called, and at most the greatest `u64`.
+    pub fn visits(&self) -> u64 {
+        self.visits
     }
 
     /// One clause more, which isn't watched, or nothing has changed. The cost is one write, as an average over many calls.

@@ -1,12 +1,12 @@
 use Rattle.std.proofs.Common.{false, true, ◌≡◌, sym, subst, ◌∙◌}
 use Rattle.heesch_cdcl.specs.Marking.{MarksClause, AreMarks}
 use Rattle.heesch_cdcl.proofs.MarkLemmas.{AreMarks-clear, AreListed-clear}
-use Rattle.heesch_cdcl.proofs.Resolving.{Begun-conflict, same_clause, form_of}
+use Rattle.heesch_cdcl.proofs.Resolving.{Begun-conflict, form_of}
 use Rattle.heesch_cdcl.proofs.analysis.begin.Goals as goal
 
 pub mark-requires-clause-form : goal.mark-requires-clause-form
 mark-requires-clause-form c =
-    form_of c.args.formula.now.vars c.args.formula.now.clauses c.args.lines.now c.args.trail.now c.args.conflict c.clause_numbered-clause.result.now c.requires.searching c.requires.conflict.0 c.clause_numbered-clause.ensures
+    form_of c.args.trail.now c.args.conflict c.clause-clause.result.now c.clause-clause.ensures.valid c.requires.conflict.0 c.clause-clause.ensures.clause
 
 pub mark-requires-clause-marks : goal.mark-requires-clause-marks
 mark-requires-clause-marks c =
@@ -20,12 +20,11 @@ mark-requires-clause-listed c =
 
 pub returns-clause-begun : goal.returns-clause-begun
 returns-clause-begun c =
-    let f = c.args.formula.now in
     let trail = c.args.trail.now in
-    let same = same_clause f.vars f.clauses c.args.lines.now trail c.args.conflict c.clause_numbered-clause.result.now c.requires.searching c.clause_numbered-clause.ensures in
+    let same = c.clause-clause.ensures.clause in
     let none = c.args.marks.now.seen.items in
     let n = c.mark.new.self in
-    Begun-conflict trail c.args.conflict none n.seen.items n.here.items n.pending c.requires.searching.valid c.requires.searching.lower c.requires.conflict
+    Begun-conflict trail c.args.conflict none n.seen.items n.here.items n.pending c.clause-clause.ensures.valid c.requires.lower c.requires.conflict
     (λ v m. let bad : false ≡ true = sym (c.requires.clear.none_seen v) ∙ m in cc)
     (subst (MarksClause none n.seen.items) same c.in_ok-mark.ensures.seen)
     (subst (λ k. AreMarks trail.vars k trail.steps n.seen.items n.here.items n.pending) c.level.ensures.level c.mark.ensures.marks)

@@ -1,52 +1,44 @@
 use Rattle.std.proofs.Common.{◌≡◌, false, true, [], ◌∷◌, ◌++◌, reverse, ap, sym, subst, ◌∙◌, arith, rules}
 use Rattle.heesch_trail.specs.State.{level_of}
 use Rattle.heesch_cdcl.specs.Marking.{MarksClause, AreMarks, marked}
-use Rattle.heesch_cdcl.proofs.Resolving.{Resolving-skip, Resolving-read, same_clause, form_of, high_number, read_step, read_mark, read_here, reason_is, reason_says, has_reason, some_pending}
+use Rattle.heesch_cdcl.proofs.Resolving.{Resolving-skip, Resolving-read, form_of, read_step, read_mark, read_here, reason_is, reason_says, has_reason, some_pending}
 use Rattle.heesch_cdcl.proofs.analysis.resolve_at.Goals as goal
 
 pub index-requires : goal.index-requires
 index-requires c =
-    let r = read_step c.args.trail.now c.args.place c.made.result.now c.requires.searching.valid c.made.ensures.made c.requires.place in
+    let r = read_step c.args.trail.now c.args.place c.made.result.now c.made.ensures.valid c.made.ensures.made c.requires.place in
     omega (arith, r.var, r.at.holds.high, c.requires.resolving.derived.marks.seen_room, c.args.marks.now.seen.ok)
 
 pub returns-then-not-index-clause-resolving : goal.returns-then-not-index-clause-resolving
 returns-then-not-index-clause-resolving c =
-    let r = read_step c.args.trail.now c.args.place c.made.result.now c.requires.searching.valid c.made.ensures.made c.requires.place in
+    let r = read_step c.args.trail.now c.args.place c.made.result.now c.made.ensures.valid c.made.ensures.made c.requires.place in
     let seen = c.args.marks.now.seen.items in
     let off = read_mark seen _ c.index.result.now false (omega (arith, r.var, r.at.holds.high, c.requires.resolving.derived.marks.seen_room)) c.index.ensures c.if-not-index.true in
     Resolving-skip c.args.trail.now c.args.place r.step seen c.args.marks.now.here.items c.args.marks.now.pending (reverse c.args.hints.now.items) r.at c.requires.resolving (ap (marked seen) r.var ∙ off)
 
 pub reason_of-requires : goal.reason_of-requires
 reason_of-requires c =
-    let r = read_step c.args.trail.now c.args.place c.made.result.now c.requires.searching.valid c.made.ensures.made c.requires.place in
+    let r = read_step c.args.trail.now c.args.place c.made.result.now c.made.ensures.valid c.made.ensures.made c.requires.place in
     omega (arith, r.var, r.at.holds.high)
 
 pub unreachable-requires : goal.unreachable-requires
 unreachable-requires c =
-    let r = read_step c.args.trail.now c.args.place c.made.result.now c.requires.searching.valid c.made.ensures.made c.requires.place in
+    let r = read_step c.args.trail.now c.args.place c.made.result.now c.made.ensures.valid c.made.ensures.made c.requires.place in
     let seen = c.args.marks.now.seen.items in
     let on = read_mark seen _ c.index.result.now true (omega (arith, r.var, r.at.holds.high, c.requires.resolving.derived.marks.seen_room)) c.index.ensures c.if-not-index.false in
-    has_reason c.args.trail.now c.args.place r.step seen c.args.marks.now.here.items c.args.marks.now.pending (reverse c.args.hints.now.items) c.requires.searching.valid r.at c.requires.resolving c.requires.many (ap (marked seen) r.var ∙ on)
+    has_reason c.args.trail.now c.args.place r.step seen c.args.marks.now.here.items c.args.marks.now.pending (reverse c.args.hints.now.items) c.made.ensures.valid r.at c.requires.resolving c.requires.many (ap (marked seen) r.var ∙ on)
     (reason_is c.args.trail.now c.args.place _ c.reason_of.result r c.reason_of.ensures ∙ c.in_default.is)
 
-pub clause_numbered-requires-clause-low : goal.clause_numbered-requires-clause-low
-clause_numbered-requires-clause-low c =
-    let r = read_step c.args.trail.now c.args.place c.made.result.now c.requires.searching.valid c.made.ensures.made c.requires.place in
-    (reason_says c.args.trail.now c.args.place r.step c.in-Some.reason r.at (reason_is c.args.trail.now c.args.place _ c.reason_of.result r c.reason_of.ensures ∙ c.in-Some.is)).number.0
-
-pub clause_numbered-requires-clause-high : goal.clause_numbered-requires-clause-high
-clause_numbered-requires-clause-high c =
-    let f = c.args.formula.now in
-    let r = read_step c.args.trail.now c.args.place c.made.result.now c.requires.searching.valid c.made.ensures.made c.requires.place in
-    high_number f.vars f.clauses c.args.lines.now c.args.trail.now c.in-Some.reason c.requires.searching
+pub clause-requires : goal.clause-requires
+clause-requires c =
+    let r = read_step c.args.trail.now c.args.place c.made.result.now c.made.ensures.valid c.made.ensures.made c.requires.place in
     (reason_says c.args.trail.now c.args.place r.step c.in-Some.reason r.at (reason_is c.args.trail.now c.args.place _ c.reason_of.result r c.reason_of.ensures ∙ c.in-Some.is)).number
 
 pub mark-requires-clause-form : goal.mark-requires-clause-form
 mark-requires-clause-form c =
-    let f = c.args.formula.now in
-    let r = read_step c.args.trail.now c.args.place c.made.result.now c.requires.searching.valid c.made.ensures.made c.requires.place in
-    form_of f.vars f.clauses c.args.lines.now c.args.trail.now c.in-Some.reason c.clause_numbered.result.now c.requires.searching
-    (reason_says c.args.trail.now c.args.place r.step c.in-Some.reason r.at (reason_is c.args.trail.now c.args.place _ c.reason_of.result r c.reason_of.ensures ∙ c.in-Some.is)).number c.clause_numbered.ensures
+    let r = read_step c.args.trail.now c.args.place c.made.result.now c.made.ensures.valid c.made.ensures.made c.requires.place in
+    form_of c.args.trail.now c.in-Some.reason c.clause.result.now c.made.ensures.valid
+    (reason_says c.args.trail.now c.args.place r.step c.in-Some.reason r.at (reason_is c.args.trail.now c.args.place _ c.reason_of.result r c.reason_of.ensures ∙ c.in-Some.is)).number c.clause.ensures.clause
 
 pub mark-requires-clause-marks : goal.mark-requires-clause-marks
 mark-requires-clause-marks c =
@@ -57,28 +49,27 @@ mark-requires-clause-marks c =
 pub unmark-requires-clause-is_marked : goal.unmark-requires-clause-is_marked
 unmark-requires-clause-is_marked c =
     let trail = c.args.trail.now in
-    let r = read_step trail c.args.place c.made.result.now c.requires.searching.valid c.made.ensures.made c.requires.place in
+    let r = read_step trail c.args.place c.made.result.now c.made.ensures.valid c.made.ensures.made c.requires.place in
     let m = c.args.marks.now in
     let n = c.mark.new.self in
     let on = read_mark m.seen.items _ c.index.result.now true (omega (arith, r.var, r.at.holds.high, c.requires.resolving.derived.marks.seen_room)) c.index.ensures c.if-not-index.false in
-    read_here trail c.args.place _ m.seen.items m.here.items n.seen.items n.here.items m.pending n.pending (reverse c.args.hints.now.items) c.clause_numbered.result.now c.requires.searching.valid r c.requires.resolving
+    read_here trail c.args.place _ m.seen.items m.here.items n.seen.items n.here.items m.pending n.pending (reverse c.args.hints.now.items) c.clause.result.now c.made.ensures.valid r c.requires.resolving
     (some_pending m.pending (level_of trail.steps) c.requires.many) on c.in_ok-mark.ensures.seen
     (subst (λ k. AreMarks trail.vars k trail.steps n.seen.items n.here.items n.pending) c.level-level.ensures.level c.mark.ensures.marks)
 
 pub unmark-requires-clause-range : goal.unmark-requires-clause-range
 unmark-requires-clause-range c =
-    let r = read_step c.args.trail.now c.args.place c.made.result.now c.requires.searching.valid c.made.ensures.made c.requires.place in
+    let r = read_step c.args.trail.now c.args.place c.made.result.now c.made.ensures.valid c.made.ensures.made c.requires.place in
     omega (arith, r.var, r.at.holds.high)
 
 pub returns-clause-resolving : goal.returns-clause-resolving
 returns-clause-resolving c =
-    let f = c.args.formula.now in
     let trail = c.args.trail.now in
-    let r = read_step trail c.args.place c.made.result.now c.requires.searching.valid c.made.ensures.made c.requires.place in
+    let r = read_step trail c.args.place c.made.result.now c.made.ensures.valid c.made.ensures.made c.requires.place in
     let m = c.args.marks.now in
     let n = c.mark.new.self in
     let u = c.unmark.new.self in
-    let same = same_clause f.vars f.clauses c.args.lines.now trail c.in-Some.reason c.clause_numbered.result.now c.requires.searching c.clause_numbered.ensures in
+    let same = c.clause.ensures.clause in
     let pushed : c.push.new.self.items ≡ c.args.hints.now.items ++ c.in-Some.reason ∷ [] = search rules in
     Resolving-read trail c.args.place _ c.in-Some.reason m.seen.items m.here.items n.seen.items u.seen.items u.here.items m.pending u.pending c.args.hints.now.items c.push.new.self.items r c.requires.resolving
     (reason_is trail c.args.place _ c.reason_of.result r c.reason_of.ensures ∙ c.in-Some.is)

@@ -2,7 +2,7 @@ use Rattle.std.proofs.Common.{◌≡◌, ◌+◌, false, true, [], ◌∷◌, �
 use Rattle.heesch_cdcl.specs.Marking.{MarksClause, AreMarks}
 use Rattle.heesch_cdcl.specs.Resolved.{IsDerived}
 use Rattle.heesch_cdcl.proofs.MarkLemmas.{marked-same}
-use Rattle.heesch_cdcl.proofs.Resolving.{Derived-same, Derived-skip, Derived-read, same_clause, form_of, high_number, read_step, pending_stays, reason_is, reason_says}
+use Rattle.heesch_cdcl.proofs.Resolving.{Derived-same, Derived-skip, Derived-read, form_of, read_step, pending_stays, reason_is, reason_says}
 use Rattle.heesch_cdcl.proofs.analysis.shorten_at.Goals as goal
 use Rattle.heesch_cdcl.proofs.analysis.shorten_at.Goals.{After-follows}
 
@@ -16,67 +16,57 @@ still c =
 pub is_below-requires-clause-seen_room : goal.is_below-requires-clause-seen_room
 is_below-requires-clause-seen_room c =
     let trail = c.args.trail.now in
-    let r = read_step trail c.args.place c.made.result.now c.requires.searching.valid c.made.ensures.made c.requires.place in
+    let r = read_step trail c.args.place c.made.result.now c.made.ensures.valid c.made.ensures.made c.requires.place in
     omega (arith, r.var, r.at.holds.high, c.requires.derived.marks.seen_room)
 
 pub is_below-requires-clause-here_room : goal.is_below-requires-clause-here_room
 is_below-requires-clause-here_room c =
     let trail = c.args.trail.now in
-    let r = read_step trail c.args.place c.made.result.now c.requires.searching.valid c.made.ensures.made c.requires.place in
+    let r = read_step trail c.args.place c.made.result.now c.made.ensures.valid c.made.ensures.made c.requires.place in
     omega (arith, r.var, r.at.holds.high, c.requires.derived.marks.here_room)
 
 pub returns-then-not-is_below-clause-derived : goal.returns-then-not-is_below-clause-derived
 returns-then-not-is_below-clause-derived c =
     let trail = c.args.trail.now in
-    let r = read_step trail c.args.place c.made.result.now c.requires.searching.valid c.made.ensures.made c.requires.place in
+    let r = read_step trail c.args.place c.made.result.now c.made.ensures.valid c.made.ensures.made c.requires.place in
     let m = c.args.marks.now in
     Derived-skip trail c.args.place r.step m.seen.items m.here.items m.pending (reverse c.args.hints.now.items) r.at c.requires.derived
 
 pub returns-then-not-branch-clause-derived : goal.returns-then-not-branch-clause-derived
 returns-then-not-branch-clause-derived c =
     let trail = c.args.trail.now in
-    let r = read_step trail c.args.place c.made.result.now c.requires.searching.valid c.made.ensures.made c.requires.place in
+    let r = read_step trail c.args.place c.made.result.now c.made.ensures.valid c.made.ensures.made c.requires.place in
     let m = c.follows.new.self in
     Derived-skip trail c.args.place r.step m.seen.items m.here.items m.pending (reverse c.args.hints.now.items) r.at (still (goal.at.returns-then-not-branch-clause-derived c).After-follows)
 
 pub returns-in_default-clause-derived : goal.returns-in_default-clause-derived
 returns-in_default-clause-derived c =
     let trail = c.args.trail.now in
-    let r = read_step trail c.args.place c.made.result.now c.requires.searching.valid c.made.ensures.made c.requires.place in
+    let r = read_step trail c.args.place c.made.result.now c.made.ensures.valid c.made.ensures.made c.requires.place in
     let m = c.follows.new.self in
     Derived-skip trail c.args.place r.step m.seen.items m.here.items m.pending (reverse c.args.hints.now.items) r.at (still (goal.at.returns-in_default-clause-derived c).After-follows)
 
-pub clause_numbered-requires-clause-low : goal.clause_numbered-requires-clause-low
-clause_numbered-requires-clause-low c =
+pub clause-requires : goal.clause-requires
+clause-requires c =
     let trail = c.args.trail.now in
-    let r = read_step trail c.args.place c.made.result.now c.requires.searching.valid c.made.ensures.made c.requires.place in
-    (reason_says trail c.args.place r.step c.in-Some.reason r.at (reason_is trail c.args.place _ c.reason_of.result r c.reason_of.ensures ∙ c.in-Some.is)).number.0
-
-pub clause_numbered-requires-clause-high : goal.clause_numbered-requires-clause-high
-clause_numbered-requires-clause-high c =
-    let f = c.args.formula.now in
-    let trail = c.args.trail.now in
-    let r = read_step trail c.args.place c.made.result.now c.requires.searching.valid c.made.ensures.made c.requires.place in
-    high_number f.vars f.clauses c.args.lines.now trail c.in-Some.reason c.requires.searching
+    let r = read_step trail c.args.place c.made.result.now c.made.ensures.valid c.made.ensures.made c.requires.place in
     (reason_says trail c.args.place r.step c.in-Some.reason r.at (reason_is trail c.args.place _ c.reason_of.result r c.reason_of.ensures ∙ c.in-Some.is)).number
 
 pub mark-requires-clause-form : goal.mark-requires-clause-form
 mark-requires-clause-form c =
-    let f = c.args.formula.now in
     let trail = c.args.trail.now in
-    let r = read_step trail c.args.place c.made.result.now c.requires.searching.valid c.made.ensures.made c.requires.place in
-    form_of f.vars f.clauses c.args.lines.now trail c.in-Some.reason c.clause_numbered.result.now c.requires.searching
-    (reason_says trail c.args.place r.step c.in-Some.reason r.at (reason_is trail c.args.place _ c.reason_of.result r c.reason_of.ensures ∙ c.in-Some.is)).number c.clause_numbered.ensures
+    let r = read_step trail c.args.place c.made.result.now c.made.ensures.valid c.made.ensures.made c.requires.place in
+    form_of trail c.in-Some.reason c.clause.result.now c.made.ensures.valid
+    (reason_says trail c.args.place r.step c.in-Some.reason r.at (reason_is trail c.args.place _ c.reason_of.result r c.reason_of.ensures ∙ c.in-Some.is)).number c.clause.ensures.clause
 
 pub returns-clause-derived : goal.returns-clause-derived
 returns-clause-derived c =
-    let f = c.args.formula.now in
     let trail = c.args.trail.now in
-    let r = read_step trail c.args.place c.made.result.now c.requires.searching.valid c.made.ensures.made c.requires.place in
+    let r = read_step trail c.args.place c.made.result.now c.made.ensures.valid c.made.ensures.made c.requires.place in
     let m = c.follows.new.self in
     let n = c.mark.new.self in
     let u = c.leave_out.new.self in
-    let same = same_clause f.vars f.clauses c.args.lines.now trail c.in-Some.reason c.clause_numbered.result.now c.requires.searching c.clause_numbered.ensures in
+    let same = c.clause.ensures.clause in
     let pushed : c.push.new.self.items ≡ c.args.hints.now.items ++ c.in-Some.reason ∷ [] = search rules in
     Derived-read trail c.args.place _ c.in-Some.reason m.seen.items m.here.items n.seen.items u.seen.items u.here.items m.pending u.pending c.args.hints.now.items c.push.new.self.items r
     (still (goal.at.returns-clause-derived c).After-follows) (reason_is trail c.args.place _ c.reason_of.result r c.reason_of.ensures ∙ c.in-Some.is) (subst (MarksClause m.seen.items n.seen.items) same c.in_ok-mark.ensures.seen)
@@ -85,14 +75,13 @@ returns-clause-derived c =
 
 pub returns-clause-same : goal.returns-clause-same
 returns-clause-same c =
-    let f = c.args.formula.now in
     let trail = c.args.trail.now in
-    let r = read_step trail c.args.place c.made.result.now c.requires.searching.valid c.made.ensures.made c.requires.place in
+    let r = read_step trail c.args.place c.made.result.now c.made.ensures.valid c.made.ensures.made c.requires.place in
     let m = c.follows.new.self in
     let n = c.mark.new.self in
     let below = c.if-not-is_below.ensures.0 refl in
-    let same = same_clause f.vars f.clauses c.args.lines.now trail c.in-Some.reason c.clause_numbered.result.now c.requires.searching c.clause_numbered.ensures in
-    c.leave_out.ensures.same ∙ pending_stays trail c.args.place _ c.in-Some.reason m.seen.items m.here.items n.seen.items n.here.items m.pending n.pending c.requires.searching.valid r (reason_is trail c.args.place _ c.reason_of.result r c.reason_of.ensures ∙ c.in-Some.is)
+    let same = c.clause.ensures.clause in
+    c.leave_out.ensures.same ∙ pending_stays trail c.args.place _ c.in-Some.reason m.seen.items m.here.items n.seen.items n.here.items m.pending n.pending c.made.ensures.valid r (reason_is trail c.args.place _ c.reason_of.result r c.reason_of.ensures ∙ c.in-Some.is)
     (still (goal.at.returns-clause-same c).After-follows).marks
     (subst (λ k. AreMarks trail.vars k trail.steps n.seen.items n.here.items n.pending) c.level-level.ensures.level c.mark.ensures.marks)
     (subst (MarksClause m.seen.items n.seen.items) same c.in_ok-mark.ensures.seen)

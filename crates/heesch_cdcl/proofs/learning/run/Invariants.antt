@@ -1,13 +1,14 @@
 use Rattle.std.proofs.Common.{◌≤◌, ◌-◌, length}
 use Rattle.heesch_cdcl.specs.Learning.{LearnsMore}
 use Rattle.heesch_cdcl.specs.Ready.{IsReady}
-use Rattle.heesch_cdcl.specs.Searching.{IsSearching}
+use Rattle.heesch_cdcl.specs.Searching.{Searches, SameFormula}
 use Rattle.heesch_cdcl.proofs.learning.run.Given as goal
 
 abbrev pub invariant-loop-conflict : goal.invariant-loop-conflict
 invariant-loop-conflict l = record {
-  searching : IsSearching l.formula.vars l.formula.clauses l.lines l.trail;
-  ready : IsReady l.formula.vars l.work;
+  searching : Searches l.lines l.trail;
+  formula : SameFormula l.fn.lines l.fn.trail l.lines l.trail;
+  ready : IsReady l.trail l.work;
   few : length l.lines ≤ l.turns;
   learns : LearnsMore l.fn.lines l.lines;
 }

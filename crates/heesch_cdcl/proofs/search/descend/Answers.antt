@@ -22,7 +22,7 @@ loop-number-preserved c =
       valid = c.decide.ensures.valid;
       lower = Lower-decide c.propagate.new.self c.decide.new.self _ c.propagate.ensures.valid fixpoint lower c.in_ok-decide.ensures.ok;
       same = Same-steps _ c.propagate.new.self c.decide.new.self _ (Same-continues _ c.loop-number.trail c.propagate.new.self c.loop-number.invariant.same c.propagate.ensures.goes_on) c.in_ok-decide.ensures.ok;
-      order = c.choose.ensures.same ∙ c.loop-number.invariant.order;
+      covers = c.choose.ensures.same ∙ c.loop-number.invariant.covers;
     }
 
 pub returns-in_err-decide-clause-lower : goal.returns-in_err-decide-clause-lower

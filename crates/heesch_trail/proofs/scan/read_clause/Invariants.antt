@@ -3,5 +3,5 @@ use Rattle.heesch_cnf.specs.Literals.{held}
 use Rattle.heesch_cnf.specs.Clauses.{left_of}
 use Rattle.heesch_trail.proofs.scan.read_clause.Given as goal
 
-abbrev pub invariant-loop-lit : goal.invariant-loop-lit
-invariant-loop-lit l = left_of (held l.values) (take l.lit-index l.clause) ≡ option_to_list l.left
+abbrev pub invariant-loop-packed : goal.invariant-loop-packed
+invariant-loop-packed l = left_of (held l.values) (take l.packed-index l.clause) ≡ option_to_list l.left

@@ -11,9 +11,9 @@ invariant_of-self-2 c =
     let holds = subst (λ (st : State). StepHolds st.vars st.clauses st.steps s) (sym c.self.view_is) c.requires in
     let steps : c.push.new.self.items ≡ t.steps.items ++ s ∷ [] = search rules in
     let made : c.push-2.new.self.items ≡ t.made.items ++ s.lit ∷ [] = search rules in
-    subst (λ ss. IsInner t.vars t.clauses (set t.values.items s.lit.var (Some s.lit.positive)) (set t.facts.items s.lit.var (Some s)) ss c.push-2.new.self.items) (sym steps)
-    (subst (IsInner t.vars t.clauses (set t.values.items s.lit.var (Some s.lit.positive)) (set t.facts.items s.lit.var (Some s)) (t.steps.items ++ s ∷ [])) (sym made)
-    (IsInner-push t.vars t.clauses t.values.items t.facts.items t.steps.items t.made.items s c.self.invariant holds))
+    subst (λ ss. IsInner t.formula.vars t.formula.clauses (set t.values.items s.lit.var (Some s.lit.positive)) (set t.facts.items s.lit.var (Some s)) ss c.push-2.new.self.items) (sym steps)
+    (subst (IsInner t.formula.vars t.formula.clauses (set t.values.items s.lit.var (Some s.lit.positive)) (set t.facts.items s.lit.var (Some s)) (t.steps.items ++ s ∷ [])) (sym made)
+    (IsInner-push t.formula.vars t.formula.clauses t.values.items t.facts.items t.steps.items t.made.items s c.self.invariant holds))
 
 pub returns-clause-valid : goal.returns-clause-valid
 returns-clause-valid c = let inner = invariant_of-self-2 c in inner.valid

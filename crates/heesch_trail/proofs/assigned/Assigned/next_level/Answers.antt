@@ -10,7 +10,7 @@ overflow_add-result c =
     let st = c.args.self.now in
     let holds = StepHolds-decision st c.args.lit c.requires.low c.requires.high c.requires.is_open in
     let holds_inside = subst (λ (s : State). StepHolds s.vars s.clauses s.steps (decision c.args.lit (level_of st.steps + 1))) (sym c.self.view_is) holds in
-    let pushed = IsInner-push t.vars t.clauses t.values.items t.facts.items t.steps.items t.made.items (decision c.args.lit (level_of st.steps + 1)) c.self.invariant holds_inside in
+    let pushed = IsInner-push t.formula.vars t.formula.clauses t.values.items t.facts.items t.steps.items t.made.items (decision c.args.lit (level_of st.steps + 1)) c.self.invariant holds_inside in
     let few = pushed.valid.few in
     let steps = ap (λ (s : State). length s.steps) c.self.view_is in
     omega (arith, few, c.level.ensures.few, steps, length-append t.steps.items (decision c.args.lit (level_of st.steps + 1) ∷ []))

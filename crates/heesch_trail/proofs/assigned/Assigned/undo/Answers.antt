@@ -12,9 +12,9 @@ invariant_of-self c =
     let steps : t.steps.items ≡ left ++ s ∷ [] = c.in-Some.ensures.items in
     let rest : c.pop-in-Some.new.self.items ≡ take (length t.made.items - 1) t.made.items = search rules in
     let made = made-pop t.made.items c.pop-in-Some.new.self.items left s (c.self.invariant.literals ∙ ap made_by steps) rest in
-    let inner = subst (λ ss. IsInner t.vars t.clauses t.values.items t.facts.items ss (made_by ss)) steps (subst (IsInner t.vars t.clauses t.values.items t.facts.items t.steps.items) c.self.invariant.literals c.self.invariant) in
-    subst (IsInner t.vars t.clauses (set t.values.items s.lit.var None) (set t.facts.items s.lit.var None) left) (sym made)
-    (IsInner-pop t.vars t.clauses t.values.items t.facts.items left t.made.items s inner)
+    let inner = subst (λ ss. IsInner t.formula.vars t.formula.clauses t.values.items t.facts.items ss (made_by ss)) steps (subst (IsInner t.formula.vars t.formula.clauses t.values.items t.facts.items t.steps.items) c.self.invariant.literals c.self.invariant) in
+    subst (IsInner t.formula.vars t.formula.clauses (set t.values.items s.lit.var None) (set t.facts.items s.lit.var None) left) (sym made)
+    (IsInner-pop t.formula.vars t.formula.clauses t.values.items t.facts.items left t.made.items s inner)
 
 pub returns-in-Some-clause-valid : goal.returns-in-Some-clause-valid
 returns-in-Some-clause-valid c = let inner = invariant_of-self c in inner.valid

@@ -1,6 +1,0 @@
-use Rattle.std.proofs.Common.{◌≡◌, filter, take}
-use Rattle.heesch_cdcl.specs.Marking.{marked}
-use Rattle.heesch_cdcl.proofs.marks.Marks.kept.Given as goal
-
-abbrev pub invariant-loop-var : goal.invariant-loop-var
-invariant-loop-var l = l.kept.items ≡ filter (marked l.self.seen.items) (take l.var-index l.self.touched.items)

@@ -1,6 +1,0 @@
-use Rattle.std.proofs.Common.{ℕ, ◌≤◌, ◌≢◌, None}
-use Rattle.heesch_trail.specs.State.{values_of}
-use Rattle.heesch_cdcl.proofs.order.first_open.Given as goal
-
-abbrev pub invariant-loop-before : goal.invariant-loop-before
-invariant-loop-before l = (v : ℕ) → 1 ≤ v → v ≤ l.before → values_of l.trail.steps v ≢ None

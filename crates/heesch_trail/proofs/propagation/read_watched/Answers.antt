@@ -1,0 +1,20 @@
+use Rattle.heesch_trail.proofs.Guards.{Code-fits, Var-fits, GoesOn-watch}
+use Rattle.heesch_trail.proofs.propagation.read_watched.Goals as goal
+
+pub watch-requires-clause-one : goal.watch-requires-clause-one
+watch-requires-clause-one c =
+    let t = c.args.assigned.now in
+    let left = c.in-Two.ensures.reading in
+    Code-fits t.vars _ c.in-Two.pair.one (Var-fits t c.args.index c.in-Two.pair.one c.in-Two.ensures.valid.clauses c.requires.within left.has_one) c.requires.whole.room
+
+pub watch-requires-clause-other : goal.watch-requires-clause-other
+watch-requires-clause-other c =
+    let t = c.args.assigned.now in
+    let left = c.in-Two.ensures.reading in
+    Code-fits t.vars _ c.in-Two.pair.other (Var-fits t c.args.index c.in-Two.pair.other c.in-Two.ensures.valid.clauses c.requires.within left.has_other) c.requires.whole.room
+
+pub returns-in_ok-watch-in-Two-clause-goes_on : goal.returns-in_ok-watch-in-Two-clause-goes_on
+returns-in_ok-watch-in-Two-clause-goes_on c =
+    let on = c.in_ok-watch-in-Two.ensures in
+    GoesOn-watch c.args.assigned.now c.args.watches.now c.watch.new.self c.args.index c.in-Two.pair c.in-Two.ensures.valid c.requires.whole c.requires.within c.in-Two.ensures.reading
+    on.ok on.room on.kept on.one_there on.other_there

@@ -1,9 +1,0 @@
-use Rattle.std.proofs.Common.{arith}
-use Rattle.heesch_trail.proofs.FlatLemmas.{start-end, end-size}
-use Rattle.heesch_trail.proofs.store.bounds.Goals as goal
-
-pub returns-clause-rising : goal.returns-clause-rising
-returns-clause-rising c = let le = start-end 0 c.args.ends.now c.args.size c.args.index c.requires.ends c.requires.index in grind (arith, le)
-
-pub returns-clause-within : goal.returns-clause-within
-returns-clause-within c = let le = end-size 0 c.args.ends.now c.args.size c.args.index c.requires.ends c.requires.index in grind (arith, le)
