@@ -7,3 +7,4 @@ pub mod Guards
 pub mod Passed
 pub mod Rounds
 pub mod Marks
+pub mod Held

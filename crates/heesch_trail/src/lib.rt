@@ -7,6 +7,7 @@ mod propagation;
 mod scan;
 mod step;
 mod trail;
+mod truth;
 mod watch_list;
 mod watches;
 

@@ -11,7 +11,7 @@ use crate::Step;
 use crate::assigned::Assigned;
 use crate::scan::Reading;
 use crate::watches::Watches;
-use heesch_cnf::Lit;
+use heesch_cnf::{Lit, PackedLit};
 use heesch_io::NoMemory;
 
 /// What a visit left of a clause: a true literal, literals that watch it and aren't false, or nothing but false ones, by
@@ -24,7 +24,7 @@ enum Visit {
 }
 
 /// Makes the only literal that isn't false true, where it is open.
-fn follow(assigned: &mut Assigned, index: u32, lit: Lit) -> Result<(), NoMemory>
+fn follow(assigned: &mut Assigned, index: u32, lit: PackedLit) -> Result<(), NoMemory>
     requires within { index < length assigned.old.clauses }
     requires alone { left_of (values_of assigned.old.steps) (slice_index_or assigned.old.clauses index []) ≡ lit ∷ [] }
     ensures goes_on { Continues assigned.old assigned.new }
@@ -37,7 +37,7 @@ fn follow(assigned: &mut Assigned, index: u32, lit: Lit) -> Result<(), NoMemory>
     }
     let level = assigned.level();
     assigned.assign(Step {
-        lit,
+        lit: lit.lit(),
         level,
         reason: Some(index + 1),
     })?;
@@ -91,7 +91,7 @@ fn visit_clause(
 fn visit_by(
     assigned: &mut Assigned,
     watches: &mut Watches,
-    lit: Lit,
+    lit: PackedLit,
     index: u32,
 ) -> Result<Visit, NoMemory>
     requires whole { AreWhole assigned.old.vars assigned.old.clauses watches.old }
@@ -118,7 +118,7 @@ fn visit_by(
 fn visit_list(
     assigned: &mut Assigned,
     watches: &mut Watches,
-    lit: Lit,
+    lit: PackedLit,
 ) -> Result<Option<u32>, NoMemory>
     requires fits { code_of lit < length watches.old.lists }
     requires whole { AreWhole assigned.old.vars assigned.old.clauses watches.old }
@@ -202,7 +202,7 @@ pub fn drain(
 {
     let _ = assigned.vars();
     while *head < assigned.made().len() {
-        let lit = assigned.made()[*head].opposite();
+        let lit = assigned.turned(*head);
         let found = visit_list(assigned, watches, lit)?;
         if found.is_some() {
             return Ok(found);

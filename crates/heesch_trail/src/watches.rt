@@ -2,10 +2,9 @@ ghost use Rattle.std.specs.Prelude.{◌≡◌, ◌≢◌, ℕ, ◌+◌, ◌*◌,
 ghost use Rattle.heesch_cnf.specs.Flat.{code_of};
 ghost use Rattle.heesch_trail.specs.Watches.{Watching, list_of, pair_of, AreKept, OthersStay, IsWithout, IsListed};
 
-use crate::assigned::nones;
 use crate::pair::Pair;
 use crate::watch_list::WatchList;
-use heesch_cnf::Lit;
+use heesch_cnf::{Lit, PackedLit};
 use heesch_io::NoMemory;
 use std::alloc::Global;
 use std::marker::Model;
@@ -27,10 +26,17 @@ impl Model for Watches {
     ghost view = { λ w. record { pairs = w.pairs.items; lists = w.lists.items } };
 }
 
-fn code(lit: Lit) -> usize
-    ensures { result ≡ code_of lit }
+/// `count` places with nothing in them.
+fn nones<T: Drop>(alloc: Global, count: usize) -> Result<Vec<Option<T>>, NoMemory>
+    ensures { IfOk result (λ v. v.items ≡ replicate count None) }
 {
-    2 * lit.var as usize + lit.positive as usize
+    let mut places = Vec::new(alloc);
+    for _ in 0..count {
+        if places.push(None).is_err() {
+            return Err(NoMemory);
+        }
+    }
+    Ok(places)
 }
 
 fn no_lists(alloc: Global, vars: u32) -> Result<Vec<WatchList>, NoMemory>
@@ -90,23 +96,23 @@ impl Watches {
     }
 
     /// The indices of the clauses that the literal watches, and maybe others. The cost is one look-up.
-    pub fn list(&self, lit: Lit) -> &[u32]
+    pub fn list(&self, lit: PackedLit) -> &[u32]
         requires { code_of lit < length self.now.lists }
         ensures { result.now ≡ list_of self.now.lists lit }
     {
-        self.lists[code(lit)].as_slice()
+        self.lists[lit.code()].as_slice()
     }
 
-    fn push(&mut self, lit: Lit, index: u32) -> Result<(), NoMemory>
+    fn push(&mut self, lit: PackedLit, index: u32) -> Result<(), NoMemory>
         requires { code_of lit < length self.old.lists }
         ensures ok { OnOk result (self.new ≡ record self.old { lists = set self.old.lists (code_of lit) (list_of self.old.lists lit ++ index ∷ []) }) }
         ensures err { OnErr result (self.new ≡ self.old) }
     {
-        self.lists[code(lit)].push(index)
+        self.lists[lit.code()].push(index)
     }
 
     /// The index stands in the literal's list.
-    fn enlist(&mut self, lit: Lit, index: u32) -> Result<(), NoMemory>
+    fn enlist(&mut self, lit: PackedLit, index: u32) -> Result<(), NoMemory>
         requires fits { code_of lit < length self.old.lists }
         requires listed { IsListed self.old index }
         ensures pairs { self.new.pairs ≡ self.old.pairs }
@@ -145,7 +151,7 @@ impl Watches {
     }
 
     /// The index at a place of the literal's list is gone from there. The cost is one write.
-    pub fn remove(&mut self, lit: Lit, place: usize)
+    pub fn remove(&mut self, lit: PackedLit, place: usize)
         requires fits { code_of lit < length self.old.lists }
         requires place { place < length (list_of self.old.lists lit) }
         ensures pairs { self.new.pairs ≡ self.old.pairs }
@@ -153,6 +159,6 @@ impl Watches {
         ensures without { IsWithout place (list_of self.old.lists lit) (list_of self.new.lists lit) }
         ensures others { OthersStay lit self.old.lists self.new.lists }
     {
-        self.lists[code(lit)].remove(place);
+        self.lists[lit.code()].remove(place);
     }
 }
