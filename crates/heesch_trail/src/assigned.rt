@@ -1,11 +1,11 @@
-ghost use Rattle.std.specs.Prelude.{◌≡◌, ◌≢◌, ℕ, ◌+◌, ◌<◌, ◌≤◌, ◌^◌, [], ◌∷◌, ◌++◌, length, Some, None, All, IfOk, IfErr, OnOk, OnErr, option_map, option_and_then, replicate, take, ◌-◌, slice_index_or};
+ghost use Rattle.std.specs.Prelude.{◌≡◌, ◌≢◌, ℕ, ◌+◌, ◌<◌, ◌≤◌, ◌^◌, [], ◌∷◌, ◌++◌, length, Some, None, All, IfOk, IfErr, OnOk, OnErr, option_map, option_and_then, replicate, take, ◌-◌, slice_index_or, true};
 ghost use Rattle.heesch_cnf.specs.Clauses.{IsClause};
 ghost use Rattle.heesch_cnf.specs.Lines.{IsNumber, numbered};
 ghost use Rattle.heesch_cnf.specs.Literals.{opposite, lit_value, is_true_value, is_false_value};
 ghost use Rattle.heesch_cnf.specs.Flat.{code_of};
 ghost use Rattle.heesch_trail.specs.Inner.{value_in, reason_in};
 ghost use Rattle.heesch_trail.specs.declared.truth.Truth.TheVariants.{Open};
-ghost use Rattle.heesch_trail.specs.Readings.{IsReading};
+ghost use Rattle.heesch_trail.specs.Readings.{IsReading, IsOther};
 ghost use Rattle.heesch_trail.specs.State.{State, IsTrail, StepHolds, fact_of, values_of, made_by, level_of, up_to, decision};
 
 use crate::Step;
@@ -273,6 +273,39 @@ impl Assigned {
     {
         let _ = self.formula.len();
         self.read_clause(self.formula.clause(index))
+    }
+
+    /// A literal of a clause other than this one that isn't false, if there is one.
+    fn other_in(&self, clause: &[PackedLit], lit: PackedLit) -> Option<PackedLit>
+        requires form { IsClause self.now.vars clause.now }
+        ensures { IsOther (values_of self.now.steps) clause.now lit result }
+    {
+        for other in clause {
+            if *other != lit && !self.is_false(*other) {
+                return Some(*other);
+            }
+        }
+        None
+    }
+
+    /// A literal of the clause of an index, which counts from 0, other than this one that isn't false, if there is one. The
+    /// cost is at most the clause's length.
+    pub fn other(&self, index: usize, lit: PackedLit) -> Option<PackedLit>
+        requires { index < length self.now.clauses }
+        ensures other { IsOther (values_of self.now.steps) (slice_index_or self.now.clauses index []) lit result }
+        ensures few { length self.now.clauses ≤ 2 ^ 31 }
+        ensures valid { IsTrail self.now }
+    {
+        let _ = self.formula.len();
+        self.other_in(self.formula.clause(index), lit)
+    }
+
+    /// Whether the clause of an index, which counts from 0, has just two literals. The cost is one look-up.
+    pub fn is_binary(&self, index: usize) -> bool
+        requires { index < length self.now.clauses }
+        ensures { result ≡ true → length (slice_index_or self.now.clauses index []) ≡ 2 }
+    {
+        self.formula.clause(index).len() == 2
     }
 
     /// The opposite of the literal that was made true at a place, from 0. The cost is one look-up.

@@ -2,6 +2,7 @@
 #![tactic(auto)]
 
 mod assigned;
+mod entry;
 mod pair;
 mod propagation;
 mod scan;
