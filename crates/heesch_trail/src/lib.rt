@@ -2,11 +2,13 @@
 #![tactic(auto)]
 
 mod assigned;
+mod entry;
 mod pair;
 mod propagation;
 mod scan;
 mod step;
 mod trail;
+mod truth;
 mod watch_list;
 mod watches;
 
