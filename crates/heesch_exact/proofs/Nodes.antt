@@ -3,7 +3,7 @@ use Rattle.std.proofs.Common.{◌≡◌, refl, sym, ap, ◌∙◌, subst, ℕ, �
 use Rattle.std.specs.Int.{bit_at, bit_not}
 use lib.Bits.{bit_and}
 use Rattle.std.specs.List.{sum_by, Contains}
-use Rattle.std.proofs.lemmas.Bool.{cases_lt, cases_eq}
+use Rattle.std.proofs.lemmas.Bool.{cases_lt, false≢true}
 use Rattle.std.proofs.lemmas.Nat.Bits.{bit_at-lt}
 use Rattle.std.proofs.lemmas.List.Sums.{sum_by-cons, sum_by-append, sum_by_push, get_or-le-sum_by}
 use Rattle.std.proofs.lemmas.List.Elements.{All-push, All-append, All-head, All-tail, All-filter, All-contains, filter_passes, Contains-push, Contains-append_left, Contains-get_or}
@@ -56,6 +56,14 @@ fewer_apart masks mask point xs e =
 
     none : (b m : ℕ) → b + m ≤ 1 → m ≡ 1 → b ≡ 0
     none b m l e = omega arith
+
+pub times_at_most : (masks xs : List ℕ) (point : ℕ) → times masks xs point ≤ length xs
+times_at_most masks xs point =
+    let k = kept_and_counted (λ _. false) (λ i. bit_at (slice_index masks i) point) (λ i. most (bit_at (slice_index masks i) point) (bit_at-lt (slice_index masks i) point)) (λ i t. absurd (false≢true t)) xs in
+    omega (arith, k)
+  where
+    most : (b : ℕ) → b < 2 → b ≤ 1
+    most b l = omega arith
 
 -- what covers the rest behind the chosen set covers the points
 pub added_with : (masks : List ℕ) (points : ℕ) (before after : List ℕ) (i point : ℕ) → points < 2 ^ 64 → slice_index masks i < 2 ^ 64 → i < length masks → IsPart (slice_index masks i) points → bit_at (slice_index masks i) point ≡ 1 → AreAdded masks (without points (slice_index masks i)) (before ++ (i ∷ [])) after → AreAdded masks points before after

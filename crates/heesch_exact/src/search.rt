@@ -89,9 +89,9 @@ impl Search {
             self.chosen.push(number)?;
             let ending = self.cover(masks, left & !mask, to)?;
             self.candidates.truncate(to);
-            if !matches!(ending, Ending::Failed) {
+            let Ending::Failed = ending else {
                 return Ok(ending);
-            }
+            };
             self.chosen.pop();
         }
         Ok(Ending::Failed)
