@@ -4,3 +4,4 @@ pub mod Nodes
 pub mod Listing
 pub mod Budget
 pub mod Steps
+pub mod Whole

@@ -1,5 +1,5 @@
 -- Candidates by their places in a list.
-use Rattle.std.proofs.Common.{◌≡◌, refl, sym, ap, ◌∙◌, ℕ, ◌+◌, ◌-◌, ◌<◌, ◌≤◌, Bool, true, false, cond, List, [], ◌∷◌, ◌++◌, length, get_or, take, drop, filter, arith}
+use Rattle.std.proofs.Common.{◌≡◌, sym, ap, ◌∙◌, ℕ, ◌+◌, ◌-◌, ◌<◌, ◌≤◌, Bool, true, false, cond, List, [], ◌∷◌, ◌++◌, length, get_or, take, drop, filter, arith}
 use Rattle.std.proofs.lemmas.List.{get_or_append_left, get_or_default, get_or-drop, length-drop, append_assoc, append-nil}
 use Rattle.std.proofs.lemmas.List.Elements.{filter_more}
 

@@ -1,15 +1,15 @@
 -- Lists of candidates, and what they cover.
-use Rattle.std.proofs.Common.{◌≡◌, refl, sym, ap, ◌∙◌, subst, ℕ, ◌+◌, ◌-◌, ◌*◌, ◌^◌, ◌<◌, ◌≤◌, min, Bool, true, false, nat_eq, List, [], ◌∷◌, ◌++◌, length, get_or, slice_index, filter, All, ◌⊎◌, inl, inr, arith, w64}
+use Rattle.std.proofs.Common.{◌≡◌, subst, ℕ, ◌+◌, ◌^◌, ◌<◌, ◌≤◌, false, List, [], ◌∷◌, ◌++◌, length, get_or, slice_index, filter, All, inl, inr, arith, w64}
 use Rattle.std.specs.Int.{bit_at, bit_not}
 use lib.Bits.{bit_and}
-use Rattle.std.specs.List.{sum_by, Contains}
+use Rattle.std.specs.List.{Contains}
 use Rattle.std.proofs.lemmas.Bool.{cases_lt, false≢true}
 use Rattle.std.proofs.lemmas.Nat.Bits.{bit_at-lt}
 use Rattle.std.proofs.lemmas.List.Sums.{sum_by-cons, sum_by-append, sum_by_push, get_or-le-sum_by}
-use Rattle.std.proofs.lemmas.List.Elements.{All-push, All-append, All-head, All-tail, All-filter, All-contains, filter_passes, Contains-push, Contains-append_left, Contains-get_or}
-use Rattle.heesch_exact.specs.Branches.{times, without, is_apart, IsPart, AreCandidates, HasNoCover, AreSets, AreAdded, IsTried}
-use Rattle.heesch_exact.proofs.Bits.{above, part_from_none, none_from_part, bit_at_without, apart_bits, apart_from_bits, pos_from_bit}
-use Rattle.heesch_exact.proofs.Sums.{some_counted, all_left, all_right, contains_filter, sum_zero, kept_and_counted}
+use Rattle.std.proofs.lemmas.List.Elements.{All-push, All-append, All-head, All-tail, All-filter, All-contains, filter_passes, Contains-push, Contains-append_left}
+use Rattle.heesch_exact.specs.Branches.{times, without, is_apart, IsPart, AreCandidates, HasNoCover, AreAdded, IsTried}
+use Rattle.heesch_exact.proofs.Bits.{none_from_part, bit_at_without, apart_bits, apart_from_bits, pos_from_bit}
+use Rattle.heesch_exact.proofs.Sums.{some_counted, all_left, all_right, contains_filter, kept_and_counted}
 
 -- ---- which sets are candidates at first
 

@@ -2,14 +2,13 @@
 use Rattle.std.proofs.Common.{◌≡◌, refl, sym, ap, ◌∙◌, subst, ℕ, ◌+◌, ◌-◌, ◌*◌, ◌^◌, ◌/◌, ◌<◌, ◌≤◌, List, [], ◌∷◌, ◌++◌, length, get_or, slice_index, take, drop, filter, min, Bool, All, arith}
 use Rattle.std.specs.Int.{bit_at}
 use lib.Bits.{bit_and}
-use Rattle.std.specs.List.{sum_by, Contains}
 use Rattle.std.proofs.lemmas.Nat.Bits.{bit_at-lt, shr_and_one}
 use Rattle.std.proofs.lemmas.List.{append-nil, length-append, length_push, drop_at, take_at, take_rest}
-use Rattle.std.proofs.lemmas.List.Sums.{sum_by_more, sum_by_more_le, sum_by-take-le}
+use Rattle.std.proofs.lemmas.List.Sums.{sum_by_more, sum_by_more_le}
 use Rattle.std.proofs.lemmas.List.Elements.{All-more}
 use Rattle.heesch_exact.specs.declared.search.Ending.{Ending}
 use Rattle.heesch_exact.specs.declared.search.Ending.TheVariants.{Covered, Failed, Open}
-use Rattle.heesch_exact.specs.Branches.{times, without, is_apart, IsPart, AreCandidates, HasNoCover, AreAdded, IsTried, IsEnding}
+use Rattle.heesch_exact.specs.Branches.{times, without, is_apart, IsPart, AreCandidates, HasNoCover, IsTried, IsEnding}
 use Rattle.heesch_exact.proofs.Nodes.{apart_candidates, fewer_apart, added_with}
 use Rattle.heesch_exact.proofs.Listing.{candidate_at, within_drop}
 use Rattle.heesch_exact.proofs.Budget.{step_budget, covered_budget, open_budget}

@@ -8,7 +8,7 @@ mod candidates;
 mod counts;
 mod search;
 
-ghost use Rattle.std.specs.Prelude.{◌≤◌, ◌<◌, ◌^◌, length, IfOk};
+ghost use Rattle.std.specs.Prelude.{◌+◌, ◌≤◌, ◌<◌, ◌^◌, length, IfOk, OnOk};
 ghost use Rattle.heesch_exact.specs.Covers.{IsAnswer};
 
 use crate::candidates::within;
@@ -46,6 +46,7 @@ pub fn exact_cover(
     requires few { length masks.now < 2 ^ 31 }
     ensures answer { IfOk result (IsAnswer masks.now points nodes.old) }
     ensures nodes { nodes.new ≤ nodes.old }
+    ensures few { OnOk result (nodes.old ≤ nodes.new + 2 ^ length masks.now) }
 {
     let mut search = Search {
         candidates: within(alloc, masks, points)?,

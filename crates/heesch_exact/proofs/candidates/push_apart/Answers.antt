@@ -1,4 +1,4 @@
-use Rattle.std.proofs.Common.{◌≡◌, ◌≤◌, ◌<◌, ◌-◌, ◌∙◌, sym, ap, subst, ℕ, true, false, List, length, All, drop, get_or, filter, take, vec_len, eq-eqb, arith}
+use Rattle.std.proofs.Common.{◌<◌, ◌-◌, ◌∙◌, sym, ap, subst, length, drop, get_or, filter, take, eq-eqb, arith}
 use Rattle.std.proofs.lemmas.Bool.{ne_eqb as test_false}
 use lib.Bits.{bit_and}
 use Rattle.heesch_exact.specs.Branches.{is_apart}

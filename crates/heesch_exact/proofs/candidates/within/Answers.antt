@@ -1,4 +1,4 @@
-use Rattle.std.proofs.Common.{◌≡◌, ◌≤◌, ◌<◌, ◌-◌, ◌∙◌, sym, ap, subst, ℕ, ◌+◌, length, get_or, slice_index, vec_len, arith}
+use Rattle.std.proofs.Common.{◌<◌, ◌∙◌, sym, ap, subst, ℕ, ◌+◌, get_or, slice_index, vec_len, arith}
 use Rattle.std.specs.List.{Contains}
 use Rattle.heesch_exact.specs.Branches.{AreCandidates, IsPart}
 use Rattle.heesch_exact.proofs.Bits.{part_from_none}

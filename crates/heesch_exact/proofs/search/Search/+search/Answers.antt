@@ -1,6 +1,5 @@
-use Rattle.std.proofs.Common.{◌≡◌, ◌+◌, ◌-◌, ◌*◌, ◌≤◌, ◌<◌, ◌^◌, ◌++◌, ◌∷◌, [], refl, sym, ap, ◌∙◌, subst, List, drop, take, filter, get_or, vec_len, ℕ, All, length, arith}
-use Rattle.std.specs.Int.{bit_at}
-use Rattle.heesch_exact.specs.Branches.{AreCandidates, IsEnding, HasNoCover, IsTried, AreAdded, times, without, is_apart}
+use Rattle.std.proofs.Common.{◌≡◌, ◌+◌, ◌-◌, ◌*◌, ◌≤◌, ◌<◌, ◌^◌, ◌++◌, ◌∷◌, [], refl, sym, ap, ◌∙◌, subst, drop, take, filter, get_or, vec_len, All, length, arith}
+use Rattle.heesch_exact.specs.Branches.{AreCandidates, IsEnding, IsTried, times, without, is_apart}
 use Rattle.std.proofs.lemmas.List.{length-drop, take_all}
 use Rattle.heesch_exact.proofs.Nodes.{no_cover, no_cover_without, times_at_most}
 use Rattle.heesch_exact.proofs.Budget.{end_budget}
