@@ -22,22 +22,27 @@ pub(crate) fn within(alloc: Global, masks: &[u64], points: u64) -> Result<Vec<u3
     Ok(numbers)
 }
 
-/// Appends those candidates from this place on that have no point of the mask.
+/// Appends those candidates from this place on that have no point of the mask. Each is written behind those that are
+/// kept, and stays where it is one of them, so that the loop has no branch.
 pub(crate) fn push_apart(
     candidates: &mut Vec<u32>,
     from: usize,
     masks: &[u64],
     mask: u64,
 ) -> Result<(), NoMemory>
-    requires { All (λ i. i < length masks.now) (drop from candidates.old.items) }
+    requires from { from ≤ vec_len candidates.old }
+    requires within { All (λ i. i < length masks.now) (drop from candidates.old.items) }
     ensures { OnOk result (candidates.new.items
         ≡ candidates.old.items ++ filter (is_apart masks.now mask) (drop from candidates.old.items)) }
 {
-    for k in from..candidates.len() {
+    let to = candidates.len();
+    candidates.resize(to + (to - from), 0)?;
+    let mut top = to;
+    for k in from..to {
         let number = candidates[k];
-        if masks[number as usize] & mask == 0 {
-            candidates.push(number)?;
-        }
+        candidates[top] = number;
+        top += usize::from(masks[number as usize] & mask == 0);
     }
+    candidates.truncate(top);
     Ok(())
 }
