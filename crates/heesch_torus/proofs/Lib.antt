@@ -9,3 +9,4 @@ pub mod Formulas
 pub mod Choosing
 pub mod Modelled
 pub mod Solving
+pub mod Beside

@@ -4,6 +4,7 @@
 mod answer;
 mod clauses;
 mod covering;
+mod filling;
 mod formula;
 mod found;
 mod outcome;
