@@ -10,3 +10,5 @@ pub mod Choosing
 pub mod Modelled
 pub mod Solving
 pub mod Beside
+pub mod Masking
+pub mod Filled

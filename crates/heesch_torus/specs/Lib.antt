@@ -9,3 +9,5 @@ pub mod Chosen
 pub mod Answer
 pub mod Outcome
 pub mod Beside
+pub mod Masks
+pub mod Covers

@@ -3,13 +3,16 @@
 
 mod answer;
 mod clauses;
+mod cover;
 mod covering;
 mod filling;
 mod formula;
 mod found;
+mod masks;
 mod outcome;
 mod pairs;
 mod places;
+mod points;
 mod residues;
 mod variables;
 mod window;
