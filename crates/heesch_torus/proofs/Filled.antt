@@ -25,11 +25,11 @@ use Rattle.heesch_tiling.proofs.Covers.{covers, covers_once}
 use Rattle.heesch_tiling.proofs.Tallies.{times_append}
 use Rattle.heesch_torus.specs.Formula.{reduced_cells}
 use Rattle.heesch_torus.specs.Beside.{with_bit, FillBeside}
-use Rattle.heesch_torus.specs.Masks.{IsMaskOf, HasDouble, HasMasksFrom}
+use Rattle.heesch_torus.specs.Masks.{IsMaskOf, HasDouble, AddsMasks, HasMasksFrom}
 use Rattle.heesch_torus.specs.Covers.{HasAllPoints, AreFewNodes, unmoved, IsTileMask, AreExactMasks, HasNoCoverAt}
 use Rattle.heesch_torus.proofs.Beside.{bit_cases, power_more, index_of}
 use Rattle.heesch_torus.proofs.Numbering.{reduced_listed}
-use Rattle.heesch_torus.proofs.Masking.{one_mask, no_mask, mask_more, mask_double, double_unmasked}
+use Rattle.heesch_torus.proofs.Masking.{one_mask, no_mask, mask_more, mask_double, masks_of_turn}
 
 -- ---- bits of one mask more
 
@@ -424,3 +424,26 @@ used_more nodes old new done most n few used more =
   where
     suc_times : (a c : ℕ) → (a + 1) * c ≡ c + a * c
     suc_times a c = grind arith
+
+-- one turn more, counted from the last
+pub masks_now : (g : Geometry) → IsGrid g → (shape : List Cell) (t : Triple) → IsTriple t → IsPolyform g shape → (turns done : ℕ) → turns ≡ g.turns → done < turns → (old new masks : List ℕ) → masks ≡ new → HasMasksFrom g shape t (g.turns - done) old → AddsMasks g shape t (turns - 1 - done) (t.p * t.q) old new → HasMasksFrom g shape t (turns - 1 - done) masks
+masks_now g law shape t triple form turns done all less old new masks e have adds =
+    let before : g.turns - done ≡ turns - 1 - done + 1 = omega arith in
+    subst (HasMasksFrom g shape t (turns - 1 - done)) (sym e)
+    (masks_of_turn g shape t law triple (λ d m. All-contains (IsCell g) shape d form.is_set.in_grid m) (turns - 1 - done) old new (omega arith) (subst (λ n. HasMasksFrom g shape t n old) before have) adds)
+
+module _ (g : Geometry) (law : IsGrid g) (shape : List Cell) (form : IsPolyform g shape) (t : Triple) (triple : IsTriple t) (full : ℕ) (points : HasAllPoints g t full) (small : length (reduced_cells g t) ≤ 64) (turns done : ℕ) (all : turns ≡ g.turns) (less : done < turns) where
+  pub next_masks : (masks : List ℕ) → HasMasksFrom g shape t (turns - 1 - done) masks → HasMasksFrom g shape t (g.turns - (done + 1)) masks
+  next_masks masks have = let e : turns - 1 - done ≡ g.turns - (done + 1) = omega arith in subst (λ n. HasMasksFrom g shape t n masks) e have
+
+  pub next_none : (masks : List ℕ) → HasMasksFrom g shape t (turns - 1 - done) masks → ((first : ℕ) → IsMaskOf g shape t (unmoved (turns - 1 - done)) first → (found : List ℕ) → All (Contains masks) found → ¬ FillBeside first full found) → ((turn : ℕ) → g.turns - done ≤ turn → turn < g.turns → HasNoCoverAt g shape t turn) → (turn : ℕ) → g.turns - (done + 1) ≤ turn → turn < g.turns → HasNoCoverAt g shape t turn
+  next_none masks have none before turn low below = elim (cases_order turn (turns - 1 - done)) [
+    | inl e ↦ subst (HasNoCoverAt g shape t) (sym e) (no_cover_at g law shape form t triple (turns - 1 - done) masks full (omega arith) small have points none)
+    | inr o ↦ elim o [ inl early ↦ absurd (omega arith) | inr late ↦ before turn (omega arith) below ]
+  ]
+
+  pub masks_few : (masks : List ℕ) → HasMasksFrom g shape t (turns - 1 - done) masks → length masks ≤ g.turns * (t.p * t.q)
+  masks_few masks have = let few = have.few in let more = times_more (g.turns - (turns - 1 - done)) g.turns (t.p * t.q) (omega arith) in omega arith
+    where
+      times_more : (a b c : ℕ) → a ≤ b → a * c ≤ b * c
+      times_more a b c l = grind arith
