@@ -63,6 +63,28 @@ less_bit k n l = grind arith
 more_bit : (k n : ℕ) → n ≤ k → ◌≡◌ {A = ℕ} (cond (nat_lt k n) 1 0) 0
 more_bit k n l = grind arith
 
+module _ (g : Geometry) (law : IsGrid g) (t : Triple) (triple : IsTriple t) where
+  -- some reduced cell
+  first_of : (xs : List Cell) → 1 ≤ length xs → (c : Cell) × Contains xs c
+  first_of [] l = absurd (omega arith)
+  first_of (x ∷ xs) l = (x, member_here x xs)
+
+  some_cell : (c : Cell) × IsCell g c
+  some_cell =
+      let some = law.per_range.0 in
+      let count : length law.block.0 ≡ g.per = law.block.2 in
+      let c = first_of law.block.0 (omega arith) in
+      (c.0, (All-contains (λ (c : Cell). IsCell g c × (pos 0 ≤ℤ c.a) × (c.a <ℤ pos g.unit) × (pos 0 ≤ℤ c.b) × (c.b <ℤ pos g.unit)) law.block.0 c.0 law.block.1.only c.1).0)
+
+  pub some_points : 1 ≤ length (reduced_cells g t)
+  some_points =
+      let c = some_cell in
+      some_member (reduced_cells g t) (reduced g law t triple c.0) ((reduced_listed g t law triple).every (reduced g law t triple c.0) (is_reduced g law t triple c.0 c.1))
+    where
+      some_member : (xs : List Cell) (x : Cell) → Contains xs x → 1 ≤ length xs
+      some_member [] x m = absurd (no_member x m)
+      some_member (y ∷ xs) x m = omega arith
+
 module _ (g : Geometry) (shape : List Cell) (t : Triple) where
   -- ---- a mask within the full word, and masks with the first
 
@@ -353,31 +375,10 @@ module _ (g : Geometry) (law : IsGrid g) (shape : List Cell) (form : IsPolyform 
         };
   }
 
-  -- some reduced cell
-  first_of : (xs : List Cell) → 1 ≤ length xs → (c : Cell) × Contains xs c
-  first_of [] l = absurd (omega arith)
-  first_of (x ∷ xs) l = (x, member_here x xs)
-
-  some_cell : (c : Cell) × IsCell g c
-  some_cell =
-      let some = law.per_range.0 in
-      let count : length law.block.0 ≡ g.per = law.block.2 in
-      let c = first_of law.block.0 (omega arith) in
-      (c.0, (All-contains (λ (c : Cell). IsCell g c × (pos 0 ≤ℤ c.a) × (c.a <ℤ pos g.unit) × (pos 0 ≤ℤ c.b) × (c.b <ℤ pos g.unit)) law.block.0 c.0 law.block.1.only c.1).0)
-
-  pub some_points : 1 ≤ length (reduced_cells g t)
-  some_points =
-      let c = some_cell in
-      some_member (reduced_cells g t) (reduced g law t triple c.0) ((reduced_listed g t law triple).every (reduced g law t triple c.0) (is_reduced g law t triple c.0 c.1))
-    where
-      some_member : (xs : List Cell) (x : Cell) → Contains xs x → 1 ≤ length xs
-      some_member [] x m = absurd (no_member x m)
-      some_member (y ∷ xs) x m = omega arith
-
   -- with no such cover for any turn there is none
   pub no_cover : ((turn : ℕ) → turn < g.turns → HasNoCoverAt g shape t turn) → (places : List Iso) → ¬ IsPeriodicCover g shape t places
   no_cover none [] cover =
-      let c = some_cell in
+      let c = some_cell g law t triple in
       let o : HoldsOnce (HasCell g shape t [] c.0) = cover.exactly_one c.0 c.1 in
       none_there o.holds.by o.holds.is_place
     where

@@ -12,3 +12,4 @@ pub mod Solving
 pub mod Beside
 pub mod Masking
 pub mod Filled
+pub mod Valued

@@ -52,6 +52,9 @@ pub record AreExactMasks (g : Geometry) (shape : List Cell) (t : Triple) (full :
   pub tiles : (m : ℕ) → Contains masks m → IsTileMask g shape t m
   pub fill : FillBeside 0 full masks
 
+abbrev pub HasExactMasks : Geometry → List Cell → Triple → List ℕ → Type 0
+HasExactMasks g shape t masks = (full : ℕ) × HasAllPoints g t full × AreExactMasks g shape t full masks
+
 -- with the tile of this turn at (0, 0): some of the masks that fill what it leaves; there are none; or the nodes were too few
 abbrev pub IsFillingAt : Geometry → List Cell → Triple → ℕ → List ℕ → ℕ → ℕ → Filling → Type 0
 IsFillingAt g shape t turn masks full nodes (Fills.Filled found) = AreExactMasks g shape t full found

@@ -7,12 +7,12 @@ ghost use Rattle.heesch_grid.specs.Lattice.{IsTriple};
 ghost use Rattle.heesch_grid.specs.Polyform.{IsPolyform};
 ghost use Rattle.heesch_grid.specs.Vectors.{IsWithin};
 ghost use Rattle.heesch_tiling.specs.Counting.{IsInRange};
-ghost use Rattle.heesch_torus.specs.Chosen.{chosen_places};
-ghost use Rattle.heesch_torus.specs.Covers.{IsCoverAnswer, HasAllPoints, HasMaskAmong, AreExactMasks, AreValuesOf, IsFillingAt, IsTorusFilling};
+ghost use Rattle.heesch_torus.specs.Answer.{IsChosenCover};
+ghost use Rattle.heesch_torus.specs.Covers.{IsCoverAnswer, HasAllPoints, HasMaskAmong, HasExactMasks, AreValuesOf, IsFillingAt, IsTorusFilling};
 ghost use Rattle.heesch_torus.specs.Domain.{HasDomain};
 ghost use Rattle.heesch_torus.specs.Formula.{reduced_cells};
 ghost use Rattle.heesch_torus.specs.Masks.{ArePoints, HasMasksFrom};
-ghost use Rattle.heesch_torus.specs.Variables.{AreVariables, HasIsometry};
+ghost use Rattle.heesch_torus.specs.Variables.{AreVariables};
 
 use crate::filling::{Filling, fill_beside};
 use crate::found::Variable;
@@ -156,4 +156,69 @@ fn values_of<G: Grid>(
         values.push(is_among::<G>(numbers, cells, triple, masks, variable.by))?;
     }
     Ok(values)
+}
+
+/// The cover by the tiles whose masks these are.
+fn cover_of<G: Grid>(
+    alloc: Global,
+    numbers: &[u32],
+    cells: &[Cell],
+    triple: Triple,
+    masks: &[u64],
+) -> Result<Tiling, NoMemory>
+    requires triple { IsTriple triple }
+    requires small { triple.p * triple.q ≤ 384 }
+    requires form { IsPolyform G.geometry cells.now }
+    requires size { length cells.now ≤ 32 }
+    requires points { ArePoints G.geometry triple numbers.now (length (reduced_cells G.geometry triple)) }
+    requires few { length (reduced_cells G.geometry triple) ≤ 64 }
+    requires near { (c : Cell) → has cells.now c ≡ true → IsWithin 100000 c }
+    requires exact { HasExactMasks G.geometry cells.now triple masks.now }
+    ensures { IfOk result (IsChosenCover G.geometry cells.now triple) }
+{
+    let variables = variables_of::<G>(alloc, cells, triple)?;
+    let values = values_of::<G>(alloc, numbers, cells, triple, masks, variables.as_slice())?;
+    let places = chosen_places(alloc, variables.as_slice(), values.as_slice())?;
+    Ok(Tiling { triple, places })
+}
+
+/// Searches for a cover of a triple by masks, for so many nodes, and keeps no log.
+///
+/// A mask has a bit for each of the torus's cells, and a tile one mask: the search is for masks that
+/// have each bit once. A tile of the least turn is fixed at (0, 0), where a translation brings it.
+/// Tiles has a cover whose places are chosen as those of `search`. None comes only where the triple
+/// has no cover. Open comes only where the torus has more than 64 cells, or where the nodes are
+/// below 2 to the power of the number of isometries within the triple, times the number of turns.
+/// Condition: the cells lie within 100,000 of 0, and the triple is one of a domain of 1 to 12 tiles.
+///
+/// Cost: a reduction for each cell of an image within the triple, of which there are at most 4,608;
+/// for each turn a sort of those of its turn and later ones that are apart from the fixed tile, and
+/// the nodes of the exact cover, each a pass over its candidates. Where there is a cover, once more
+/// the variables of the torus formula.
+pub fn find_cover<G: Grid>(
+    alloc: Global,
+    shape: &Shape<G>,
+    triple: Triple,
+    nodes: u32,
+) -> Result<CoverAnswer, NoMemory>
+    requires near { (c : Cell) → has shape.now c ≡ true → IsWithin 100000 c }
+    requires domain { HasDomain G.geometry (length shape.now) triple }
+    ensures { IfOk result (IsCoverAnswer G.geometry shape.now triple nodes) }
+{
+    let cells = shape.cells();
+    let points = points_of::<G>(alloc, triple)?;
+    if points.count > 64 {
+        return Ok(CoverAnswer::Open);
+    }
+    let full = all_points(points.count);
+    let filling = fill_torus::<G>(alloc, &points.numbers, cells, triple, full, nodes)?;
+    match filling {
+        Filling::Filled { masks } => {
+            let tiling =
+                cover_of::<G>(alloc, &points.numbers, cells, triple, masks.as_slice())?;
+            Ok(CoverAnswer::Tiles { tiling })
+        }
+        Filling::None => Ok(CoverAnswer::None),
+        Filling::Open => Ok(CoverAnswer::Open),
+    }
 }

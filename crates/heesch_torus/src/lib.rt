@@ -18,6 +18,7 @@ mod variables;
 mod window;
 
 pub use answer::{TorusAnswer, search};
+pub use cover::{CoverAnswer, find_cover};
 pub use formula::torus_formula;
 
 #[cfg(test)]
