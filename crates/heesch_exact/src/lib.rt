@@ -1,6 +1,69 @@
-//! Exact covers of points by sets of points, as bits of words.
+//! Exact covers: which of some sets have each of given points exactly once. A set of at most 64 points is a mask.
+//!
+//! The method is Knuth's for the exact cover problem ("Dancing Links", 2000) over words: a node covers the point that
+//! the fewest candidates have, by each of them in turn, and the counts are kept one bit a point.
 #![tactic(auto)]
 
-mod covers;
+mod candidates;
+mod counts;
+mod search;
 
-pub use covers::{CoverAnswer, exact_cover};
+ghost use Rattle.std.specs.Prelude.{◌+◌, ◌≤◌, ◌<◌, ◌^◌, length, IfOk, OnOk};
+ghost use Rattle.heesch_exact.specs.Covers.{IsAnswer};
+
+use crate::candidates::within;
+use crate::search::{Ending, Search};
+use heesch_io::{NoMemory, Seq};
+use std::alloc::Global;
+
+#[cfg(test)]
+mod tests;
+
+/// Whether some of the sets cover the points exactly.
+#[derive(Debug, Drop)]
+pub enum CoverAnswer {
+    /// These do, by their numbers from 0, which strictly rise.
+    Cover { chosen: Seq<u32> },
+    /// None do.
+    None,
+    /// The nodes were too few to tell.
+    Open,
+}
+
+/// Which of the sets have each of the points exactly once, and no other point.
+///
+/// A point is a number below 64, and a mask has it where that bit is set. Each node of the search takes one of `nodes`
+/// and counts, for each point that is left, the candidates that have it, up to three. Where a point has none, the branch ends;
+/// else the least point with one is covered next, or the least with two, or the first that is left. So a node costs one
+/// pass over its candidates, and one more for each of them that it tries; there are at most 2^n nodes for n sets, and the
+/// search is at most 64 deep. `Open` comes only where the nodes are used up.
+pub fn exact_cover(
+    alloc: Global,
+    masks: &[u64],
+    points: u64,
+    nodes: &mut u32,
+) -> Result<CoverAnswer, NoMemory>
+    requires few { length masks.now < 2 ^ 31 }
+    ensures answer { IfOk result (IsAnswer masks.now points nodes.old) }
+    ensures nodes { nodes.new ≤ nodes.old }
+    ensures few { OnOk result (nodes.old ≤ nodes.new + 2 ^ length masks.now) }
+{
+    let mut search = Search {
+        candidates: within(alloc, masks, points)?,
+        chosen: Vec::new(alloc),
+        nodes: *nodes,
+    };
+    let ending = search.cover(masks, points, 0)?;
+    *nodes = search.nodes;
+    Ok(match ending {
+        Ending::Covered => {
+            let mut chosen = search.chosen;
+            chosen.sort_unstable();
+            CoverAnswer::Cover {
+                chosen: Seq::from_vec(chosen),
+            }
+        }
+        Ending::Failed => CoverAnswer::None,
+        Ending::Open => CoverAnswer::Open,
+    })
+}

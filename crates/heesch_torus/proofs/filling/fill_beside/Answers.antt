@@ -3,7 +3,7 @@ use Rattle.std.specs.Prelude.{slice_index}
 use Rattle.std.specs.Int.{bit_not}
 use Rattle.std.specs.Int.Bits.{bit_and}
 use Rattle.heesch_exact.specs.Covers.{IsExactCover, IsAnswer}
-use Rattle.heesch_exact.specs.declared.covers.CoverAnswer.TheVariants.{Cover, None, Open}
+use Rattle.heesch_exact.specs.declared.CoverAnswer.TheVariants.{Cover, None, Open}
 use Rattle.heesch_torus.proofs.Beside.{cover_fills, none_fills, power_more}
 use Rattle.heesch_torus.proofs.filling.fill_beside.Goals as goal
 
@@ -28,7 +28,7 @@ returns-in-Cover-clause-answer c =
 pub returns-in-Cover-clause-used : goal.returns-in-Cover-clause-used
 returns-in-Cover-clause-used c =
     more c.args.nodes.now c.exact_cover.new.nodes c.in_ok-beside.beside.items c.args.masks.now c.in_ok-beside.ensures.few
-    (subst (λ (xs : List ℕ). c.args.nodes.now ≤ c.exact_cover.new.nodes + 2 ^ length xs) c.as_slice.ensures.value c.in_ok-answer.ensures.used)
+    (subst (λ (xs : List ℕ). c.args.nodes.now ≤ c.exact_cover.new.nodes + 2 ^ length xs) c.as_slice.ensures.value c.in_ok-answer.ensures.few)
 
 pub returns-in-None-clause-answer : goal.returns-in-None-clause-answer
 returns-in-None-clause-answer c =
@@ -39,7 +39,7 @@ returns-in-None-clause-answer c =
 pub returns-in-None-clause-used : goal.returns-in-None-clause-used
 returns-in-None-clause-used c =
     more c.args.nodes.now c.exact_cover.new.nodes c.in_ok-beside.beside.items c.args.masks.now c.in_ok-beside.ensures.few
-    (subst (λ (xs : List ℕ). c.args.nodes.now ≤ c.exact_cover.new.nodes + 2 ^ length xs) c.as_slice.ensures.value c.in_ok-answer.ensures.used)
+    (subst (λ (xs : List ℕ). c.args.nodes.now ≤ c.exact_cover.new.nodes + 2 ^ length xs) c.as_slice.ensures.value c.in_ok-answer.ensures.few)
 
 pub returns-clause-answer : goal.returns-clause-answer
 returns-clause-answer c =
@@ -51,4 +51,4 @@ returns-clause-answer c =
 pub returns-clause-used : goal.returns-clause-used
 returns-clause-used c =
     more c.args.nodes.now c.exact_cover.new.nodes c.in_ok-beside.beside.items c.args.masks.now c.in_ok-beside.ensures.few
-    (subst (λ (xs : List ℕ). c.args.nodes.now ≤ c.exact_cover.new.nodes + 2 ^ length xs) c.as_slice.ensures.value c.in_ok-answer.ensures.used)
+    (subst (λ (xs : List ℕ). c.args.nodes.now ≤ c.exact_cover.new.nodes + 2 ^ length xs) c.as_slice.ensures.value c.in_ok-answer.ensures.few)
