@@ -191,7 +191,7 @@ filter_none : {X : Type 0} (p : X → Bool) (xs : List X) → ((x : X) → Conta
 filter_none p [] e = refl
 filter_none p (x ∷ xs) e = ap (λ b. cond b (x ∷ filter p xs) (filter p xs)) (e x (member_here x xs)) ∙ filter_none p xs (λ y m. e y (member_there x xs y m))
 
-range_split : (a m k : ℕ) → range_with_len a (m + k) ≡ range_with_len a m ++ range_with_len (a + m) k
+pub range_split : (a m k : ℕ) → range_with_len a (m + k) ≡ range_with_len a m ++ range_with_len (a + m) k
 range_split a zero k = let e : 0 + k ≡ k = omega arith in let f : a ≡ a + 0 = omega arith in ap (range_with_len a) e ∙ ap (λ b. range_with_len b k) f
 range_split a (suc m) k =
     let e : suc m + k ≡ suc (m + k) = omega arith in

@@ -9,3 +9,7 @@ pub mod Formulas
 pub mod Choosing
 pub mod Modelled
 pub mod Solving
+pub mod Beside
+pub mod Masking
+pub mod Filled
+pub mod Valued

@@ -37,10 +37,10 @@ use Rattle.heesch_torus.proofs.Repeating.{Shorter, fits}
 use Rattle.heesch_torus.proofs.Images.{from_tile, in_tile, tile_count}
 use Rattle.heesch_torus.proofs.Numbering.{rising_map, reduced_listed}
 
-abbrev Entry : Type 0
+abbrev pub Entry : Type 0
 Entry = ℕ × List Cell
 
-abbrev Numbered : Type 0
+abbrev pub Numbered : Type 0
 Numbered = ℕ × TorusVariable
 
 -- ---- how often a residue set's cell stands among the residues of its tile
@@ -95,7 +95,7 @@ shorter_from_two (x ∷ xs) c l = by_test (shorter_from_two xs c) (same_cell c x
         }
 
 module _ (g : Geometry) (law : IsGrid g) (shape : List Cell) (form : IsPolyform g shape) (t : Triple) (triple : IsTriple t) where
-  tile_times : (r : List Cell) (by : Iso) → GivesResidues g shape t r by → (c : Cell) → times_in (tile_residues g shape t by) c ≡ length (cond (has r c) (c ∷ []) [])
+  pub tile_times : (r : List Cell) (by : Iso) → GivesResidues g shape t r by → (c : Cell) → times_in (tile_residues g shape t by) c ≡ length (cond (has r c) (c ∷ []) [])
   tile_times r by k c =
       let turn : IsIsometry g by = k.is_isometry in
       elim (cases_Bool (has r c)) [
@@ -161,7 +161,7 @@ to_entry vars x m = subst (λ es. Contains es (entry_of x)) (sym (entries_map 1 
 from_entry : (vars : List TorusVariable) (e : Entry) → Contains (enumerate_from 1 (sets_of vars)) e → (x : Numbered) × Contains (enumerate_from 1 vars) x × (entry_of x ≡ e)
 from_entry vars e m = map_member entry_of (enumerate_from 1 vars) e (subst (λ es. Contains es e) (entries_map 1 vars) m)
 
-of_variable : (n : ℕ) (vars : List TorusVariable) (x : Numbered) → Contains (enumerate_from n vars) x → Contains vars x.1
+pub of_variable : (n : ℕ) (vars : List TorusVariable) (x : Numbered) → Contains (enumerate_from n vars) x → Contains vars x.1
 of_variable n [] x m = absurd (no_member x m)
 of_variable n (v ∷ vars) x m =
     elim (member_cases (n, v) (enumerate_from (n + 1) vars) x m) [
@@ -177,14 +177,14 @@ rising_entries n (v ∷ vars) r = (
 )
 
 -- two entries of a list that has more than one
-record TwoOf (ys : List Numbered) : Type 0 where
-  one : Numbered
-  other : Numbered
-  first : Contains ys one
-  second : Contains ys other
-  less : one.0 < other.0
+pub record TwoOf (ys : List Numbered) : Type 0 where
+  pub one : Numbered
+  pub other : Numbered
+  pub first : Contains ys one
+  pub second : Contains ys other
+  pub less : one.0 < other.0
 
-two_of : (ys : List Numbered) → IsRising (λ (x y : Numbered). nat_lt x.0 y.0) ys → 2 ≤ length ys → TwoOf ys
+pub two_of : (ys : List Numbered) → IsRising (λ (x y : Numbered). nat_lt x.0 y.0) ys → 2 ≤ length ys → TwoOf ys
 two_of [] r l = absurd (omega arith)
 two_of (x ∷ []) r l = absurd (omega arith)
 two_of (x ∷ y ∷ ys) r l = record {
@@ -195,7 +195,7 @@ two_of (x ∷ y ∷ ys) r l = record {
   less = ltb-true x.0 y.0 (All-contains (λ (z : Numbered). IsTrue (nat_lt x.0 z.0)) (y ∷ ys) y r.0 (member_here y ys));
 }
 
-member_some : {X : Type 0} (xs : List X) (x : X) → Contains xs x → 1 ≤ length xs
+pub member_some : {X : Type 0} (xs : List X) (x : X) → Contains xs x → 1 ≤ length xs
 member_some [] x m = absurd (no_member x m)
 member_some (y ∷ xs) x m = omega arith
 
@@ -211,6 +211,28 @@ module _ (g : Geometry) (law : IsGrid g) (shape : List Cell) (form : IsPolyform 
 
   chosen_gives : (x : Numbered) → Contains (chosen values vars) x → HasIsometry g shape t x.1
   chosen_gives x m = All-contains (HasIsometry g shape t) vars x.1 are.isometries (of_variable 1 vars x (filter_member is_true (enumerate_from 1 vars) x m).0)
+
+  -- the chosen variables that have a reduced cell
+  abbrev pub with_cell : Cell → List Numbered
+  with_cell r = filter (λ (x : Numbered). has x.1.cells r) (chosen values vars)
+
+  -- where each reduced cell is that of one, their places are a cover
+  pub once_covers : ((r : Cell) → IsReduced g t r → 1 ≤ length (with_cell r)) → ((r : Cell) → IsReduced g t r → 2 ≤ length (with_cell r) → ⊥) → IsPeriodicCover g shape t (chosen_places values vars)
+  once_covers covered not_twice = covers g law shape form t triple (chosen_places values vars) isometries once
+    where
+      once : (r : Cell) → IsReduced g t r → times_in (residues g shape t (chosen_places values vars)) r ≡ 1
+      once r red =
+          let times = all_times g law shape form t triple (chosen values vars) (λ x m. (chosen_gives x m).holds.1) r in
+          elim (cases_order (length (with_cell r)) 1) [
+            | inl e ↦ times ∙ e
+            | inr o ↦ elim o [
+              | inl none ↦ let some = covered r red in absurd (omega arith)
+              | inr two ↦ absurd (not_twice r red two)
+            ]
+          ]
+
+      isometries : All (IsIsometry g) (chosen_places values vars)
+      isometries = All-from_members (IsIsometry g) (chosen_places values vars) (λ by m. let x = map_member (λ (x : Numbered). x.1.by) (chosen values vars) by m in subst (λ b. IsIsometry g b) x.2 (chosen_gives x.0 x.1).holds.1.is_isometry)
 
   module _ (model : Satisfies literals value (torus_clauses literals all_cells (sets_of vars))) where
     abbrev cover_clauses : List (List Lit)
@@ -237,10 +259,6 @@ module _ (g : Geometry) (law : IsGrid g) (shape : List Cell) (form : IsPolyform 
           ]
         ]
 
-    -- the chosen variables that have a reduced cell
-    abbrev with_cell : Cell → List Numbered
-    with_cell r = filter (λ (x : Numbered). has x.1.cells r) (chosen values vars)
-
     covered : (r : Cell) → IsReduced g t r → 1 ≤ length (with_cell r)
     covered r red =
         let cl : List Lit = clause_of literals no_variable (λ (x : Entry). has x.1 r) sets in
@@ -264,22 +282,8 @@ module _ (g : Geometry) (law : IsGrid g) (shape : List Cell) (form : IsPolyform 
         let d = filter_member is_true (enumerate_from 1 vars) two.other b.0 in
         apart (entry_of two.one) (entry_of two.other) (to_entry vars two.one c.0) (to_entry vars two.other d.0) two.less c.1 d.1 r (has-true two.one.1.cells r a.1) (has-true two.other.1.cells r b.1)
 
-    once : (r : Cell) → IsReduced g t r → times_in (residues g shape t (chosen_places values vars)) r ≡ 1
-    once r red =
-        let times = all_times g law shape form t triple (chosen values vars) (λ x m. (chosen_gives x m).holds.1) r in
-        elim (cases_order (length (with_cell r)) 1) [
-          | inl e ↦ times ∙ e
-          | inr o ↦ elim o [
-            | inl none ↦ let some = covered r red in absurd (omega arith)
-            | inr two ↦ absurd (not_twice r two)
-          ]
-        ]
-
     pub model_covers : IsPeriodicCover g shape t (chosen_places values vars)
-    model_covers = covers g law shape form t triple (chosen_places values vars) isometries once
-      where
-        isometries : All (IsIsometry g) (chosen_places values vars)
-        isometries = All-from_members (IsIsometry g) (chosen_places values vars) (λ by m. let x = map_member (λ (x : Numbered). x.1.by) (chosen values vars) by m in subst (λ b. IsIsometry g b) x.2 (chosen_gives x.0 x.1).holds.1.is_isometry)
+    model_covers = once_covers covered (λ r red l. not_twice r l)
 
   zipped : (cs : List Numbered) → ((x : Numbered) → Contains cs x → HasIsometry g shape t x.1) → AllZip (IsIsometryOf g shape t) (map (λ (x : Numbered). x.1.cells) cs) (map (λ (x : Numbered). x.1.by) cs)
   zipped [] h = tt

@@ -92,7 +92,7 @@ module _ (t : Triple) (triple : IsTriple t) where
       before (inl l) = or-left (int_lt x.db (pos (k / t.p))) (int_eq x.db (pos (k / t.p)) && int_lt x.da (pos (k % t.p))) (int_lt-is x.db (pos (k / t.p)) l)
       before (inr h) = or-right (int_lt x.db (pos (k / t.p))) (int_eq x.db (pos (k / t.p)) && int_lt x.da (pos (k % t.p))) (and-both (int_eq x.db (pos (k / t.p))) (int_lt x.da (pos (k % t.p))) (int_eq-is x.db (pos (k / t.p)) h.0) (int_lt-is x.da (pos (k % t.p)) h.1))
 
-  of_turn : (x : Iso) (turn : ℕ) → IsWithinTriple t x → x.turn ≡ turn → (j : ℕ) × (j < t.p * t.q) × (x ≡ tried t turn j)
+  pub of_turn : (x : Iso) (turn : ℕ) → IsWithinTriple t x → x.turn ≡ turn → (j : ℕ) × (j < t.p * t.q) × (x ≡ tried t turn j)
   of_turn x turn w e = let n = numbered t x w in (n.number, n.below, n.is ∙ ap (λ k. tried t k n.number) e)
 
   earlier : (x : Iso) (turn k : ℕ) → IsWithinTriple t x → IsometryBefore x (tried t turn k) → IsTried t turn k x
@@ -190,17 +190,17 @@ left_over z n some =
     high f m e l = omega (arith, ints)
 
 module _ (g : Geometry) (law : IsGrid g) (shape : List Cell) (t : Triple) (triple : IsTriple t) (by : Iso) where
-  abbrev rows : ℤ
+  abbrev pub rows : ℤ
   rows = neg_ℤ (floor_div by.db t.q)
 
-  abbrev columns : ℤ
+  abbrev pub columns : ℤ
   columns = neg_ℤ (floor_div (by.da +ℤ rows *ℤ pos t.s) t.p)
 
   -- the isometry moved into the triple
-  abbrev moved_in : Iso
+  abbrev pub moved_in : Iso
   moved_in = record { turn = by.turn; da = by.da +ℤ (columns *ℤ pos t.p +ℤ rows *ℤ pos t.s); db = by.db +ℤ rows *ℤ pos t.q }
 
-  moved_within : IsWithinTriple t moved_in
+  pub moved_within : IsWithinTriple t moved_in
   moved_within =
       let b = left_over by.db t.q triple.q_positive in
       let a = left_over (by.da +ℤ rows *ℤ pos t.s) t.p triple.p_positive in
@@ -215,7 +215,7 @@ module _ (g : Geometry) (law : IsGrid g) (shape : List Cell) (t : Triple) (tripl
       turn_sum : (x y z : ℤ) → (x +ℤ y) +ℤ z ≡ x +ℤ (z +ℤ y)
       turn_sum x y z = omega (arith, ints)
 
-  image_is : (c : Cell) → apply g moved_in c ≡ translated g t columns rows (apply g by c)
+  pub image_is : (c : Cell) → apply g moved_in c ≡ translated g t columns rows (apply g by c)
   image_is c = sym (moved_twice g law by.da by.db (columns *ℤ pos t.p +ℤ rows *ℤ pos t.s) (rows *ℤ pos t.q) (g.turn by.turn c))
 
   there : (c : Cell) → IsReducedFrom g t (image g by shape) c → IsReducedFrom g t (image g moved_in shape) c

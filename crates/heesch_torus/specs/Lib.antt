@@ -8,3 +8,6 @@ pub mod Marks
 pub mod Chosen
 pub mod Answer
 pub mod Outcome
+pub mod Beside
+pub mod Masks
+pub mod Covers

@@ -3,17 +3,22 @@
 
 mod answer;
 mod clauses;
+mod cover;
 mod covering;
+mod filling;
 mod formula;
 mod found;
+mod masks;
 mod outcome;
 mod pairs;
 mod places;
+mod points;
 mod residues;
 mod variables;
 mod window;
 
 pub use answer::{TorusAnswer, search};
+pub use cover::{CoverAnswer, find_cover};
 pub use formula::torus_formula;
 
 #[cfg(test)]

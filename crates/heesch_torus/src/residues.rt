@@ -19,7 +19,7 @@ use heesch_shape::CELLS_MAX;
 pub(crate) type Residues = ArrayVec<Cell, CELLS_MAX>;
 
 /// The reduced cell of the image of c.
-fn residue_of<G: Grid>(triple: Triple, by: Iso, c: Cell) -> Cell
+pub(crate) fn residue_of<G: Grid>(triple: Triple, by: Iso, c: Cell) -> Cell
     requires range { IsInRange G.geometry by }
     requires cell { IsCell G.geometry c }
     requires within { IsWithin 100000 c }

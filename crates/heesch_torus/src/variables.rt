@@ -17,14 +17,14 @@ use heesch_lattice::Triple;
 use std::alloc::Global;
 
 /// How many translations lie within the triple.
-fn translation_count(triple: Triple) -> u32
+pub(crate) fn translation_count(triple: Triple) -> u32
     ensures { result ≡ triple.p * triple.q }
 {
     triple.p * triple.q
 }
 
 /// The k-th isometry of a turn within the triple, by db and then by da.
-fn isometry_at(triple: Triple, turn: u32, k: u32) -> Iso
+pub(crate) fn isometry_at(triple: Triple, turn: u32, k: u32) -> Iso
     requires { k ≤ 1000 }
     ensures { result ≡ tried triple turn k }
 {

@@ -1,0 +1,23 @@
+use Rattle.std.proofs.Common.{ℕ, List, All, Contains, subst}
+use Rattle.heesch_torus.specs.declared.filling.Filling.TheVariants.{Filled, None}
+use Rattle.heesch_torus.specs.Beside.{FillBeside, IsFilling}
+use Rattle.heesch_torus.specs.Covers.{unmoved}
+use Rattle.heesch_torus.proofs.Masking.{double_unmasked}
+use Rattle.heesch_torus.proofs.Filled.{filled_with, none_with, within_full}
+use Rattle.heesch_torus.proofs.cover.fill_at.Goals as goal
+
+pub fill_beside-requires-clause-within : goal.fill_beside-requires-clause-within
+fill_beside-requires-clause-within g c = within_full g.G.Grid.geometry c.args.cells.now c.args.triple c.args.full c.requires.full (unmoved c.args.turn) c.in-Some.first c.in-Some.ensures.found
+
+pub returns-in_default-clause-answer : goal.returns-in_default-clause-answer
+returns-in_default-clause-answer g c = λ first is found inside fills. double_unmasked g.G.Grid.geometry c.args.cells.now c.args.triple g.met.G.Grid.laws c.requires.triple (unmoved c.args.turn) first c.in_default.ensures.none is
+
+pub returns-in_ok-push-in-Filled-clause-answer : goal.returns-in_ok-push-in-Filled-clause-answer
+returns-in_ok-push-in-Filled-clause-answer g c =
+    filled_with g.G.Grid.geometry c.args.cells.now c.args.triple c.args.turn c.requires.turn c.args.masks.now c.requires.masks c.args.full c.in-Some.first c.in-Some.ensures.found c.in-Filled.masks c.push.new.self c.in_ok-push-in-Filled.ensures.ok
+    (subst (IsFilling c.args.masks.now c.in-Some.first c.args.full c.args.nodes.now) c.in-Filled.is c.in_ok-filling.ensures.answer)
+
+pub returns-in-None-clause-answer : goal.returns-in-None-clause-answer
+returns-in-None-clause-answer g c =
+    let none : (found : List ℕ) → All (Contains c.args.masks.now) found → ¬ FillBeside c.in-Some.first c.args.full found = subst (IsFilling c.args.masks.now c.in-Some.first c.args.full c.args.nodes.now) c.in-None.is c.in_ok-filling.ensures.answer in
+    none_with g.G.Grid.geometry c.args.cells.now c.args.triple c.args.turn c.args.full c.in-Some.first c.in-Some.ensures.found c.args.masks.now none

@@ -1,0 +1,38 @@
+use Rattle.std.proofs.Common.{◌≡◌, ◌≤◌, ◌<◌, ℕ, List, Bool, cond, length, inl, inr, sym, ap, subst, ◌∙◌, arith}
+use Rattle.std.specs.Prelude.{nat_lt}
+use Rattle.std.specs.Int.{bit_at}
+use Rattle.heesch_grid.specs.declared.Cell.{Cell}
+use Rattle.heesch_grid.specs.declared.isometries.Iso.{Iso}
+use Rattle.heesch_grid.specs.Tiling.{IsPeriodicCover}
+use Rattle.heesch_cert.specs.declared.tiling.Tiling.{Tiling}
+use Rattle.heesch_torus.specs.declared.filling.Filling.TheVariants.{Filled, None, Open}
+use Rattle.heesch_torus.specs.Answer.{IsChosenCover}
+use Rattle.heesch_torus.specs.Formula.{reduced_cells}
+use Rattle.heesch_torus.specs.Masks.{ArePoints}
+use Rattle.heesch_torus.specs.Covers.{HasAllPoints, AreExactMasks, AreFewNodes, IsTorusFilling}
+use Rattle.heesch_torus.proofs.Formulas.{domain_small}
+use Rattle.heesch_torus.proofs.Numbering.{reduced_listed}
+use Rattle.heesch_torus.proofs.Filled.{some_points}
+use Rattle.heesch_torus.proofs.cover.find_cover.Goals as goal
+
+pub points_of-requires : goal.points_of-requires
+points_of-requires g c = domain_small g.G.Grid.geometry g.met.G.Grid.laws (length c.args.shape.now) c.args.triple c.cells-cells.ensures.shape.few c.requires.domain
+
+pub fill_torus-requires-clause-small : goal.fill_torus-requires-clause-small
+fill_torus-requires-clause-small g c = domain_small g.G.Grid.geometry g.met.G.Grid.laws (length c.args.shape.now) c.args.triple c.cells-cells.ensures.shape.few c.requires.domain
+
+pub cover_of-requires-clause-small : goal.cover_of-requires-clause-small
+cover_of-requires-clause-small g c = domain_small g.G.Grid.geometry g.met.G.Grid.laws (length c.args.shape.now) c.args.triple c.cells-cells.ensures.shape.few c.requires.domain
+
+pub returns-then-points-gt64 : goal.returns-then-points-gt64
+returns-then-points-gt64 g c = inl (record { cells = reduced_cells g.G.Grid.geometry c.args.triple; reduced = reduced_listed g.G.Grid.geometry c.args.triple g.met.G.Grid.laws c.requires.domain.of_domain.is_triple; many = omega (arith, c.in_ok-points.ensures.count_is, c.if-points-gt64.true) })
+
+pub all_points-full-requires-clause-some : goal.all_points-full-requires-clause-some
+all_points-full-requires-clause-some g c =
+    let some = some_points g.G.Grid.geometry g.met.G.Grid.laws c.args.triple c.requires.domain.of_domain.is_triple in
+    omega (arith, c.in_ok-points.ensures.count_is, some)
+
+pub returns-in-None : goal.returns-in-None
+returns-in-None g c =
+    let none : (places : List Iso) → ¬ IsPeriodicCover g.G.Grid.geometry c.cells-cells.result.now c.args.triple places = subst (IsTorusFilling g.G.Grid.geometry c.cells-cells.result.now c.args.triple c.all_points-full.result c.args.nodes) c.in-None.is c.in_ok-filling.ensures in
+    subst (λ (s : List Cell). (places : List Iso) → ¬ IsPeriodicCover g.G.Grid.geometry s c.args.triple places) c.cells-cells.ensures.cells none

@@ -1,0 +1,81 @@
+-- What the search for a cover that keeps no log answers.
+use Rattle.std.specs.Prelude.{◌≡◌, ◌<◌, ◌≤◌, ◌*◌, ◌^◌, ◌⊎◌, ◌↔◌, ℕ, pos, true, false, Bool, Some, List, [], ◌∷◌, length, slice_index_or, cond, nat_lt, All, Contains}
+use Rattle.std.specs.List.{slice_get}
+use Rattle.std.specs.Int.{bit_at}
+use Rattle.heesch_grid.specs.declared.Cell.{Cell}
+use Rattle.heesch_grid.specs.declared.isometries.Iso.{Iso}
+use Rattle.heesch_grid.specs.Listing.{ListsExactly}
+use Rattle.heesch_grid.specs.Cells.{cell_before}
+use Rattle.heesch_grid.specs.Geometry.{Geometry, IsIsometry}
+use Rattle.heesch_grid.specs.Lattice.{Triple, IsReduced}
+use Rattle.heesch_grid.specs.Tiling.{IsPeriodicCover}
+use Rattle.heesch_torus.specs.Answer.{IsChosenCover}
+use Rattle.heesch_torus.specs.Beside.{FillBeside}
+use Rattle.heesch_torus.specs.Formula.{reduced_cells}
+use Rattle.heesch_torus.specs.Masks.{IsMaskOf}
+use Rattle.heesch_torus.specs.Variables.{TorusVariable}
+use Rattle.heesch_torus.specs.declared.filling.Filling.{Filling}
+use Rattle.heesch_torus.specs.declared.filling.Filling.TheVariants as Fills
+use Rattle.heesch_torus.specs.declared.cover.CoverAnswer.{CoverAnswer}
+use Rattle.heesch_torus.specs.declared.cover.CoverAnswer.TheVariants.{Tiles, None, Open}
+
+-- the torus has more than 64 cells
+pub record HasManyCells (g : Geometry) (t : Triple) : Type 0 where
+  pub cells : List Cell
+  pub reduced : ListsExactly cell_before (IsReduced g t) cells
+  pub many : 64 < length cells
+
+-- so many nodes may be too few: fewer than there are choices among the tiles within the triple, for each turn
+abbrev pub AreFewNodes : Geometry → Triple → ℕ → Type 0
+AreFewNodes g t nodes = nodes < g.turns * 2 ^ (g.turns * (t.p * t.q))
+
+-- Tiles: such a cover; None: there is none; Open: the torus has more than 64 cells, or the nodes may be too few
+abbrev pub IsCoverAnswer : Geometry → List Cell → Triple → ℕ → CoverAnswer → Type 0
+IsCoverAnswer g shape t nodes (Tiles tiling) = IsChosenCover g shape t tiling
+IsCoverAnswer g shape t nodes None = (places : List Iso) → ¬ IsPeriodicCover g shape t places
+IsCoverAnswer g shape t nodes Open = HasManyCells g t ⊎ AreFewNodes g t nodes
+
+-- the word has the bits of the reduced cells, and no others
+abbrev pub HasAllPoints : Geometry → Triple → ℕ → Type 0
+HasAllPoints g t full = (k : ℕ) → bit_at full k ≡ cond (nat_lt k (length (reduced_cells g t))) 1 0
+
+-- the tile of a turn at (0, 0)
+abbrev pub unmoved : ℕ → Iso
+unmoved turn = record { turn = turn; da = pos 0; db = pos 0 }
+
+-- the mask is that of a tile
+abbrev pub IsTileMask : Geometry → List Cell → Triple → ℕ → Type 0
+IsTileMask g shape t mask = (by : Iso) × IsIsometry g by × IsMaskOf g shape t by mask
+
+-- the masks are those of tiles, which together have each reduced cell once
+pub record AreExactMasks (g : Geometry) (shape : List Cell) (t : Triple) (full : ℕ) (masks : List ℕ) : Type 0 where
+  pub tiles : (m : ℕ) → Contains masks m → IsTileMask g shape t m
+  pub fill : FillBeside 0 full masks
+
+abbrev pub HasExactMasks : Geometry → List Cell → Triple → List ℕ → Type 0
+HasExactMasks g shape t masks = (full : ℕ) × HasAllPoints g t full × AreExactMasks g shape t full masks
+
+-- with the tile of this turn at (0, 0): some of the masks that fill what it leaves; there are none; or the nodes were too few
+abbrev pub IsFillingAt : Geometry → List Cell → Triple → ℕ → List ℕ → ℕ → ℕ → Filling → Type 0
+IsFillingAt g shape t turn masks full nodes (Fills.Filled found) = AreExactMasks g shape t full found
+IsFillingAt g shape t turn masks full nodes Fills.None = (first : ℕ) → IsMaskOf g shape t (unmoved turn) first → (found : List ℕ) → All (Contains masks) found → ¬ FillBeside first full found
+IsFillingAt g shape t turn masks full nodes Fills.Open = nodes < 2 ^ length masks
+
+-- no tile of this turn at (0, 0) and tiles of this turn and later ones are a periodic cover
+abbrev pub HasNoCoverAt : Geometry → List Cell → Triple → ℕ → Type 0
+HasNoCoverAt g shape t turn = (rest : List Iso) → All (λ x. IsIsometry g x × (turn ≤ x.turn)) rest → ¬ IsPeriodicCover g shape t (unmoved turn ∷ rest)
+
+-- masks of tiles that have each reduced cell once; there is no periodic cover; or the nodes may be too few
+abbrev pub IsTorusFilling : Geometry → List Cell → Triple → ℕ → ℕ → Filling → Type 0
+IsTorusFilling g shape t full nodes (Fills.Filled found) = AreExactMasks g shape t full found
+IsTorusFilling g shape t full nodes Fills.None = (places : List Iso) → ¬ IsPeriodicCover g shape t places
+IsTorusFilling g shape t full nodes Fills.Open = AreFewNodes g t nodes
+
+-- one of the masks is that of the tile
+abbrev pub HasMaskAmong : Geometry → List Cell → Triple → List ℕ → Iso → Type 0
+HasMaskAmong g shape t masks by = (m : ℕ) × IsMaskOf g shape t by m × Contains masks m
+
+-- the values say which of the variables have their mask among these
+pub record AreValuesOf (g : Geometry) (shape : List Cell) (t : Triple) (masks : List ℕ) (vars : List TorusVariable) (values : List Bool) : Type 0 where
+  pub count : length values ≡ length vars
+  pub each : (k : ℕ) (x : TorusVariable) → slice_get vars k ≡ Some x → (slice_index_or values k false ≡ true) ↔ HasMaskAmong g shape t masks x.by

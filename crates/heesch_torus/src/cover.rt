@@ -1,0 +1,224 @@
+//! The search for a cover of a triple that keeps no log.
+ghost use Rattle.std.specs.Prelude.{◌≡◌, ◌↔◌, ◌<◌, ◌≤◌, ◌+◌, ◌*◌, ◌^◌, true, length, IfOk};
+ghost use Rattle.heesch_grid.specs.declared.Cell.{Cell};
+ghost use Rattle.heesch_grid.specs.Cells.{has};
+ghost use Rattle.heesch_grid.specs.Geometry.{IsCell};
+ghost use Rattle.heesch_grid.specs.Lattice.{IsTriple};
+ghost use Rattle.heesch_grid.specs.Polyform.{IsPolyform};
+ghost use Rattle.heesch_grid.specs.Vectors.{IsWithin};
+ghost use Rattle.heesch_tiling.specs.Counting.{IsInRange};
+ghost use Rattle.heesch_torus.specs.Answer.{IsChosenCover};
+ghost use Rattle.heesch_torus.specs.Covers.{IsCoverAnswer, HasAllPoints, HasMaskAmong, HasExactMasks, AreValuesOf, IsFillingAt, IsTorusFilling};
+ghost use Rattle.heesch_torus.specs.Domain.{HasDomain};
+ghost use Rattle.heesch_torus.specs.Formula.{reduced_cells};
+ghost use Rattle.heesch_torus.specs.Masks.{ArePoints, HasMasksFrom};
+ghost use Rattle.heesch_torus.specs.Variables.{AreVariables};
+
+use crate::filling::{Filling, fill_beside};
+use crate::found::Variable;
+use crate::masks::{add_masks, mask_of};
+use crate::places::chosen_places;
+use crate::points::{all_points, points_of};
+use crate::variables::variables_of;
+use heesch_cert::Tiling;
+use heesch_grid::{Cell, Grid, Iso};
+use heesch_io::{NoMemory, Seq};
+use heesch_lattice::Triple;
+use heesch_shape::Shape;
+use std::alloc::Global;
+
+/// Whether there is a cover for a triple, as far as it was searched.
+#[derive(Drop)]
+pub enum CoverAnswer {
+    /// A cover.
+    Tiles { tiling: Tiling },
+    /// There is none.
+    None,
+    /// It was not searched whole: the torus has more than 64 cells, or the nodes were used up.
+    Open,
+}
+
+/// Searches for masks that, with the tile of a turn at (0, 0), have each point once.
+fn fill_at<G: Grid>(
+    alloc: Global,
+    numbers: &[u32],
+    cells: &[Cell],
+    triple: Triple,
+    turn: u32,
+    masks: &[u64],
+    full: u64,
+    nodes: &mut u32,
+) -> Result<Filling, NoMemory>
+    requires triple { IsTriple triple }
+    requires small { triple.p * triple.q ≤ 384 }
+    requires points { ArePoints G.geometry triple numbers.now (length (reduced_cells G.geometry triple)) }
+    requires few { length (reduced_cells G.geometry triple) ≤ 64 }
+    requires cells { (c : Cell) → has cells.now c ≡ true → IsCell G.geometry c × IsWithin 100000 c }
+    requires turn { turn < G.geometry.turns }
+    requires masks { HasMasksFrom G.geometry cells.now triple turn masks.now }
+    requires full { HasAllPoints G.geometry triple full }
+    ensures answer { IfOk result (IsFillingAt G.geometry cells.now triple turn masks.now full nodes.old) }
+    ensures used { IfOk result (λ _. nodes.old ≤ nodes.new + 2 ^ length masks.now) }
+{
+    let unmoved = Iso {
+        turn,
+        da: 0,
+        db: 0,
+    };
+    let Some(first) = mask_of::<G>(numbers, cells, triple, unmoved) else {
+        return Ok(Filling::None);
+    };
+    let filling = fill_beside(alloc, masks, first, full, nodes)?;
+    match filling {
+        Filling::Filled { mut masks } => {
+            masks.push(first)?;
+            Ok(Filling::Filled { masks })
+        }
+        Filling::None => Ok(Filling::None),
+        Filling::Open => Ok(Filling::Open),
+    }
+}
+
+/// Searches for masks of tiles that have each point once. A tile of the least turn stands at (0, 0).
+fn fill_torus<G: Grid>(
+    alloc: Global,
+    numbers: &[u32],
+    cells: &[Cell],
+    triple: Triple,
+    full: u64,
+    nodes: u32,
+) -> Result<Filling, NoMemory>
+    requires triple { IsTriple triple }
+    requires small { triple.p * triple.q ≤ 384 }
+    requires form { IsPolyform G.geometry cells.now }
+    requires points { ArePoints G.geometry triple numbers.now (length (reduced_cells G.geometry triple)) }
+    requires few { length (reduced_cells G.geometry triple) ≤ 64 }
+    requires near { (c : Cell) → has cells.now c ≡ true → IsWithin 100000 c }
+    requires full { HasAllPoints G.geometry triple full }
+    ensures { IfOk result (IsTorusFilling G.geometry cells.now triple full nodes) }
+{
+    let mut masks = Vec::new(alloc);
+    let mut left = nodes;
+    for done in 0..G::TURNS {
+        let turn = G::TURNS - 1 - done;
+        add_masks::<G>(&mut masks, numbers, cells, triple, turn)?;
+        let filling =
+            fill_at::<G>(alloc, numbers, cells, triple, turn, &masks, full, &mut left)?;
+        match filling {
+            Filling::Filled { masks } => return Ok(Filling::Filled { masks }),
+            Filling::Open => return Ok(Filling::Open),
+            Filling::None => {}
+        }
+    }
+    Ok(Filling::None)
+}
+
+/// Whether the mask of a variable is among these.
+fn is_among<G: Grid>(
+    numbers: &[u32],
+    cells: &[Cell],
+    triple: Triple,
+    masks: &[u64],
+    by: Iso,
+) -> bool
+    requires triple { IsTriple triple }
+    requires points { ArePoints G.geometry triple numbers.now (length (reduced_cells G.geometry triple)) }
+    requires few { length (reduced_cells G.geometry triple) ≤ 64 }
+    requires cells { (c : Cell) → has cells.now c ≡ true → IsCell G.geometry c × IsWithin 100000 c }
+    requires range { IsInRange G.geometry by }
+    ensures { (result ≡ true) ↔ HasMaskAmong G.geometry cells.now triple masks.now by }
+{
+    let Some(mask) = mask_of::<G>(numbers, cells, triple, by) else {
+        return false;
+    };
+    masks.contains(&mask)
+}
+
+/// Which of the variables have their mask among these.
+fn values_of<G: Grid>(
+    alloc: Global,
+    numbers: &[u32],
+    cells: &[Cell],
+    triple: Triple,
+    masks: &[u64],
+    variables: &[Variable],
+) -> Result<Seq<bool>, NoMemory>
+    requires triple { IsTriple triple }
+    requires small { triple.p * triple.q ≤ 384 }
+    requires points { ArePoints G.geometry triple numbers.now (length (reduced_cells G.geometry triple)) }
+    requires few { length (reduced_cells G.geometry triple) ≤ 64 }
+    requires cells { (c : Cell) → has cells.now c ≡ true → IsCell G.geometry c × IsWithin 100000 c }
+    requires variables { AreVariables G.geometry cells.now triple variables.now }
+    ensures { IfOk result (AreValuesOf G.geometry cells.now triple masks.now variables.now) }
+{
+    let mut values = Seq::new(alloc);
+    for variable in variables {
+        values.push(is_among::<G>(numbers, cells, triple, masks, variable.by))?;
+    }
+    Ok(values)
+}
+
+/// The cover by the tiles whose masks these are.
+fn cover_of<G: Grid>(
+    alloc: Global,
+    numbers: &[u32],
+    cells: &[Cell],
+    triple: Triple,
+    masks: &[u64],
+) -> Result<Tiling, NoMemory>
+    requires triple { IsTriple triple }
+    requires small { triple.p * triple.q ≤ 384 }
+    requires form { IsPolyform G.geometry cells.now }
+    requires size { length cells.now ≤ 32 }
+    requires points { ArePoints G.geometry triple numbers.now (length (reduced_cells G.geometry triple)) }
+    requires few { length (reduced_cells G.geometry triple) ≤ 64 }
+    requires near { (c : Cell) → has cells.now c ≡ true → IsWithin 100000 c }
+    requires exact { HasExactMasks G.geometry cells.now triple masks.now }
+    ensures { IfOk result (IsChosenCover G.geometry cells.now triple) }
+{
+    let variables = variables_of::<G>(alloc, cells, triple)?;
+    let values = values_of::<G>(alloc, numbers, cells, triple, masks, variables.as_slice())?;
+    let places = chosen_places(alloc, variables.as_slice(), values.as_slice())?;
+    Ok(Tiling { triple, places })
+}
+
+/// Searches for a cover of a triple by masks, for so many nodes, and keeps no log.
+///
+/// A mask has a bit for each of the torus's cells, and a tile one mask: the search is for masks that
+/// have each bit once. A tile of the least turn is fixed at (0, 0), where a translation brings it.
+/// Tiles has a cover whose places are chosen as those of `search`. None comes only where the triple
+/// has no cover. Open comes only where the torus has more than 64 cells, or where the nodes are
+/// below 2 to the power of the number of isometries within the triple, times the number of turns.
+/// Condition: the cells lie within 100,000 of 0, and the triple is one of a domain of 1 to 12 tiles.
+///
+/// Cost: a reduction for each cell of an image within the triple, of which there are at most 4,608;
+/// for each turn a sort of those of its turn and later ones that are apart from the fixed tile, and
+/// the nodes of the exact cover, each a pass over its candidates. Where there is a cover, once more
+/// the variables of the torus formula.
+pub fn find_cover<G: Grid>(
+    alloc: Global,
+    shape: &Shape<G>,
+    triple: Triple,
+    nodes: u32,
+) -> Result<CoverAnswer, NoMemory>
+    requires near { (c : Cell) → has shape.now c ≡ true → IsWithin 100000 c }
+    requires domain { HasDomain G.geometry (length shape.now) triple }
+    ensures { IfOk result (IsCoverAnswer G.geometry shape.now triple nodes) }
+{
+    let cells = shape.cells();
+    let points = points_of::<G>(alloc, triple)?;
+    if points.count > 64 {
+        return Ok(CoverAnswer::Open);
+    }
+    let full = all_points(points.count);
+    let filling = fill_torus::<G>(alloc, &points.numbers, cells, triple, full, nodes)?;
+    match filling {
+        Filling::Filled { masks } => {
+            let tiling =
+                cover_of::<G>(alloc, &points.numbers, cells, triple, masks.as_slice())?;
+            Ok(CoverAnswer::Tiles { tiling })
+        }
+        Filling::None => Ok(CoverAnswer::None),
+        Filling::Open => Ok(CoverAnswer::Open),
+    }
+}
