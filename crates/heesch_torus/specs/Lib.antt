@@ -8,3 +8,4 @@ pub mod Marks
 pub mod Chosen
 pub mod Answer
 pub mod Outcome
+pub mod Covers
