@@ -1,5 +1,5 @@
 -- The first cover of the domains: what stands before it in their triples, and what is left open.
-use Rattle.std.proofs.Common.{◌≡◌, refl, sym, ap, subst, ◌∙◌, ℕ, suc, ◌+◌, ◌<◌, ◌≤◌, not-suc-le-zero, List, [], ◌∷◌, ◌++◌, length, take, drop, get_or, true, ◌⊎◌, inl, inr, arith, All, Contains}
+use Rattle.std.proofs.Common.{◌≡◌, refl, sym, ap, subst, ◌∙◌, ℕ, suc, ◌<◌, ◌≤◌, not-suc-le-zero, List, [], ◌∷◌, ◌++◌, length, take, drop, get_or, true, ◌⊎◌, inl, inr, arith, All, Contains}
 use Rattle.std.proofs.lemmas.Bool.{cases_lt}
 use Rattle.std.proofs.lemmas.List.{append_assoc, length_push, take-append-drop, take-append-le}
 use Rattle.std.proofs.lemmas.List.Elements.{All-contains, All-nil, All-push, All-weaker, Contains-append_left, Contains-append_right, Contains-get_or}
@@ -156,19 +156,19 @@ module _ (g : Geometry) (shape : List Cell) where
 
 -- each triple of a list has no cover or is left open, and those that are have domains
 pub record AreTried (g : Geometry) (shape : List Cell) (nodes : ℕ) (listed left : List Triple) : Type 0 where
-  pub left : AreLeftOpen g shape listed left
+  pub are_open : AreLeftOpen g shape listed left
   pub domains : All (HasDomain g (length shape)) left
   pub tried : All (IsTried g shape nodes) listed
 
 module _ (g : Geometry) (shape : List Cell) (nodes : ℕ) where
   pub tried_at_first : AreTried g shape nodes [] []
-  tried_at_first = record { left = nothing_left g shape; domains = All-nil (HasDomain g (length shape)); tried = All-nil (IsTried g shape nodes) }
+  tried_at_first = record { are_open = nothing_left g shape; domains = All-nil (HasDomain g (length shape)); tried = All-nil (IsTried g shape nodes) }
 
   pub none_tried : (listed left : List Triple) (t : Triple) → HasNoCover g shape t → AreTried g shape nodes listed left → AreTried g shape nodes (listed ++ t ∷ []) left
-  none_tried listed left t none a = record { left = none_more g shape listed left t none a.left; domains = a.domains; tried = All-push (IsTried g shape nodes) listed t a.tried (inl none) }
+  none_tried listed left t none a = record { are_open = none_more g shape listed left t none a.are_open; domains = a.domains; tried = All-push (IsTried g shape nodes) listed t a.tried (inl none) }
 
   pub open_tried : (listed left : List Triple) (t : Triple) → HasDomain g (length shape) t → IsCoverAnswer g shape t nodes Open → AreTried g shape nodes listed left → AreTried g shape nodes (listed ++ t ∷ []) (left ++ t ∷ [])
-  open_tried listed left t d answer a = record { left = open_more g shape listed left t a.left; domains = All-push (HasDomain g (length shape)) left t a.domains d; tried = All-push (IsTried g shape nodes) listed t a.tried (inr answer) }
+  open_tried listed left t d answer a = record { are_open = open_more g shape listed left t a.are_open; domains = All-push (HasDomain g (length shape)) left t a.domains d; tried = All-push (IsTried g shape nodes) listed t a.tried (inr answer) }
 
 -- a list is what stands before one of its items, that one, and what stands behind it
 pub parts_at : (ts : List Triple) (i : ℕ) (d : Triple) → i < length ts → ts ≡ take i ts ++ get_or ts i d ∷ drop (suc i) ts

@@ -88,7 +88,6 @@ not_both a b c d e f h k =
 pub not_before_both : (t u : Triple) → area_before t u ≡ true → area_before u t ≡ true → ⊥
 not_before_both t u h k = not_both (t.p * t.q) (u.p * u.q) t.p u.p t.s u.s (before_parts t u h) (before_parts u t k)
 
-
 -- no triple is of a domain below 2
 pub none_yet : (g : Geometry) (n most : ℕ) → most ≤ 1 → AreUpTo g n most []
 none_yet g n most few = record { rising = tt; only = All-nil (IsTripleUpTo g n most); every = λ t h. let low = h.1 in let high = h.2 in absurd (omega (arith, low, high, few)) }

@@ -1,5 +1,5 @@
 -- Covers, and plain tilings that are admitted.
-use Rattle.std.specs.Prelude.{◌≤◌, ℕ, Option, Some, None, List, length, All}
+use Rattle.std.specs.Prelude.{◌≤◌, Option, Some, None, List, length, All}
 use Rattle.heesch_grid.specs.declared.Cell.{Cell}
 use Rattle.heesch_grid.specs.Geometry.{Geometry}
 use Rattle.heesch_grid.specs.Lattice.{IsTripleOfDomain}

@@ -1,10 +1,8 @@
-use Rattle.std.proofs.Common.{◌≡◌, ◌∙◌, suc, ◌+◌, List, [], ◌∷◌, ◌++◌, length, take, drop, get_or, ap, subst, sym, rules}
+use Rattle.std.proofs.Common.{◌≡◌, ◌∙◌, suc, ◌+◌, List, [], ◌∷◌, ◌++◌, length, take, drop, ap, subst, sym, rules}
 use Rattle.std.proofs.lemmas.List.{take_more}
 use Rattle.heesch_grid.specs.Lattice.{Triple}
 use Rattle.heesch_torus.specs.Covers.{IsCoverAnswer}
-use Rattle.heesch_torus.specs.Domain.{HasDomain}
 use Rattle.heesch_verdict.specs.Domains.{AreLeftOpen, IsFirstOf}
-use Rattle.heesch_verdict.specs.Earliest.{IsTripleUpTo}
 use Rattle.heesch_verdict.proofs.Firsts.{AreTried, domain_at, first_cover_of, found_cover, none_tried, open_tried, parts_at, tried_at_first}
 use Rattle.heesch_verdict.proofs.covers.first_cover.Goals as goal
 use Rattle.heesch_verdict.proofs.covers.first_cover.Goals.{in-None, in-Open+in_ok-push-in-Open}
@@ -39,7 +37,7 @@ returns-in-Tiles g c =
     let before = take k triples in
     let after = drop (suc k) triples in
     let whole : triples ≡ before ++ c.in-Tiles.tiling.triple ∷ after = parts_at triples k t c.loop-triple-test.true ∙ ap (λ (u : Triple). before ++ u ∷ after) (sym (found.0 ∙ c.triple-item.is)) in
-    let left = subst (AreLeftOpen geometry shape before) (sym c.as_slice.ensures.value) c.loop-triple.invariant.left in
+    let left = subst (AreLeftOpen geometry shape before) (sym c.as_slice.ensures.value) c.loop-triple.invariant.are_open in
     first_cover_of geometry limits shape c.requires.shape.is_shape.polyform.some triples c.requires.triples tiling
     (subst (λ (ts : List Triple). IsFirstOf geometry shape limits.turns ts tiling) (sym whole) (c.in_ok-tiling-in-Tiles.ensures before after left))
 
