@@ -1,11 +1,11 @@
 -- Entries that are put together from what was found are true.
-use Rattle.std.proofs.Common.{◌≡◌, ◌+◌, ◌∙◌, refl, sym, subst, ℕ, List, [], map, length, Result}
+use Rattle.std.proofs.Common.{◌≡◌, refl, sym, subst, ℕ, List, [], length, Result}
 use Rattle.std.specs.Prelude.{Option, IfOk, Ok, Err}
-use Rattle.std.proofs.lemmas.List.{append-nil}
 use Rattle.std.proofs.lemmas.List.Elements.{All-nil}
 use Rattle.heesch_io.specs.declared.fault.NoMemory.{NoMemory}
 use Rattle.heesch_grid.specs.declared.Cell.{Cell}
 use Rattle.heesch_grid.specs.Geometry.{Geometry, IsGrid}
+use Rattle.heesch_grid.specs.Lattice.{Triple}
 use Rattle.heesch_grid.specs.Listing.{ListsExactly}
 use Rattle.heesch_grid.specs.Symmetry.{AreClasses}
 use Rattle.heesch_cert.specs.declared.limits.Limits.{Limits}
@@ -19,22 +19,27 @@ use Rattle.heesch_cert.specs.declared.entry.Layers.{Layers}
 use Rattle.heesch_cert.specs.declared.entry.Wall.{Wall}
 use Rattle.heesch_cert.specs.declared.entry.Bare.{Bare}
 use Rattle.heesch_cert.specs.declared.entry.TripleProof.{TripleProof}
+use Rattle.heesch_cert.specs.declared.entry.Evidence.{Evidence}
 use Rattle.heesch_cert.specs.declared.entry.Evidence.TheVariants.{Cover, Search}
 use Rattle.heesch_cert.specs.declared.entry.Entry.{Entry}
 use Rattle.heesch_cert.specs.Limits.{AreLimits}
 use Rattle.heesch_cert.specs.Proofs.{SettlesTriple}
 use Rattle.heesch_cert.specs.RightVerdict.{HasRightVerdict}
-use Rattle.heesch_cert.specs.TrueEntry.{area_before, BareShows, FitsVerdict, ClassesHold, FormFits, HasNoPlain, IsSearchedTriple, IsTrueEntry, IsUndecided, TriplesShow, WallShows, first_number, last_number}
+use Rattle.heesch_cert.specs.TrueEntry.{area_before, FitsVerdict, ClassesHold, FormFits, HasNoPlain, IsSearchedTriple, IsTrueEntry, IsUndecided, TriplesShow}
 use Rattle.heesch_cert.proofs.EntryRight.{true_entries_are_right}
-use Rattle.heesch_verdict.specs.Domains.{AreSettled}
-use Rattle.heesch_verdict.specs.Ends.{IsWalled, IsOpened}
+use Rattle.heesch_verdict.specs.declared.searched.Searched.{Searched}
+use Rattle.heesch_verdict.specs.declared.settled.Settled.{Settled}
+use Rattle.heesch_verdict.specs.declared.settled.Settled.TheVariants.{Cover as FirstCover, Triples}
+use Rattle.heesch_verdict.specs.Domains.{AreDomains, AreSettled, AreUpTo, IsSettledFor}
+use Rattle.heesch_verdict.specs.Earliest.{HasEarliestCover}
+use Rattle.heesch_verdict.specs.Ends.{IsSearched}
 use Rattle.heesch_verdict.specs.Shapes.{IsCanonicalShape}
-use Rattle.heesch_verdict.specs.Tilings.{IsCoverUpTo, IsTiled}
+use Rattle.heesch_verdict.specs.Tilings.{IsFirstCover, IsTiled}
 
 module _ (g : Geometry) (limits : Limits) (shape : List Cell) (s : IsCanonicalShape g shape) where
   -- a periodic tiling, where no plain one is admitted
-  pub periodic : (tiling : Tiling) → HasNoPlain g limits shape → IsCoverUpTo g shape limits.domain tiling → IsTiled g limits shape (record { kind = Periodic; tiling = tiling })
-  periodic tiling none c = record { is_cover = c.is_cover; few = c.few; of_kind = (none, c.many) }
+  pub periodic : (tiling : Tiling) → HasNoPlain g limits shape → IsFirstCover g limits shape tiling → IsTiled g limits shape (record { kind = Periodic; tiling = tiling })
+  periodic tiling none c = record { is_cover = c.is_cover; few = c.few; of_kind = (none, c.many); earliest = c.earliest }
 
   module _ (cells : List Cell) (is : cells ≡ shape) where
     pub tiled_true : (kind : Kind) (tiling : Tiling) (domain : ℕ) (classes : Classes) → domain ≡ length tiling.places → IsTiled g limits shape (record { kind = kind; tiling = tiling }) → AreClasses g shape tiling.triple tiling.places classes.count classes.members → IsTrueEntry g limits (record { cells = cells; verdict = Tiles kind domain classes.count; evidence = Cover tiling classes })
@@ -63,58 +68,64 @@ form_of g limits shape (Turns h phase at) free wall bare wider triples f = f
 form_of g limits shape (Size h phase at) free wall bare wider triples f = f
 
 module _ (g : Geometry) (limits : Limits) (shape : List Cell) where
-  all_settled : (verdict : Verdict) (settled triples : List TripleProof) → AreSettled g shape limits.turns limits.domain settled → triples ≡ settled → (¬ (¬ IsUndecided verdict)) → TriplesShow g limits shape verdict triples
-  all_settled verdict settled triples s e left_open =
-      subst (λ (xs : List TripleProof). TriplesShow g limits shape verdict xs) (sym e)
-      (record {
-        all_searched = λ u. subst (ListsExactly area_before (IsSearchedTriple g limits (length shape))) (append-nil (map (λ (x : TripleProof). x.triple) settled)) s.listed;
-        settled = s.each;
-        none_else = λ n. absurd (left_open n);
-      })
+  -- the triples of the domains, settled in order
+  all_settled : (verdict : Verdict) (triples : List Triple) → AreUpTo g (length shape) limits.domain triples → (settled : List TripleProof) → AreSettled g shape limits.turns triples settled → IsUndecided verdict → TriplesShow g limits shape verdict settled
+  all_settled verdict triples a settled s undecided = record {
+    all_searched = λ u. subst (ListsExactly area_before (IsSearchedTriple g limits (length shape))) (sym s.same) a;
+    settled = s.settles;
+    none_else = λ decided. absurd (decided undecided);
+  }
 
-  no_triples : (verdict : Verdict) (triples : List TripleProof) → triples ≡ [] → (¬ IsUndecided verdict) → TriplesShow g limits shape verdict triples
+  -- and none, where the verdict is decided
+  pub no_triples : (verdict : Verdict) (triples : List TripleProof) → triples ≡ [] → (¬ IsUndecided verdict) → TriplesShow g limits shape verdict triples
   no_triples verdict triples e decided =
       subst (λ (xs : List TripleProof). TriplesShow g limits shape verdict xs) (sym e)
       (record { all_searched = λ u. absurd (decided u); settled = All-nil (λ (x : TripleProof). SettlesTriple g shape limits.turns x.triple x.proof); none_else = λ _. refl })
 
-  pub triples_show : (verdict : Verdict) (settled triples : List TripleProof) → AreSettled g shape limits.turns limits.domain settled → (IsUndecided verdict → triples ≡ settled) → ((¬ IsUndecided verdict) → triples ≡ []) → TriplesShow g limits shape verdict triples
-  triples_show (Tiles kind domain classes) settled triples s u d = no_triples (Tiles kind domain classes) triples (d (λ x. x)) (λ x. x)
-  triples_show (Heesch h m) settled triples s u d = no_triples (Heesch h m) triples (d (λ x. x)) (λ x. x)
-  triples_show (Levels h) settled triples s u d = all_settled (Levels h) settled triples s (u tt) (λ n. n tt)
-  triples_show (Holes h) settled triples s u d = all_settled (Holes h) settled triples s (u tt) (λ n. n tt)
-  triples_show (Turns h phase at) settled triples s u d = all_settled (Turns h phase at) settled triples s (u tt) (λ n. n tt)
-  triples_show (Size h phase at) settled triples s u d = all_settled (Size h phase at) settled triples s (u tt) (λ n. n tt)
+  -- the searches of all triples end as an undecided verdict asks
+  settled_for : (verdict : Verdict) (triples : List Triple) → AreUpTo g (length shape) limits.domain triples → IsUndecided verdict → (settled : Settled) → AreDomains g limits shape triples settled → IsSettledFor g limits shape verdict settled
+  settled_for verdict triples a undecided (FirstCover tiling) s = s
+  settled_for verdict triples a undecided (Triples settled) s = all_settled verdict triples a settled s undecided
 
-  pub searched_true : IsCanonicalShape g shape → (cells : List Cell) → cells ≡ shape → (h m : ℕ) (verdict : Verdict) (free : Layers) (wall : Wall) (bare : Bare) (wider : Option Layers) (triples : List TripleProof)
-      → HasNoPlain g limits shape
-      → IsWalled g limits shape (record { h = h; free = free; wall = wall })
-      → IsOpened g limits shape h wall (record { m = m; bare = bare; wider = wider })
-      → FitsVerdict limits wall bare wider verdict
-      → first_number verdict ≡ h
-      → BareShows g limits shape (last_number verdict) bare
-      → TriplesShow g limits shape verdict triples
-      → IsTrueEntry g limits (record { cells = cells; verdict = verdict; evidence = Search free wall bare wider triples })
-  searched_true s cells is h m verdict free wall bare wider triples none w o fits first last show =
-      subst (λ (xs : List Cell). IsTrueEntry g limits (record { cells = xs; verdict = verdict; evidence = Search free wall bare wider triples })) (sym is)
+  pub settled_result : (verdict : Verdict) (triples : List Triple) → AreUpTo g (length shape) limits.domain triples → IsUndecided verdict → (r : Result Settled NoMemory) → IfOk r (AreDomains g limits shape triples) → IfOk r (IsSettledFor g limits shape verdict)
+  settled_result verdict triples a undecided (Ok settled) s = settled_for verdict triples a undecided settled s
+  settled_result verdict triples a undecided (Err e) s = tt
+
+  pub searched_true : IsCanonicalShape g shape → (cells : List Cell) → cells ≡ shape → (searched : Searched) (triples : List TripleProof) → HasNoPlain g limits shape → IsSearched g limits shape searched → TriplesShow g limits shape searched.verdict triples
+      → IsTrueEntry g limits (record { cells = cells; verdict = searched.verdict; evidence = Search searched.free searched.wall searched.bare searched.wider triples })
+  searched_true s cells is searched triples none w show =
+      subst (λ (xs : List Cell). IsTrueEntry g limits (record { cells = xs; verdict = searched.verdict; evidence = evidence })) (sym is)
       (record {
         shape = (length shape, s.is_shape.polyform.some, s.is_shape.few, record { cells = shape; polyform = s.is_shape.polyform; size = refl; canonical = s.canonical });
-        form = form_of g limits shape verdict free wall bare wider triples (none, fits);
+        form = form_of g limits shape searched.verdict searched.free searched.wall searched.bare searched.wider triples (none, w.fits);
         cover = tt;
-        classes = no_classes verdict;
-        free = (w.coronas.count ∙ sym first, (w.coronas.tiles, w.coronas.spelled, w.coronas.free refl));
-        wall = subst (λ (n : ℕ). WallShows g limits shape (n + 1) wall) (sym first) w.shows;
-        wider = o.wider;
-        bare = (o.same, last);
+        classes = no_classes searched.verdict;
+        free = (w.free.count, (w.free.tiles, w.free.spelled, w.free.free refl));
+        wall = w.wall;
+        wider = w.wider;
+        bare = (w.same, w.bare);
         triples = show;
       })
     where
-      no_classes : (v : Verdict) → ClassesHold g shape v (Search free wall bare wider triples)
+      evidence : Evidence
+      evidence = Search searched.free searched.wall searched.bare searched.wider triples
+
+      no_classes : (v : Verdict) → ClassesHold g shape v evidence
       no_classes (Tiles kind domain count) = tt
       no_classes (Heesch h m) = tt
       no_classes (Levels h) = tt
       no_classes (Holes h) = tt
       no_classes (Turns h phase at) = tt
       no_classes (Size h phase at) = tt
+
+-- an entry without a cover writes none
+pub no_cover_written : (g : Geometry) (limits : Limits) (cells : List Cell) (verdict : Verdict) (searched : Searched) (triples : List TripleProof) → HasEarliestCover g limits (record { cells = cells; verdict = verdict; evidence = Search searched.free searched.wall searched.bare searched.wider triples })
+no_cover_written g limits cells (Tiles kind domain count) searched triples = tt
+no_cover_written g limits cells (Heesch h m) searched triples = tt
+no_cover_written g limits cells (Levels h) searched triples = tt
+no_cover_written g limits cells (Holes h) searched triples = tt
+no_cover_written g limits cells (Turns h phase at) searched triples = tt
+no_cover_written g limits cells (Size h phase at) searched triples = tt
 
 -- a true entry has a right verdict
 pub right_of : (g : Geometry) → IsGrid g → (limits : Limits) → AreLimits limits → (r : Result Entry NoMemory) → IfOk r (IsTrueEntry g limits) → IfOk r (λ e. HasRightVerdict g limits e)

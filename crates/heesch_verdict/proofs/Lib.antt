@@ -1,5 +1,7 @@
 pub mod Nearby
 pub mod PlainEnds
-pub mod Triples
+pub mod Listed
+pub mod Firsts
+pub mod Settling
 pub mod Coronas
 pub mod Entries

@@ -32,6 +32,7 @@ module _ (g : Geometry) (law : IsGrid g) (limits : Limits) (ranges : AreLimits l
         };
         few = ranges.domain_range.0;
         of_kind = (p, refl);
+        earliest = tt;
       })
 
   pub by_half_turn : (t : Triple) (da db : ℤ) (places : List Iso) → places ≡ no_move ∷ half_turned g da db ∷ [] → 2 ≤ limits.domain → IsPlain g shape (Some (PlainHalfTurn t da db)) → IsTiled g limits shape (record { kind = HalfTurn; tiling = record { triple = t; places = places } })
@@ -49,6 +50,7 @@ module _ (g : Geometry) (law : IsGrid g) (limits : Limits) (ranges : AreLimits l
         };
         few = admitted;
         of_kind = ((da, db), (p, admitted, refl));
+        earliest = tt;
       })
 
   -- the translation of the half-turn is short

@@ -1,4 +1,5 @@
 pub mod Shapes
+pub mod Earliest
 pub mod Tilings
 pub mod Domains
 pub mod Ends

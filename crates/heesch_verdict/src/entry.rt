@@ -1,20 +1,21 @@
 //! Entries, put together from what was found.
-ghost use Rattle.std.specs.Prelude.{◌≡◌, [], IfOk};
+ghost use Rattle.std.specs.Prelude.{◌≡◌, length, IfOk};
 ghost use Rattle.heesch_grid.specs.Polyform.{IsCanonicalListOf};
 ghost use Rattle.heesch_cert.specs.Limits.{AreLimits};
 ghost use Rattle.heesch_cert.specs.Reduced.{HasReducedCover};
-ghost use Rattle.heesch_cert.specs.TrueEntry.{HasNoPlain, IsTrueEntry, IsUndecided};
-ghost use Rattle.heesch_verdict.specs.Domains.{AreSettled};
+ghost use Rattle.heesch_cert.specs.TrueEntry.{HasNoPlain, IsTrueEntry};
+ghost use Rattle.heesch_verdict.specs.Domains.{AreUpTo};
+ghost use Rattle.heesch_verdict.specs.Earliest.{HasEarliestCover};
 ghost use Rattle.heesch_verdict.specs.Shapes.{IsCanonicalShape};
-ghost use Rattle.heesch_verdict.specs.Tilings.{IsTiled};
+ghost use Rattle.heesch_verdict.specs.Tilings.{IsFirstCover, IsTiled};
 
-use crate::bare::{Opened, open_behind};
-use crate::ends::verdict_of;
+use crate::searched::{Searched, search_coronas};
+use crate::settled::{Settled, settled_for};
 use crate::tiled::Tiled;
-use crate::walled::{Walled, hole_free};
-use heesch_cert::{Cells, Entry, Evidence, Limits, TripleProof, Verdict};
+use heesch_cert::{Cells, Entry, Evidence, Kind, Limits, Tiling, Verdict};
 use heesch_grid::Grid;
 use heesch_io::{NoMemory, Seq};
+use heesch_lattice::Triple;
 use heesch_orbit::classes;
 use heesch_shape::Shape;
 use std::alloc::Global;
@@ -43,6 +44,7 @@ pub fn tiled_entry<G: Grid>(
     ensures cells { IfOk result (λ entry. entry.cells ≡ shape.now) }
     ensures entry { IfOk result (IsTrueEntry G.geometry limits) }
     ensures reduced { IfOk result (λ entry. HasReducedCover G.geometry entry.evidence) }
+    ensures earliest { IfOk result (HasEarliestCover G.geometry limits) }
 {
     let Tiled { kind, tiling } = tiled;
     let classes = classes(alloc, shape, &tiling)?;
@@ -57,47 +59,68 @@ pub fn tiled_entry<G: Grid>(
     })
 }
 
-/// The settled triples, where the verdict is undecided; else none.
-fn triples_for(alloc: Global, verdict: Verdict, triples: Seq<TripleProof>) -> Seq<TripleProof>
-    ensures undecided { IsUndecided verdict → result ≡ triples }
-    ensures decided { (¬ IsUndecided verdict) → result ≡ [] }
-{
-    match verdict {
-        Verdict::Tiles { .. } | Verdict::Heesch { .. } => Seq::new(alloc),
-        _ => triples,
-    }
-}
-
-/// The entry of a shape for which no tiling was found: its coronas are sought.
-pub fn corona_entry<G: Grid>(
+/// The entry of a shape that tiles by a periodic cover, the first of its domains.
+pub fn periodic_entry<G: Grid>(
     alloc: Global,
     shape: &Shape<G>,
     limits: Limits,
     cells: Cells,
-    triples: Seq<TripleProof>,
+    tiling: Tiling,
 ) -> Result<Entry, NoMemory>
     requires shape { IsCanonicalShape G.geometry shape.now }
     requires limits { AreLimits limits }
     requires cells { cells ≡ shape.now }
     requires no_plain { HasNoPlain G.geometry limits shape.now }
-    requires triples { AreSettled G.geometry shape.now limits.turns limits.domain triples }
+    requires first { IsFirstCover G.geometry limits shape.now tiling }
     ensures cells { IfOk result (λ entry. entry.cells ≡ shape.now) }
     ensures entry { IfOk result (IsTrueEntry G.geometry limits) }
     ensures reduced { IfOk result (λ entry. HasReducedCover G.geometry entry.evidence) }
+    ensures earliest { IfOk result (HasEarliestCover G.geometry limits) }
 {
-    let Walled { h, free, wall } = hole_free(alloc, shape, limits)?;
-    let Opened { m, bare, wider } = open_behind(alloc, shape, limits, h, &wall)?;
-    let verdict = verdict_of(h, &wall, m, &bare);
-    let triples = triples_for(alloc, verdict, triples);
+    let kind = Kind::Periodic;
+    tiled_entry(alloc, shape, limits, cells, Tiled { kind, tiling })
+}
+
+/// The entry of a shape for which no cover was found without a log: its coronas are sought, and
+/// where they leave the verdict undecided, each of these triples is settled.
+pub fn corona_entry<G: Grid>(
+    alloc: Global,
+    shape: &Shape<G>,
+    limits: Limits,
+    cells: Cells,
+    triples: &[Triple],
+) -> Result<Entry, NoMemory>
+    requires shape { IsCanonicalShape G.geometry shape.now }
+    requires limits { AreLimits limits }
+    requires cells { cells ≡ shape.now }
+    requires no_plain { HasNoPlain G.geometry limits shape.now }
+    requires triples { AreUpTo G.geometry (length shape.now) limits.domain triples.now }
+    ensures cells { IfOk result (λ entry. entry.cells ≡ shape.now) }
+    ensures entry { IfOk result (IsTrueEntry G.geometry limits) }
+    ensures reduced { IfOk result (λ entry. HasReducedCover G.geometry entry.evidence) }
+    ensures earliest { IfOk result (HasEarliestCover G.geometry limits) }
+{
+    let Searched {
+        verdict,
+        free,
+        wall,
+        bare,
+        wider,
+    } = search_coronas(alloc, shape, limits)?;
+    let triples = match settled_for(alloc, shape, limits, triples, verdict)? {
+        Settled::Cover { tiling } => return periodic_entry(alloc, shape, limits, cells, tiling),
+        Settled::Triples { triples } => triples,
+    };
+    let evidence = Evidence::Search {
+        free,
+        wall,
+        bare,
+        wider,
+        triples,
+    };
     Ok(Entry {
         cells,
         verdict,
-        evidence: Evidence::Search {
-            free,
-            wall,
-            bare,
-            wider,
-            triples,
-        },
+        evidence,
     })
 }

@@ -3,11 +3,14 @@
 
 mod bare;
 mod classifying;
-mod domains;
+mod covers;
 mod ends;
 mod entry;
+mod searched;
+mod settled;
 mod steps;
 mod tiled;
+mod triples;
 mod walled;
 
 pub use classifying::classify;
