@@ -1,6 +1,6 @@
 -- What the end of a search says of the level.
-use Rattle.std.proofs.Common.{◌≡◌, sym, subst, ◌∙◌, ℕ, ◌≤◌, List, [], ◌++◌, length, Bool, All, arith}
-use Rattle.std.specs.Prelude.{IsTrue}
+use Rattle.std.proofs.Common.{◌≡◌, refl, sym, ap, subst, ◌∙◌, ℕ, ◌≤◌, ◌^◌, List, [], ◌∷◌, ◌++◌, length, map, Bool, All, arith}
+use Rattle.std.specs.Prelude.{IsTrue, Some}
 use Rattle.std.specs.List.{AllZip, range_with_len}
 use Rattle.std.proofs.lemmas.List.{length-map}
 use Rattle.std.proofs.lemmas.List.FromFn.{length-range_with_len}
@@ -19,19 +19,27 @@ use Rattle.heesch_cnf.specs.declared.literal.Lit.{Lit}
 use Rattle.heesch_cnf.specs.Clauses.{Satisfies, IsSatisfied, assignment_of}
 use Rattle.heesch_cnf.specs.declared.log.Log.{Log}
 use Rattle.heesch_cnf.specs.Lines.{clauses_with, clauses_of, Refutes, IsSpent, LinesAreNew}
-use Rattle.heesch_cdcl.specs.Problem.{Problem, IsModel}
+use Rattle.heesch_cdcl.specs.Problem.{Problem, IsModel, SameProblem}
+use Rattle.heesch_cdcl.specs.Empty.{IsFirstEmpty}
+use Rattle.heesch_cdcl.specs.Searching.{NoFinal}
+use Rattle.heesch_cdcl.proofs.Counting.{few_lines}
 use Rattle.heesch_cert.specs.declared.proof.Proof.{Proof}
+use Rattle.heesch_cert.specs.declared.proof.Step.{Step}
 use Rattle.heesch_cert.specs.declared.proof.Cut.{Cut}
 use Rattle.heesch_cert.specs.declared.entry.Layers.{Layers}
 use Rattle.heesch_cert.specs.Formulas.{IsCountedFormula}
-use Rattle.heesch_cert.specs.Proofs.{log_of, IsLawfulStep, HasNoCut, RefutesCoronas, IsTooLarge}
+use Rattle.heesch_cert.specs.Proofs.{log_of, line_of_step, IsLawfulStep, HasNoCut, RefutesCoronas, IsTooLarge}
 use Rattle.heesch_cert.proofs.Models.{models_are_coronas}
 use Rattle.heesch_cert.proofs.CutSound.{refuted_means_none}
 use Rattle.heesch_cert.proofs.Exactly.{too_large_exactly}
 use Rattle.heesch_place.specs.Universes.{Levels}
 use Rattle.heesch_cuts.specs.Chosen.{IsOpen}
-use Rattle.heesch_levels.specs.Searching.{IsSearch}
-use Rattle.heesch_levels.specs.Answer.{HasNewSteps, SpellsCoronas, RefutesLevel, IsSpentLevel}
+use Rattle.heesch_levels.specs.declared.answer.LevelAnswer.{LevelAnswer}
+use Rattle.heesch_levels.specs.declared.answer.LevelAnswer.TheVariants.{Refuted}
+use Rattle.heesch_levels.specs.declared.searching.Ending.{Ending}
+use Rattle.heesch_levels.specs.declared.searching.Ending.TheVariants.{Model, Refuted as Refuted-end, Spent as Spent-end}
+use Rattle.heesch_levels.specs.Searching.{IsSearch, EndsAtOnce}
+use Rattle.heesch_levels.specs.Answer.{HasNewSteps, SpellsCoronas, RefutesLevel, IsSpentLevel, NamesEmptyClause, NamesEmptyClauses}
 use Rattle.heesch_levels.proofs.LayerLists.{layers_rise}
 
 satisfies_first : (values : ℕ → Bool) (xs ys : List (List Lit)) → Satisfies values (xs ++ ys) → Satisfies values xs
@@ -77,8 +85,8 @@ module _ (g : Geometry) (law : IsGrid g) (hole_free : Bool) (turns size : ℕ) (
         record { refutes = refutes; new_steps = new_steps; none_free = none.0; none = none.1; no_cut = λ f. no_cut (search.no_cut f) }
 
     -- a log that is spent, as a proof
-    spent_level : IsSpent p.vars p.clauses p.turns p.log → IsSpentLevel g u.shape u.level hole_free turns size proof
-    spent_level s = record {
+    spent_level : IsSpent p.vars p.clauses p.turns p.log × NoFinal (clauses_with p.clauses p.log.lines) → IsSpentLevel g u.shape u.level hole_free turns size proof
+    spent_level (s, none) = record {
       is_spent = record {
         vars = u.vars;
         count = p.vars;
@@ -87,6 +95,14 @@ module _ (g : Geometry) (law : IsGrid g) (hole_free : Bool) (turns size : ℕ) (
         fits = fits;
         lawful = lawful;
         is_spent = subst (λ n. IsSpent p.vars p.clauses n (log_of u.vars proof)) search.turns_are (subst (IsSpent p.vars p.clauses p.turns) (sym same) s);
+      };
+      open_still = record {
+        vars = u.vars;
+        count = p.vars;
+        clauses = p.clauses;
+        formula = search.formula;
+        no_final = subst (λ (log : Log). NoFinal (clauses_with p.clauses log.lines)) (sym same) none;
+        few = subst (λ n. n ≤ 3 ^ p.vars) (s.used ∙ search.turns_are) (few_lines p.vars p.clauses p.log.lines search.valid.hold search.valid.fresh);
       };
       no_cut = λ f. no_cut (search.no_cut f);
     }
@@ -118,7 +134,45 @@ module _ (g : Geometry) (law : IsGrid g) (shape : List Cell) (form : IsPolyform 
         subst (λ cells. RefutesLevel g cells j hole_free size proof) shape_is (subst (λ n. RefutesLevel g u.shape n hole_free size proof) level_is
         (refutes_level g law hole_free turns size u form_of some_of p cuts search fits proof same lawful no_cut r))
 
-    pub level_spent : IsSpent p.vars p.clauses p.turns p.log → IsSpentLevel g shape j hole_free turns size proof
+    pub level_spent : IsSpent p.vars p.clauses p.turns p.log × NoFinal (clauses_with p.clauses p.log.lines) → IsSpentLevel g shape j hole_free turns size proof
     level_spent s =
         subst (λ cells. IsSpentLevel g cells j hole_free turns size proof) shape_is (subst (λ n. IsSpentLevel g u.shape n hole_free turns size proof) level_is
         (spent_level g law hole_free turns size u form_of some_of p cuts search fits proof same lawful no_cut s))
+
+  -- the answer names the first empty clause where it is so for the formula of the search
+  pub names_empty : (answer : LevelAnswer) → ((n : ℕ) → IsFirstEmpty p.clauses n → NamesEmptyClause n answer) → NamesEmptyClauses g shape j answer
+  names_empty answer named = record {
+    vars = u.vars;
+    count = p.vars;
+    clauses = p.clauses;
+    formula = subst (λ cells. IsCountedFormula g cells j u.vars p.vars p.clauses) shape_is (subst (λ n. IsCountedFormula g u.shape n u.vars p.vars p.clauses) level_is search.formula);
+    named = named;
+  }
+
+no_steps : (vars : List Variable) (steps : List Step) → map (line_of_step vars) steps ≡ [] → steps ≡ []
+no_steps vars [] e = refl
+no_steps vars (step ∷ steps) e = absurd (let bad : line_of_step vars step ∷ map (line_of_step vars) steps ≡ [] = e in cc)
+
+-- a search that ended at once, as a proof
+pub named_proof : (vars : List Variable) (proof : Proof) (log : Log) (n : ℕ) → log_of vars proof ≡ log → log.last ≡ Some (n ∷ []) → log.lines ≡ [] → NamesEmptyClause n (Refuted proof)
+named_proof vars proof log n same last none =
+    let steps = no_steps vars proof.steps (ap (λ (l : Log). l.lines) same ∙ none) in
+    let hints : proof.last ≡ Some (n ∷ []) = ap (λ (l : Log). l.last) same ∙ last in
+    λ i. Refuted (record { steps = steps i; last = hints i })
+
+-- an end that isn't a refutation has no empty clause
+pub no_empty_model : (old new : Problem) (ending : Ending) (values : List Bool) → EndsAtOnce old new ending → ending ≡ Model values → SameProblem old new → (n : ℕ) → ¬ IsFirstEmpty new.clauses n
+no_empty_model old new ending values at is same n first =
+    let refuted = (at n (subst (λ cs. IsFirstEmpty cs n) same.clauses first)).0 in
+    let bad : Model values ≡ Refuted-end = sym is ∙ refuted in cc
+
+pub no_empty_spent : (old new : Problem) (ending : Ending) → EndsAtOnce old new ending → ending ≡ Spent-end → SameProblem old new → (n : ℕ) → ¬ IsFirstEmpty new.clauses n
+no_empty_spent old new ending at is same n first =
+    let refuted = (at n (subst (λ cs. IsFirstEmpty cs n) same.clauses first)).0 in
+    let bad : Spent-end ≡ Refuted-end = sym is ∙ refuted in cc
+
+-- a refutation that came at once
+pub at_once_named : (old new : Problem) (ending : Ending) (vars : List Variable) (proof : Proof) → EndsAtOnce old new ending → SameProblem old new → old.log.lines ≡ [] → log_of vars proof ≡ new.log → (n : ℕ) → IsFirstEmpty new.clauses n → NamesEmptyClause n (Refuted proof)
+at_once_named old new ending vars proof at same none made n first =
+    let end = at n (subst (λ cs. IsFirstEmpty cs n) same.clauses first) in
+    named_proof vars proof new.log n made end.1.0 (end.1.1 ∙ none)

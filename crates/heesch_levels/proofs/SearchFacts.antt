@@ -1,14 +1,19 @@
 -- How the state of a search goes on.
 use Rattle.std.proofs.Common.{◌≡◌, sym, ap, subst, ◌∙◌, ℕ, List, [], ◌∷◌, ◌++◌, Bool, true, map, All, append-nil, true≢false}
 use Rattle.std.proofs.lemmas.List.{map-append}
-use Rattle.std.specs.Prelude.{None}
+use Rattle.std.specs.Prelude.{None, Some, IfSome}
 use Rattle.std.proofs.lemmas.List.Elements.{All-push}
 use Rattle.heesch_grid.specs.Geometry.{Geometry}
 use Rattle.heesch_cnf.specs.declared.literal.Lit.{Lit}
 use Rattle.heesch_cnf.specs.declared.log.Line.TheVariants.{Given}
 use Rattle.heesch_cnf.specs.Meaning.{given_clauses}
 use Rattle.heesch_cdcl.specs.Learning.{LearnsMore}
-use Rattle.heesch_cdcl.specs.Problem.{Problem, IsSolver, SameProblem}
+use Rattle.heesch_cdcl.specs.Problem.{Problem, IsSolver, IsModel, SameProblem}
+use Rattle.heesch_cdcl.specs.Searching.{NoFinal}
+use Rattle.heesch_cnf.specs.Clauses.{Satisfies, assignment_of}
+use Rattle.heesch_cnf.specs.Lines.{clauses_with}
+use Rattle.heesch_cnf.proofs.Conflict.{shown_follows_lem}
+use Rattle.heesch_cnf.proofs.Lists.{Contains-none}
 use Rattle.heesch_cert.specs.declared.proof.Cut.{Cut}
 use Rattle.heesch_cert.specs.Cuts.{IsLawful, cut_clause}
 use Rattle.heesch_cert.specs.Formulas.{IsCountedFormula}
@@ -49,3 +54,12 @@ search_gives g turns u p q cuts more cut clause s lawful is after more_are valid
       ∙ sym (map-append (cut_clause u.vars) cuts (cut ∷ [])) ∙ ap (map (cut_clause u.vars)) (sym more_are);
   no_cut = λ f. absurd (true≢false f);
 }
+
+-- where a model is kept, no final line holds
+no_final_by : (clauses : List (List Lit)) (v : ℕ → Bool) → Satisfies v clauses → NoFinal clauses
+no_final_by clauses v sat hints final = let s = shown_follows_lem clauses [] hints final v sat in Contains-none s.0 s.1.0
+
+pub no_final_with_model : (p : Problem) (values : List Bool) → IsSolver p → p.model ≡ Some values → NoFinal (clauses_with p.clauses p.log.lines)
+no_final_with_model p values valid kept =
+    let model = subst (λ m. IfSome m (IsModel p.vars (clauses_with p.clauses p.log.lines))) kept valid.model in
+    no_final_by (clauses_with p.clauses p.log.lines) (assignment_of values) model.satisfies

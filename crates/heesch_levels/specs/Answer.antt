@@ -1,5 +1,5 @@
 -- What the search at one level answers.
-use Rattle.std.specs.Prelude.{◌≡◌, ℕ, Bool, List, length, IsTrue, IsFalse}
+use Rattle.std.specs.Prelude.{◌≡◌, ℕ, ◌≤◌, ◌^◌, Bool, Some, List, [], ◌∷◌, length, IsTrue, IsFalse}
 use Rattle.heesch_grid.specs.declared.Cell.{Cell}
 use Rattle.heesch_grid.specs.Geometry.{Geometry}
 use Rattle.heesch_grid.specs.Corona.{AreCoronas, AreHoleFreeCoronas, HasCoronas, HasHoleFreeCoronas}
@@ -8,9 +8,10 @@ use Rattle.heesch_cert.specs.declared.proof.Proof.{Proof}
 use Rattle.heesch_cert.specs.Proofs.{log_of, HasNoCut, RefutesCoronas, IsSpentOnCoronas, IsTooLarge}
 use Rattle.heesch_cert.specs.Formulas.{IsCountedFormula}
 use Rattle.heesch_cnf.specs.declared.literal.Lit.{Lit}
-use Rattle.heesch_cnf.specs.Lines.{LinesAreNew}
+use Rattle.heesch_cnf.specs.Lines.{LinesAreNew, FinalHolds, clauses_with}
 use Rattle.heesch_grid.specs.CoronaFormula.{Variable}
 use Rattle.heesch_cert.specs.TrueEntry.{Spells}
+use Rattle.heesch_cdcl.specs.Empty.{IsFirstEmpty}
 use Rattle.heesch_levels.specs.declared.answer.LevelAnswer.{LevelAnswer}
 use Rattle.heesch_levels.specs.declared.answer.LevelAnswer.TheVariants.{Coronas, Refuted, Spent, TooLarge}
 
@@ -38,9 +39,19 @@ pub record RefutesLevel (g : Geometry) (shape : List Cell) (j : ℕ) (hole_free 
   pub none : HasNoCut proof → ¬ HasCoronas g shape j
   pub no_cut : IsFalse hole_free → HasNoCut proof
 
--- the proof is spent for this number of turns over E(S, j), without cuts where holes are allowed
+-- over E(S, j) and the steps no final line holds, whatever its hints; and the turns are at most 3 to the power of its variables
+pub record LeavesOpen (g : Geometry) (shape : List Cell) (j turns : ℕ) (proof : Proof) : Type 0 where
+  pub vars : List Variable
+  pub count : ℕ
+  pub clauses : List (List Lit)
+  pub formula : IsCountedFormula g shape j vars count clauses
+  pub no_final : (hints : List ℕ) → ¬ FinalHolds (clauses_with clauses (log_of vars proof).lines) hints
+  pub few : turns ≤ 3 ^ count
+
+-- the proof is spent for this number of turns over E(S, j), which is left open, without cuts where holes are allowed
 pub record IsSpentLevel (g : Geometry) (shape : List Cell) (j : ℕ) (hole_free : Bool) (turns size : ℕ) (proof : Proof) : Type 0 where
   pub is_spent : IsSpentOnCoronas g shape j turns size proof
+  pub open_still : LeavesOpen g shape j turns proof
   pub no_cut : IsFalse hole_free → HasNoCut proof
 
 -- what each answer says
@@ -49,3 +60,15 @@ IsLevelAnswer g shape j hole_free turns size (Coronas layers) = SpellsCoronas g 
 IsLevelAnswer g shape j hole_free turns size (Refuted proof) = RefutesLevel g shape j hole_free size proof
 IsLevelAnswer g shape j hole_free turns size (Spent proof) = IsSpentLevel g shape j hole_free turns size proof
 IsLevelAnswer g shape j hole_free turns size TooLarge = IsTooLarge g shape j size
+
+-- a refutation without a step, whose last line names the clause of this number
+abbrev pub NamesEmptyClause : ℕ → LevelAnswer → Type 0
+NamesEmptyClause n answer = answer ≡ Refuted (record { steps = []; last = Some (n ∷ []) })
+
+-- where a clause of E(S, j) is empty, the answer names the first such clause at once
+pub record NamesEmptyClauses (g : Geometry) (shape : List Cell) (j : ℕ) (answer : LevelAnswer) : Type 0 where
+  pub vars : List Variable
+  pub count : ℕ
+  pub clauses : List (List Lit)
+  pub formula : IsCountedFormula g shape j vars count clauses
+  pub named : (n : ℕ) → IsFirstEmpty clauses n → NamesEmptyClause n answer

@@ -1,8 +1,8 @@
 //! What the search at one level answers.
-ghost use Rattle.std.specs.Prelude.{◌≡◌, ◌≤◌, ◌<◌, ◌^◌, true, length, IfOk};
+ghost use Rattle.std.specs.Prelude.{◌≡◌, ◌≢◌, ◌≤◌, ◌<◌, ◌^◌, true, length, IfOk};
 ghost use Rattle.heesch_grid.specs.Polyform.{IsCanonicalListOf};
 ghost use Rattle.heesch_cert.specs.Proofs.{IsTooLarge};
-ghost use Rattle.heesch_levels.specs.Answer.{IsLevelAnswer};
+ghost use Rattle.heesch_levels.specs.Answer.{IsLevelAnswer, NamesEmptyClauses};
 
 use crate::layers::layers_of;
 use crate::searching::{Ending, Search};
@@ -42,7 +42,8 @@ fn has_room(formula: &Formula) -> bool
 ///
 /// `TooLarge` comes exactly where the formula has more than `size` literals. `Refuted` comes only where there are no such
 /// coronas, and at once, without a step, where a clause of the formula is empty. `Spent` comes only where the proof has
-/// exactly `turns` steps, each of them new. Where holes are forbidden, each model that leaves a hole is answered by a cut
+/// exactly `turns` steps, each of them new, and no final line holds over it; never where 3 to the power of the formula's
+/// variables is below `turns`. Where holes are forbidden, each model that leaves a hole is answered by a cut
 /// against it, which is a step; where they are allowed, no step is a cut.
 ///
 /// Condition: j is 1 to 6, `turns` 1 to 1,000,000, `size` 1 to 60,000,000, and the shape is its own canonical list.
@@ -63,6 +64,7 @@ pub fn level<G: Grid>(
     requires canonical { IsCanonicalListOf G.geometry shape.now shape.now }
     ensures answer { IfOk result (IsLevelAnswer G.geometry shape.now j hole_free turns size) }
     ensures too_large { IfOk result (λ answer. IsTooLarge G.geometry shape.now j size → answer ≡ LevelAnswer.TooLarge) }
+    ensures at_once { IfOk result (λ answer. answer ≢ LevelAnswer.TooLarge → NamesEmptyClauses G.geometry shape.now j answer) }
 {
     // Reading the cells tells the proof that they are a polyform.
     let _cells = shape.cells();

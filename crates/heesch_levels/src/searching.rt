@@ -7,7 +7,7 @@ ghost use Rattle.heesch_cert.specs.Cuts.{IsLawful, cut_clause};
 ghost use Rattle.heesch_cert.specs.Proofs.{HasNoCut, IsLawfulStep, log_of};
 ghost use Rattle.heesch_cert.specs.Formulas.{IsCountedFormula};
 ghost use Rattle.heesch_cuts.specs.Chosen.{CutsOff};
-ghost use Rattle.heesch_levels.specs.Searching.{IsSearch, IsEnding};
+ghost use Rattle.heesch_levels.specs.Searching.{IsSearch, IsEnding, EndsAtOnce, TurnsAtOnce};
 
 use crate::steps::steps_of;
 use heesch_cdcl::{Found, Solver};
@@ -49,6 +49,7 @@ impl<G: Grid> Search<G> {
         ensures universe { IfOk result (λ s. s.universe ≡ encoded.universe) }
         ensures turns { IfOk result (λ s. s.turns ≡ turns) }
         ensures clauses { IfOk result (λ s. s.solver.clauses ≡ encoded.formula.clauses) }
+        ensures no_lines { IfOk result (λ s. s.solver.log.lines ≡ []) }
     {
         let Encoded { universe, formula } = encoded;
         let solver = Solver::open(alloc, formula, turns)?;
@@ -74,6 +75,7 @@ impl<G: Grid> Search<G> {
         ensures turns { self.new.turns ≡ self.old.turns }
         ensures same { SameProblem self.old.solver self.new.solver }
         ensures ending { IfOk result (IsEnding G.geometry hole_free self.new.universe self.new.solver) }
+        ensures at_once { IfOk result (EndsAtOnce self.old.solver self.new.solver) }
     {
         loop {
             if let Some(ending) = self.turn(alloc, shape, hole_free)? {
@@ -97,6 +99,7 @@ impl<G: Grid> Search<G> {
         ensures same { SameProblem self.old.solver self.new.solver }
         ensures ending { IfOk result (λ ending. IfSome ending (IsEnding G.geometry hole_free self.new.universe self.new.solver)) }
         ensures more { IfOk result (λ ending. IfNone ending (length self.old.solver.log.lines < length self.new.solver.log.lines)) }
+        ensures at_once { IfOk result (TurnsAtOnce self.old.solver self.new.solver) }
     {
         match self.solver.next()? {
             Found::Model { values } => self.judge(alloc, shape, hole_free, values),

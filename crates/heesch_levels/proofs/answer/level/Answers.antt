@@ -6,7 +6,8 @@ use Rattle.heesch_grid.specs.Placement.{IsLeastIsometry}
 use Rattle.heesch_grid.specs.Statements.{chosen_layers}
 use Rattle.heesch_place.specs.Universes.{Levels}
 use Rattle.heesch_levels.specs.Searching.{IsSearch, IsEnding}
-use Rattle.heesch_levels.proofs.LevelFacts.{coronas_found, level_refuted, level_spent, never_too_large}
+use Rattle.heesch_levels.specs.declared.answer.LevelAnswer.TheVariants.{Coronas, Refuted, Spent}
+use Rattle.heesch_levels.proofs.LevelFacts.{coronas_found, level_refuted, level_spent, never_too_large, names_empty, no_empty_model, no_empty_spent, at_once_named}
 use Rattle.heesch_levels.proofs.answer.level.Goals as goal
 
 pub run-requires-clause-search : goal.run-requires-clause-search
@@ -66,3 +67,39 @@ returns-in_ok-proof-in-Refuted-clause-too_large g c =
 pub returns-in_ok-proof-in-Spent-clause-too_large : goal.returns-in_ok-proof-in-Spent-clause-too_large
 returns-in_ok-proof-in-Spent-clause-too_large g c =
     never_too_large g.G.Grid.geometry g.met.G.Grid.laws c.args.shape.now c.cells-cells.ensures.shape.polyform c.args.j c.in-Ok.encoded.universe.vars c.in-Ok.encoded.formula.vars c.in-Ok.encoded.formula.clauses c.in-Ok.ensures.formula c.args.size c.in-Ok.ensures.fits
+
+pub returns-in_ok-layers-in-Model-clause-at_once : goal.returns-in_ok-layers-in-Model-clause-at_once
+returns-in_ok-layers-in-Model-clause-at_once g c = λ _.
+    let geometry = g.G.Grid.geometry in
+    let s = c.run.new.self in
+    let run = c.in_ok-values.ensures in
+    let opened = c.in_ok-search.ensures in
+    let same : s.universe ≡ c.in-Ok.encoded.universe = run.universe ∙ opened.universe in
+    let search = subst (λ n. IsSearch geometry c.args.hole_free n s.universe s.solver s.cuts.items) (run.turns ∙ opened.turns) run.search in
+    let none = no_empty_model c.in_ok-search.search.solver s.solver c.in_ok-values.field-0 c.in-Model.values run.at_once c.in-Model.is run.same in
+    names_empty geometry g.met.G.Grid.laws c.args.shape.now c.cells-cells.ensures.shape.polyform c.args.j c.requires.level.0 c.args.hole_free c.args.turns c.args.size s.universe
+    (ap (λ (u : Levels). u.shape) same ∙ c.in-Ok.ensures.shape) (ap (λ (u : Levels). u.level) same ∙ c.in-Ok.ensures.level) s.solver s.cuts.items search (Coronas c.in_ok-layers-in-Model.layers) (λ n first. absurd (none n first))
+
+pub returns-in_ok-proof-in-Refuted-clause-at_once : goal.returns-in_ok-proof-in-Refuted-clause-at_once
+returns-in_ok-proof-in-Refuted-clause-at_once g c = λ _.
+    let geometry = g.G.Grid.geometry in
+    let s = c.run.new.self in
+    let run = c.in_ok-values.ensures in
+    let opened = c.in_ok-search.ensures in
+    let same : s.universe ≡ c.in-Ok.encoded.universe = run.universe ∙ opened.universe in
+    let search = subst (λ n. IsSearch geometry c.args.hole_free n s.universe s.solver s.cuts.items) (run.turns ∙ opened.turns) run.search in
+    let named = at_once_named c.in_ok-search.search.solver s.solver c.in_ok-values.field-0 s.universe.vars c.in_ok-proof-in-Refuted.proof run.at_once run.same opened.no_lines c.in_ok-proof-in-Refuted.ensures.log in
+    names_empty geometry g.met.G.Grid.laws c.args.shape.now c.cells-cells.ensures.shape.polyform c.args.j c.requires.level.0 c.args.hole_free c.args.turns c.args.size s.universe
+    (ap (λ (u : Levels). u.shape) same ∙ c.in-Ok.ensures.shape) (ap (λ (u : Levels). u.level) same ∙ c.in-Ok.ensures.level) s.solver s.cuts.items search (Refuted c.in_ok-proof-in-Refuted.proof) named
+
+pub returns-in_ok-proof-in-Spent-clause-at_once : goal.returns-in_ok-proof-in-Spent-clause-at_once
+returns-in_ok-proof-in-Spent-clause-at_once g c = λ _.
+    let geometry = g.G.Grid.geometry in
+    let s = c.run.new.self in
+    let run = c.in_ok-values.ensures in
+    let opened = c.in_ok-search.ensures in
+    let same : s.universe ≡ c.in-Ok.encoded.universe = run.universe ∙ opened.universe in
+    let search = subst (λ n. IsSearch geometry c.args.hole_free n s.universe s.solver s.cuts.items) (run.turns ∙ opened.turns) run.search in
+    let none = no_empty_spent c.in_ok-search.search.solver s.solver c.in_ok-values.field-0 run.at_once c.in-Spent.is run.same in
+    names_empty geometry g.met.G.Grid.laws c.args.shape.now c.cells-cells.ensures.shape.polyform c.args.j c.requires.level.0 c.args.hole_free c.args.turns c.args.size s.universe
+    (ap (λ (u : Levels). u.shape) same ∙ c.in-Ok.ensures.shape) (ap (λ (u : Levels). u.level) same ∙ c.in-Ok.ensures.level) s.solver s.cuts.items search (Spent c.in_ok-proof-in-Spent.proof) (λ n first. absurd (none n first))

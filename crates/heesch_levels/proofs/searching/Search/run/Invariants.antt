@@ -1,4 +1,5 @@
-use Rattle.std.proofs.Common.{◌≡◌, ◌-◌, length}
+use Rattle.std.proofs.Common.{◌≡◌, ℕ, ◌-◌, length}
+use Rattle.heesch_cdcl.specs.Empty.{IsFirstEmpty}
 use Rattle.heesch_cdcl.specs.Problem.{SameProblem}
 use Rattle.heesch_levels.specs.Searching.{IsSearch}
 use Rattle.heesch_levels.proofs.searching.Search.run.Given as goal
@@ -12,4 +13,5 @@ invariant-loop-ending g l = record {
   universe : l.self.universe ≡ l.initial.self.universe;
   turns : l.self.turns ≡ l.initial.self.turns;
   same : SameProblem l.initial.self.solver l.self.solver;
+  at_once : (n : ℕ) → IsFirstEmpty l.initial.self.solver.clauses n → l.self.solver.log.lines ≡ l.initial.self.solver.log.lines;
 }
