@@ -7,8 +7,8 @@ ghost use Rattle.heesch_levels.specs.Answer.{IsLevelAnswer, NamesEmptyClauses};
 use crate::layers::layers_of;
 use crate::searching::{Ending, Search};
 use heesch_cert::{Layers, Proof};
-use heesch_cnf::Formula;
-use heesch_encode::{EncodeStop, encode};
+use heesch_cnf::FlatFormula;
+use heesch_encode::{EncodeStop, encode_flat};
 use heesch_grid::Grid;
 use heesch_io::NoMemory;
 use heesch_shape::Shape;
@@ -32,10 +32,10 @@ pub enum LevelAnswer {
 }
 
 /// Whether the formula has fewer clauses than count as want of memory.
-fn has_room(formula: &Formula) -> bool
+fn has_room(formula: &FlatFormula) -> bool
     ensures { result ≡ true → length formula.now.clauses < 2 ^ 30 }
 {
-    formula.clauses.as_slice().len() < CLAUSES_MAX
+    formula.len() < CLAUSES_MAX
 }
 
 /// Searches for j coronas of the shape, hole-free ones where `hole_free`, by a solver on the corona formula of level j.
@@ -68,7 +68,7 @@ pub fn level<G: Grid>(
 {
     // Reading the cells tells the proof that they are a polyform.
     let _cells = shape.cells();
-    let encoded = match encode(alloc, shape, j, size) {
+    let encoded = match encode_flat(alloc, shape, j, size) {
         Ok(encoded) => encoded,
         Err(EncodeStop::TooLarge) => return Ok(LevelAnswer::TooLarge),
         Err(EncodeStop::NoMemory) => return Err(NoMemory),

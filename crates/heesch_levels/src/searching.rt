@@ -13,7 +13,7 @@ use crate::steps::steps_of;
 use heesch_cdcl::{Found, Solver};
 use heesch_cert::{Cut, Proof};
 use heesch_cuts::{clause_of, cut_for};
-use heesch_encode::Encoded;
+use heesch_encode::FlatEncoded;
 use heesch_grid::Grid;
 use heesch_io::{NoMemory, Seq};
 use heesch_place::Universe;
@@ -40,7 +40,7 @@ pub struct Search<G: Grid> {
 
 impl<G: Grid> Search<G> {
     /// A search that has not begun.
-    pub fn open(alloc: Global, encoded: Encoded<G>, turns: u32) -> Result<Search<G>, NoMemory>
+    pub fn open(alloc: Global, encoded: FlatEncoded<G>, turns: u32) -> Result<Search<G>, NoMemory>
         requires turns { (1 ≤ turns) × (turns ≤ 1000000) }
         requires few { length encoded.formula.clauses < 2 ^ 30 }
         requires universe { IsUniverseOf G.geometry encoded.universe }
@@ -51,8 +51,8 @@ impl<G: Grid> Search<G> {
         ensures clauses { IfOk result (λ s. s.solver.clauses ≡ encoded.formula.clauses) }
         ensures no_lines { IfOk result (λ s. s.solver.log.lines ≡ []) }
     {
-        let Encoded { universe, formula } = encoded;
-        let solver = Solver::open(alloc, formula, turns)?;
+        let FlatEncoded { universe, formula } = encoded;
+        let solver = Solver::over(alloc, formula, turns)?;
         Ok(Search {
             universe,
             solver,
