@@ -1,5 +1,6 @@
-//! A solver that learns clauses and logs each with its hints: a first unique implication point, shortened by what follows
-//! from its other literals; decisions on the most constrained cell; watched literals, with another literal in each entry.
+//! A solver that learns clauses and logs each with its hints: a first unique implication point, shortened by what
+//! follows from its other literals; decisions on the most constrained cell; watched literals, with another literal in
+//! each entry.
 
 use std::fmt;
 use std::ops::{Not, Range};
@@ -94,8 +95,8 @@ impl Formula {
     }
 }
 
-/// An entry of the list of a watched literal: its clause, and another literal of it. A clause of two literals is flagged, and
-/// then the other literal is all that is left of it.
+/// An entry of the list of a watched literal: its clause, and another literal of it. A clause of two literals is
+/// flagged, and then the other literal is all that is left of it.
 #[derive(Clone, Copy)]
 struct Watch {
     clause: u32,
@@ -186,6 +187,7 @@ pub struct Solver {
     settled: usize,
     marks: Marks,
     pub lines: Vec<Line>,
+    /// The hints of the line that refutes the formula.
     pub last: Option<Vec<u32>>,
 }
 
@@ -376,7 +378,8 @@ impl Solver {
         None
     }
 
-    /// The literal to decide: the last open one of the cover with the fewest, made true; else the first open variable, false.
+    /// The literal to decide: the last open one of the cover with the fewest, made true; else the first open variable,
+    /// false.
     fn choose(&mut self) -> Option<Lit> {
         let news = self.made.get(self.settled..);
         if news.is_none_or(|news| news.iter().any(|lit| lit.is_positive())) {
@@ -388,8 +391,8 @@ impl Solver {
         (1..=self.formula.vars).map(Lit::negative).find(|lit| self.value(*lit) == 0)
     }
 
-    /// The first of the covers without a true literal that has the fewest open ones: of those that are free, and then of
-    /// those that true variables guard, in the order of the trail.
+    /// The first of the covers without a true literal that has the fewest open ones: of those that are free, and then
+    /// of those that true variables guard, in the order of the trail.
     fn tightest(&self) -> Option<u32> {
         let (mut least, mut best) = (u32::MAX, None);
         let chosen = self.made.iter().filter(|lit| lit.is_positive());
@@ -453,8 +456,9 @@ impl Solver {
         all
     }
 
-    /// Sees the clause that is left after resolving the conflict with reasons, back along the trail, until `stop` literals of
-    /// the present level are left, and with the reasons of what follows; the hints, in the order of the trail.
+    /// Sees the clause that is left after resolving the conflict with reasons, back along the trail, until `stop`
+    /// literals of the present level are left, and with the reasons of what follows; the hints, in the order of the
+    /// trail.
     fn resolve(&mut self, conflict: u32, stop: usize) -> Vec<u32> {
         let here = self.starts.len() as u32;
         let mut hints = vec![conflict];

@@ -1,5 +1,5 @@
-//! The catalogue of a size, as a plain Rust program writes it by the methods of `heesch classify`: `classify GRID N`, with
-//! the limits of that by default. Plain tilings come first, then covers by masks, then coronas level by level.
+//! The catalogue of a size, as a plain Rust program writes it by the methods of `heesch classify`: `classify GRID N`,
+//! with the limits of that by default. Plain tilings come first, then covers by masks, then coronas level by level.
 #[allow(dead_code)]
 mod cdcl;
 mod coronas;
@@ -150,8 +150,8 @@ impl Classifier {
         Entry { verdict: format!("undecided levels {LEVELS}"), evidence: coronas }
     }
 
-    /// The entry of a shape with one hole-free corona fewer than the universe's level, by those with holes; the formula is that
-    /// of the level.
+    /// The entry of a shape with one hole-free corona fewer than the universe's level, by those with holes; the formula
+    /// is that of the level.
     fn bare(&self, universe: &mut Universe, formula: Formula, mut evidence: String) -> Entry {
         let free = universe.level() - 1;
         let mut wider = Vec::new();

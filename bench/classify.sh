@@ -1,8 +1,8 @@
 #!/usr/bin/env bash
 # Compares `heesch classify` with a plain Rust program of the same methods (classify.rs), by one worker and the default
-# limits, on the catalogues that are named, as `classify.sh square 7 hex 5`: the user seconds of both and their ratio, the
-# bytes of both texts, how many verdict lines differ, and what `heesch check` says of the plain program's text. A line with
-# the verdicts' tally follows, of the plain program.
+# limits, on the catalogues that are named, as `classify.sh square 7 hex 5`: the user seconds of both and their ratio,
+# the bytes of both texts, how many verdict lines differ, and what `heesch check` says of the plain program's text. A
+# line with the verdicts' tally follows, of the plain program.
 # Build the program first: (cd crates/heesch && rt run -- list square 4). Without it the plain program runs alone.
 set -eu
 cd "$(dirname "$0")"
@@ -26,9 +26,9 @@ while [ $# -ge 2 ]; do
   if [ -x $program ]; then
     heesch=$(seconds "$work/heesch" $program classify "$1" "$2")
     differ=$(diff <(grep ^verdict "$work/heesch") <(grep ^verdict "$work/plain") | grep -c '^>' || true)
-    awk -v f="$1 $2" -v a="$heesch" -v b="$plain" -v c="$(wc -c < "$work/heesch")" -v d="$bytes" -v e="$differ" 'BEGIN {
-      printf "%-10s heesch %.3f  plain Rust %.3f  ratio %.2f  bytes %d and %d  verdicts that differ %d", f, a, b, a / b, c, d, e }'
-    echo "  checked: $($program check < "$work/plain" || true)"
+    ratio=$(awk -v a="$heesch" -v b="$plain" 'BEGIN { if (b > 0) printf "%.2f", a / b; else printf "-" }')
+    echo "$1 $2: heesch $heesch, plain Rust $plain, ratio $ratio, bytes $(wc -c < "$work/heesch") and $bytes," \
+      "verdicts that differ $differ, checked $($program check < "$work/plain" || true)"
   else
     echo "$1 $2: plain Rust $plain, bytes $bytes"
   fi

@@ -114,8 +114,8 @@ fn apart(places: &[Place], from: Place) -> Vec<Place> {
     places.iter().filter(|place| place.mask & from.mask == 0).copied().collect()
 }
 
-/// Whether the open cells can be covered by some of the places, which are tiled then. The cell that is covered next has one
-/// place, or else two, or else is the first.
+/// Whether the open cells can be covered by some of the places, which are tiled then. The cell that is covered next has
+/// one place, or else two, or else is the first.
 fn fill(places: &[Place], open: Mask, tiles: &mut Vec<Isometry>) -> bool {
     if open == 0 {
         return true;

@@ -1,6 +1,6 @@
 //! The corona formula of a shape of squares, as the plain Rust program makes it (coronas.rs), to compare with `encode`:
-//! `encode LEVEL A,B A,B ..`. It prints the variables, clauses and literals, and the milliseconds that the variables and the
-//! whole took.
+//! `encode LEVEL A,B A,B ..`. It prints the variables, clauses and literals, and the milliseconds that the variables
+//! and the whole took.
 #[allow(dead_code)]
 mod cdcl;
 #[allow(dead_code)]

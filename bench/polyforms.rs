@@ -1,5 +1,6 @@
 //! The free polyforms of a size, as a plain Rust program lists them (shapes.rs): `list GRID N`, for comparison with
-//! `heesch list GRID N`. `plain GRID N` adds each shape's first tiling by translations, or by translations and half-turns.
+//! `heesch list GRID N`. `plain GRID N` adds each shape's first tiling by translations, or by translations and
+//! half-turns.
 #[allow(dead_code)]
 mod grids;
 #[allow(dead_code)]

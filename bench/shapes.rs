@@ -1,5 +1,5 @@
-//! The free polyforms of a size, grown cell by cell into a hash set of canonical cell arrays, their images, and their plain
-//! tilings: residues modulo a lattice are marked, up to the first that is marked twice.
+//! The free polyforms of a size, grown cell by cell into a hash set of canonical cell arrays, their images, and their
+//! plain tilings: residues modulo a lattice are marked, up to the first that is marked twice.
 
 use crate::grids::{Cell, Grid, Isometry};
 use crate::lattices::{triples, Triple};

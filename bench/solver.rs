@@ -1,6 +1,6 @@
-//! The plain Rust solver (cdcl.rs) on corona formulas (coronas.rs) of shapes of squares, to compare with: `solver LEVEL <
-//! SHAPES`, a shape a line as `0,0 1,0`, prints a line for each: its formula, the answer, and what was learnt. `solver LEVEL
-//! emit` prints the formulas for solver.sh.
+//! The plain Rust solver (cdcl.rs) on corona formulas (coronas.rs) of shapes of squares, to compare with: `solver LEVEL
+//! < SHAPES`, a shape a line as `0,0 1,0`, prints a line for each: its formula, the answer, and what was learnt.
+//! `solver LEVEL emit` prints the formulas for solver.sh.
 #[allow(dead_code)]
 mod cdcl;
 #[allow(dead_code)]
