@@ -6,7 +6,7 @@ use crate::Lit;
 use std::marker::Model;
 
 /// A literal in 32 bits: twice its variable, and one more where it is positive. Contracts see the literal.
-#[derive(Debug, Clone, Copy)]
+#[derive(Debug, Clone, Copy, PartialEq, Eq)]
 pub struct PackedLit {
     code: u32,
 }

@@ -1,4 +1,4 @@
-use Rattle.std.proofs.Common.{◌≡◌, ℕ, ◌+◌, ◌*◌, ◌<◌, ◌≤◌, Bool, true, false, cond, eqb, Decides, Option, None, Some, List, [], ◌∷◌, ◌++◌, length, get_or, set, Contains, sym, ap, ◌∙◌, subst, inl, inr, ◌⊎◌, refl, arith, length-append, length-set, get_or-set_same, get_or-set_other}
+use Rattle.std.proofs.Common.{◌≡◌, ℕ, ◌+◌, ◌*◌, ◌<◌, ◌≤◌, Bool, true, false, cond, eqb, not, Decides, Option, None, Some, List, [], ◌∷◌, ◌++◌, length, get_or, Contains, sym, ap, ◌∙◌, subst, inl, inr, ◌⊎◌, refl, arith, length-append}
 use Rattle.std.proofs.lemmas.List.{get_or_append_left, get_or_at}
 use Rattle.std.proofs.lemmas.List.Elements.{All-contains}
 use Rattle.std.proofs.lemmas.Bool.Decides.{Decides-eqb}
@@ -6,14 +6,13 @@ use Rattle.heesch_cnf.specs.declared.literal.Lit.{Lit}
 use Rattle.heesch_cnf.specs.Literals.{Values, lit_value, opposite}
 use Rattle.heesch_cnf.specs.Clauses.{AreClauses}
 use Rattle.heesch_trail.specs.declared.pair.Pair.{Pair}
+use Rattle.heesch_trail.specs.declared.entry.Entry.{Entry}
 use Rattle.heesch_trail.specs.declared.step.Step.{Step}
 use Rattle.heesch_trail.specs.Fixpoint.{IsSettled}
 use Rattle.heesch_trail.specs.State.{State, IsTrail, Continues, values_of}
 use Rattle.heesch_cnf.specs.Flat.{code_of}
-use Rattle.heesch_trail.specs.Watches.{Watching, list_of, pair_of, AreKept, IsWatch, AreWhole, IsNotFalse, AreNotFalse, AreMoved}
-use Rattle.heesch_trail.specs.Readings.{AreLeft}
+use Rattle.heesch_trail.specs.Watches.{Watching, pair_of, IsWatch, IsNotFalse, AreNotFalse, IsOf, MayWatch, IsNext}
 use Rattle.heesch_trail.specs.Seen.{IsGuarded, IsAlert, AreAlert, IsSeen, AreSeen, GoesOn}
-use Rattle.heesch_trail.proofs.Levels.{Continues-none}
 use Rattle.heesch_trail.proofs.Settled.{true_or_open}
 use Rattle.heesch_trail.proofs.Visits.{true-pushed, other-pushed, kinds, Value-push, Value-continues, Continues-keeps, Continues-both, same_clauses}
 
@@ -42,11 +41,29 @@ Code-same a b e = by_signs a.var b.var a.positive b.positive e
     by_signs v w true false e = absurd (omega (arith, e))
     by_signs v w false true e = absurd (omega (arith, e))
 
--- what isn't false now wasn't false before
-pub NotFalse-before : (old new : State) (pair : Option Pair) → IsTrail new → Continues old new → AreNotFalse (values_of new.steps) pair → AreNotFalse (values_of old.steps) pair
-NotFalse-before old new None valid go up = up
-NotFalse-before old new (Some p) valid go up =
-    (λ e. up.0 (Value-continues old new p.one false valid go e), λ e. up.1 (Value-continues old new p.other false valid go e))
+-- literals that don't differ
+pub Same-lit : (a b : Lit) → not (eqb (code_of a) (code_of b)) ≡ false → a ≡ b
+Same-lit a b e = by_test (eqb (code_of a) (code_of b)) (Decides-eqb (code_of a) (code_of b)) e
+  where
+    by_test : (t : Bool) → Decides t (code_of a ≡ code_of b) → not t ≡ false → a ≡ b
+    by_test true d e = Code-same a b (d.0 refl)
+    by_test false d e = absurd (let no : true ≡ false = e in cc)
+
+-- a literal that isn't false now wasn't false before
+Up-before : (old new : State) (l : Lit) → IsTrail new → Continues old new → IsNotFalse (values_of new.steps) l → IsNotFalse (values_of old.steps) l
+Up-before old new l valid go up e = up (Value-continues old new l false valid go e)
+
+-- what watches after two moves could watch after one
+May-both : (old mid : State) (a b : Option Pair) (l : Lit) → IsTrail mid → Continues old mid → (b ≡ a) ⊎ IsNext (values_of old.steps) a b → MayWatch (values_of mid.steps) b l → MayWatch (values_of old.steps) a l
+May-both old mid a b l valid go moved (inl up) = inl (Up-before old mid l valid go up)
+May-both old mid a b l valid go (inl same) (inr of) = inr (subst (λ p. IsOf p l) same of)
+May-both old mid a None l valid go (inr next) (inr of) = absurd of
+May-both old mid a (Some q) l valid go (inr next) (inr (inl e)) = subst (MayWatch (values_of old.steps) a) e next.0
+May-both old mid a (Some q) l valid go (inr next) (inr (inr e)) = subst (MayWatch (values_of old.steps) a) e next.1
+
+Next-both : (old mid : State) (a b c : Option Pair) → IsTrail mid → Continues old mid → (b ≡ a) ⊎ IsNext (values_of old.steps) a b → IsNext (values_of mid.steps) b c → IsNext (values_of old.steps) a c
+Next-both old mid a b None valid go moved next = next
+Next-both old mid a b (Some p) valid go moved next = (May-both old mid a b p.one valid go moved next.0, May-both old mid a b p.other valid go moved next.1)
 
 -- a literal that isn't false stays so, or waits
 Alert-push : (head : ℕ) (steps : List Step) (s : Step) (l : Lit) → values_of steps s.lit.var ≡ None → head ≤ length steps → IsAlert head steps l → IsAlert head (steps ++ s ∷ []) l
@@ -87,6 +104,20 @@ pub Guarded-seen : (head : ℕ) (steps : List Step) (clause : List Lit) (pair : 
 Guarded-seen head steps clause pair (inl t) = inl t
 Guarded-seen head steps clause pair (inr up) = inr (Alert-up head steps pair up)
 
+-- the literals of a pair that moved are alert where those of the pair were
+Of-alert : (head : ℕ) (steps : List Step) (pair : Option Pair) (l : Lit) → IsOf pair l → AreAlert head steps pair → IsAlert head steps l
+Of-alert head steps None l of a = absurd of
+Of-alert head steps (Some p) l (inl e) a = subst (IsAlert head steps) e a.0
+Of-alert head steps (Some p) l (inr e) a = subst (IsAlert head steps) e a.1
+
+May-alert : (head : ℕ) (steps : List Step) (pair : Option Pair) (l : Lit) → MayWatch (values_of steps) pair l → AreAlert head steps pair → IsAlert head steps l
+May-alert head steps pair l (inl up) a = inl up
+May-alert head steps pair l (inr of) a = Of-alert head steps pair l of a
+
+Next-alert : (head : ℕ) (steps : List Step) (old new : Option Pair) → IsNext (values_of steps) old new → AreAlert head steps old → AreAlert head steps new
+Next-alert head steps old None next a = next
+Next-alert head steps old (Some p) next a = (May-alert head steps old p.one next.0 a, May-alert head steps old p.other next.1 a)
+
 -- where nothing waits, what was seen is guarded
 Alert-guarded : (head : ℕ) (steps : List Step) (l : Lit) → length steps ≤ head → IsAlert head steps l → IsNotFalse (values_of steps) l
 Alert-guarded head steps l le (inl up) = up
@@ -101,7 +132,7 @@ Seen-guarded head steps clause pair le (inl t) = inl t
 Seen-guarded head steps clause pair le (inr a) = inr (Alerts-guarded head steps pair le a)
 
 -- a guarded clause whose pair is of two of its literals is settled
-pub Guarded-settled : (lists : List (List ℕ)) (k : ℕ) (values : Values) (clause : List Lit) (pair : Option Pair) → ((p : Pair) → pair ≡ Some p → IsWatch lists k clause p) → IsGuarded values clause pair → IsSettled values clause
+pub Guarded-settled : (lists : List (List Entry)) (k : ℕ) (values : Values) (clause : List Lit) (pair : Option Pair) → ((p : Pair) → pair ≡ Some p → IsWatch lists k clause p) → IsGuarded values clause pair → IsSettled values clause
 Guarded-settled lists k values clause pair watch (inl t) = inl t
 Guarded-settled lists k values clause None watch (inr up) = absurd up
 Guarded-settled lists k values clause (Some p) watch (inr up) =
@@ -123,7 +154,10 @@ Seen-goes_on old new watched watching head k go le seen =
     let P : List Step → Type 0 = λ ss. IsSeen head ss clause pair in
     let before : IsSeen head old.steps clause pair = elim (go.moved k) [
       | inl same ↦ subst (IsSeen head old.steps clause) (sym same) seen
-      | inr up ↦ inr (Alert-up head old.steps pair up)
+      | inr next ↦ elim seen [
+        | inl t ↦ inl t
+        | inr a ↦ inr (Next-alert head old.steps (pair_of watched.pairs k) pair next a)
+      ]
     ] in
     subst (λ (cs : List (List Lit)). IsSeen head new.steps (get_or cs k []) pair) (sym (same_clauses old new go.steps))
     (Continues-keeps P old new head go.valid go.steps le (λ ss s none low here. Seen-push head ss s clause pair none low here) before)
@@ -138,55 +172,9 @@ GoesOn-both old mid new a b c go on = record {
   moved = λ k. elim (on.moved k) [
     | inl same ↦ elim (go.moved k) [
       | inl first ↦ inl (same ∙ first)
-      | inr up ↦ inr (subst (AreNotFalse (values_of old.steps)) (sym same) up)
+      | inr next ↦ inr (subst (IsNext (values_of old.steps) (pair_of a.pairs k)) (sym same) next)
     ]
-    | inr up ↦ inr (NotFalse-before old mid (pair_of c.pairs k) go.valid go.steps up)
+    | inr next ↦ inr (Next-both old mid (pair_of a.pairs k) (pair_of b.pairs k) (pair_of c.pairs k) go.valid go.steps (go.moved k) next)
   ];
   whole = on.whole;
 }
-
--- a pair that moved to two literals that aren't false
-pub GoesOn-watch : (trail : State) (old new : Watching) (index : ℕ) (pair : Pair) → IsTrail trail → AreWhole trail.vars trail.clauses old → index < length trail.clauses → AreLeft (values_of trail.steps) (get_or trail.clauses index []) pair →
-    new.pairs ≡ set old.pairs index (Some pair) → length new.lists ≡ length old.lists → AreKept old.lists new.lists → Contains (list_of new.lists pair.one) index → Contains (list_of new.lists pair.other) index → GoesOn trail old trail new
-GoesOn-watch trail old new index pair valid whole lt left pairs room kept one other =
-    record {
-      valid = valid;
-      steps = Continues-none trail;
-      moved = moved;
-      whole = record {
-        room = room ∙ whole.room;
-        places = let places = whole.places in omega (arith, places, ap length pairs, length-set old.pairs index (Some pair));
-        within = λ k p is. within k p (at k) is;
-        watched = λ k p is. watched k p (at k) is;
-      };
-    }
-  where
-    -- the pair of an index is the new one, or as it was
-    at : (k : ℕ) → ((k ≡ index) × (pair_of new.pairs k ≡ Some pair)) ⊎ (pair_of new.pairs k ≡ pair_of old.pairs k)
-    at k = by_test (eqb k index) (Decides-eqb k index)
-      where
-        by_test : (t : Bool) → Decides t (k ≡ index) → ((k ≡ index) × (pair_of new.pairs k ≡ Some pair)) ⊎ (pair_of new.pairs k ≡ pair_of old.pairs k)
-        by_test true d =
-            let here : k ≡ index = d.0 refl in
-            let room_here : index < length old.pairs = (let places = whole.places in omega (arith, places, lt)) in
-            inl (here, ap (pair_of new.pairs) here ∙ ap (λ ps. pair_of ps index) pairs ∙ get_or-set_same old.pairs index (Some pair) None room_here)
-        by_test false d = inr (ap (λ ps. pair_of ps k) pairs ∙ get_or-set_other old.pairs index k (Some pair) None (λ q. let bad : false ≡ true = d.1 q in cc))
-
-    moved : AreMoved (values_of trail.steps) old.pairs new.pairs
-    moved k = elim (at k) [
-      | inl here ↦ inr (subst (AreNotFalse (values_of trail.steps)) (sym here.1) (left.one, left.other))
-      | inr same ↦ inl same
-    ]
-
-    within : (k : ℕ) (p : Pair) → ((k ≡ index) × (pair_of new.pairs k ≡ Some pair)) ⊎ (pair_of new.pairs k ≡ pair_of old.pairs k) → pair_of new.pairs k ≡ Some p → k < length trail.clauses
-    within k p (inl here) is = subst (λ i. i < length trail.clauses) (sym here.0) lt
-    within k p (inr same) is = whole.within k p (sym same ∙ is)
-
-    watched : (k : ℕ) (p : Pair) → ((k ≡ index) × (pair_of new.pairs k ≡ Some pair)) ⊎ (pair_of new.pairs k ≡ pair_of old.pairs k) → pair_of new.pairs k ≡ Some p → IsWatch new.lists k (get_or trail.clauses k []) p
-    watched k p (inl here) is =
-        let same : pair ≡ p = let both : Some pair ≡ Some p = sym here.1 ∙ is in cc in
-        subst (λ i. IsWatch new.lists i (get_or trail.clauses i []) p) (sym here.0)
-        (subst (IsWatch new.lists index (get_or trail.clauses index [])) same (record { has_one = left.has_one; has_other = left.has_other; differ = left.differ; one_lists = one; other_lists = other }))
-    watched k p (inr same) is =
-        let w = whole.watched k p (sym same ∙ is) in
-        record { has_one = w.has_one; has_other = w.has_other; differ = w.differ; one_lists = kept (code_of p.one) k w.one_lists; other_lists = kept (code_of p.other) k w.other_lists }

@@ -4,6 +4,9 @@ pub mod Levels
 pub mod Undo
 pub mod Visits
 pub mod Guards
+pub mod Enlisted
+pub mod Rewatch
 pub mod Passed
 pub mod Rounds
 pub mod Marks
+pub mod Held

@@ -1,14 +1,17 @@
-use Rattle.std.proofs.Common.{◌≡◌, ℕ, zero, suc, ◌+◌, ◌*◌, ◌<◌, ◌≤◌, Bool, true, false, cond, eqb, nat_le, Decides, Result, Ok, Err, OnOk, OnErr, Option, Some, None, List, [], ◌∷◌, ◌++◌, length, get_or, take, replicate, All, IsSome, append-nil, append_assoc, sym, ap, ◌∙◌, subst, inl, inr, refl, arith, add-one, length-append}
+use Rattle.std.proofs.Common.{Contains, ◌≡◌, ℕ, zero, suc, ◌+◌, ◌*◌, ◌<◌, ◌≤◌, Bool, true, false, cond, eqb, nat_le, Decides, Result, Ok, Err, OnOk, OnErr, Option, Some, None, List, [], ◌∷◌, ◌++◌, length, get_or, take, replicate, All, IsSome, append-nil, append_assoc, sym, ap, ◌∙◌, subst, inl, inr, refl, arith, add-one, length-append}
 use Rattle.std.proofs.lemmas.List.{get_or_append_left, get_or_at, get_or_past, get_or-take, length-take-le, length-replicate, take_more, take_all}
 use Rattle.std.proofs.lemmas.List.Elements.{All-head, All-tail, All-weaker, filter-append}
 use Rattle.std.proofs.lemmas.Bool.{cases_lt}
 use Rattle.std.proofs.lemmas.Bool.Decides.{Decides-eqb, nat_tests}
 use Rattle.heesch_cnf.specs.declared.literal.Lit.{Lit}
+use Rattle.heesch_cnf.specs.Flat.{code_of}
+use Rattle.heesch_cnf.proofs.Lists.{Contains-none}
 use Rattle.heesch_cnf.specs.Literals.{lit_value, signed}
 use Rattle.heesch_trail.specs.declared.pair.Pair.{Pair}
 use Rattle.heesch_trail.specs.declared.step.Step.{Step}
 use Rattle.heesch_trail.specs.State.{State, IsTrail, StepsHold, values_of, level_of, up_to, decision}
-use Rattle.heesch_trail.specs.Watches.{Watching, pair_of, IsWatch, AreNotFalse}
+use Rattle.heesch_trail.specs.Watches.{Watching, pair_of, index_of, IsWatch, IsSound, IsNotFalse, AreNotFalse, MayWatch, IsNext}
+use Rattle.heesch_trail.specs.declared.entry.Entry.{Entry}
 use Rattle.heesch_trail.specs.Seen.{IsGuarded, AreGuarded, IsSeen, AreSeen, GoesOn, IsWatched}
 use Rattle.heesch_trail.proofs.Inner.{with_value, level_from-push}
 use Rattle.heesch_trail.proofs.Undo.{up_to-all, up_to-drop, levels-below_whole, held-replicate}
@@ -65,10 +68,16 @@ Value-up_to vars clauses steps m l b hold is = by_value (values_of (up_to m step
     by_value None e h = absurd (none_signed l.positive (subst (λ o. signed l.positive o ≡ Some b) e h))
     by_value (Some a) e h = ap (signed l.positive) (whole l.var a e ∙ sym e) ∙ h
 
-NotFalse-up_to : (vars : ℕ) (clauses : List (List Lit)) (steps : List Step) (m : ℕ) (pair : Option Pair) → StepsHold vars clauses steps → AreNotFalse (values_of steps) pair → AreNotFalse (values_of (up_to m steps)) pair
-NotFalse-up_to vars clauses steps m None hold up = up
-NotFalse-up_to vars clauses steps m (Some p) hold up =
-    (λ e. up.0 (Value-up_to vars clauses steps m p.one false hold e), λ e. up.1 (Value-up_to vars clauses steps m p.other false hold e))
+-- a pair that moved under values that are there now, seen at a level
+Up-up_to : (vars : ℕ) (clauses : List (List Lit)) (steps : List Step) (m : ℕ) (old : Option Pair) (l : Lit) → StepsHold vars clauses steps → MayWatch (values_of steps) old l → AreNotFalse (values_of (up_to m steps)) old → IsNotFalse (values_of (up_to m steps)) l
+Up-up_to vars clauses steps m old l hold (inl up) before = λ e. up (Value-up_to vars clauses steps m l false hold e)
+Up-up_to vars clauses steps m None l hold (inr of) before = absurd of
+Up-up_to vars clauses steps m (Some q) l hold (inr (inl e)) before = subst (IsNotFalse (values_of (up_to m steps))) e before.0
+Up-up_to vars clauses steps m (Some q) l hold (inr (inr e)) before = subst (IsNotFalse (values_of (up_to m steps))) e before.1
+
+Next-up_to : (vars : ℕ) (clauses : List (List Lit)) (steps : List Step) (m : ℕ) (old new : Option Pair) → StepsHold vars clauses steps → IsNext (values_of steps) old new → AreNotFalse (values_of (up_to m steps)) old → AreNotFalse (values_of (up_to m steps)) new
+Next-up_to vars clauses steps m old None hold next before = next
+Next-up_to vars clauses steps m old (Some p) hold next before = (Up-up_to vars clauses steps m old p.one hold next.0 before, Up-up_to vars clauses steps m old p.other hold next.1 before)
 
 pub Watched-decide : (t new : State) (w : Watching) (head fresh : ℕ) (marks : List ℕ) (l : Lit) (n : ℕ) → IsWatched t w head fresh marks → values_of t.steps l.var ≡ None → n ≤ fresh →
     (0 < n → length t.steps ≤ head) → IsTrail new → new ≡ record t { steps = t.steps ++ decision l (level_of t.steps + 1) ∷ [] } → IsWatched new w head fresh (marks ++ n ∷ [])
@@ -137,7 +146,7 @@ Guarded-moved t new w watching m k valid go lt guarded =
     moved (inl true_one) = inl true_one
     moved (inr up) = inr (elim (go.moved k) [
       | inl same ↦ subst (AreNotFalse (values_of (up_to m t.steps))) (sym same) up
-      | inr now ↦ NotFalse-up_to t.vars t.clauses t.steps m (pair_of watching.pairs k) valid.steps now
+      | inr next ↦ Next-up_to t.vars t.clauses t.steps m (pair_of w.pairs k) (pair_of watching.pairs k) valid.steps next up
     ])
 
 -- assignments at the present level, moved pairs, and what was seen since
@@ -199,6 +208,17 @@ Pair-grown pairs k = elim (cases_lt k (length pairs)) [
   ]
 ]
 
+-- an entry stays sound as clauses are added
+Sound-more : (clauses more : List (List Lit)) (l : Lit) (e : Entry) → IsSound clauses l e → IsSound (clauses ++ more) l e
+Sound-more clauses more l e sound =
+    let same = get_or_append_left clauses more [] (index_of e) sound.within in
+    let within = sound.within in
+    record {
+      within = omega (arith, within, length-append clauses more);
+      has = subst (λ clause. Contains clause e.blocker) (sym same) sound.has;
+      both = λ t x inside out. sound.both t x (subst (λ clause. Contains clause x) same inside) out;
+    }
+
 -- a clause that stands last, and isn't watched
 pub Watched-add : (t new : State) (w watching : Watching) (head fresh : ℕ) (marks : List ℕ) (more : List (List Lit)) → IsWatched t w head fresh marks → IsTrail new → watching ≡ record w { pairs = w.pairs ++ None ∷ [] } →
     length more ≤ 1 → new ≡ record t { clauses = t.clauses ++ more } → IsWatched new watching head fresh marks
@@ -215,6 +235,7 @@ Watched-add t new w watching head fresh marks more parts valid grown one is =
         watched = λ k p e.
             let before = sym (Pair-grown w.pairs k) ∙ e in
             subst (λ clause. IsWatch w.lists k clause p) (sym (get_or_append_left t.clauses more [] k (parts.whole.within k p before))) (parts.whole.watched k p before);
+        sound = λ l e has. Sound-more t.clauses more l e (parts.whole.sound l e has);
       };
       visited = parts.visited;
       few_read = omega (arith, few_read, count);
@@ -240,6 +261,7 @@ Watched-open t w n marks valid none count is empty =
         places = omega (arith, count, length-replicate {A = Option Pair} n None);
         within = λ k p e. absurd (blank k p e);
         watched = λ k p e. absurd (blank k p e);
+        sound = λ l e has. absurd (Contains-none e (subst (λ xs. Contains xs e) (no_entries (2 * t.vars + 2) (code_of l)) has));
       };
       visited = omega arith;
       few_read = omega arith;
@@ -249,6 +271,11 @@ Watched-open t w n marks valid none count is empty =
       marked = λ m lt. absurd (omega (arith, lt));
     }))
   where
+    no_entries : (n i : ℕ) → get_or {A = List Entry} (replicate n []) i [] ≡ []
+    no_entries zero i = refl
+    no_entries (suc n) zero = refl
+    no_entries (suc n) (suc i) = no_entries n i
+
     blank : (k : ℕ) (p : Pair) → pair_of (replicate n None) k ≡ Some p → ⊥
     blank k p e = let bad : None ≡ Some p = sym (held-replicate {A = Pair} n k) ∙ e in cc
 

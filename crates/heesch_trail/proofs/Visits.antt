@@ -121,7 +121,7 @@ Continues-both old mid new go on =
     )
 
 -- the clause of an index is that of the number after it
-at_number : (clauses : List (List Lit)) (index : ℕ) → numbered clauses (index + 1) ≡ get_or clauses index []
+pub at_number : (clauses : List (List Lit)) (index : ℕ) → numbered clauses (index + 1) ≡ get_or clauses index []
 at_number clauses index = ap (λ k. get_or clauses k []) (let e : index + 1 - 1 ≡ index = omega arith in e)
 
 pub StepHolds-read : (trail : State) (index : ℕ) (l : Lit) → IsTrail trail → index < length trail.clauses → IsUnit (values_of trail.steps) (get_or trail.clauses index []) l →

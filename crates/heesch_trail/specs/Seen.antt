@@ -41,7 +41,7 @@ IsSeen head steps clause pair = HasTrue (values_of steps) clause ⊎ AreAlert he
 abbrev pub AreSeen : ℕ → State → Watching → ℕ → Type 0
 AreSeen head trail watching n = (k : ℕ) → k < n → IsSeen head trail.steps (slice_index_or trail.clauses k []) (pair_of watching.pairs k)
 
--- more assignments at the same level, and pairs that moved to literals that weren't false before them
+-- more assignments at the same level, and pairs whose literals weren't false before them or stayed
 pub record GoesOn (old : State) (watched : Watching) (new : State) (watching : Watching) : Type 0 where
   pub valid : IsTrail new
   pub steps : Continues old new
@@ -57,6 +57,12 @@ abbrev pub IsVisit : State → Watching → ℕ → Visit → Type 0
 IsVisit trail watching k TrueVisit = HasTrue (values_of trail.steps) (slice_index_or trail.clauses k [])
 IsVisit trail watching k Watched = AreNotFalse (values_of trail.steps) (pair_of watching.pairs k)
 IsVisit trail watching k (AllFalse n) = IsConflict trail n
+
+-- what is left of the clause of an index where only one literal of it may not be false: a true literal, or a conflict
+abbrev pub IsEnd : State → ℕ → Visit → Type 0
+IsEnd trail k TrueVisit = HasTrue (values_of trail.steps) (slice_index_or trail.clauses k [])
+IsEnd trail k Watched = ⊥
+IsEnd trail k (AllFalse n) = IsConflict trail n
 
 -- the literal isn't one that watches the clause of the index
 abbrev pub IsUnwatched : Watching → Lit → ℕ → Type 0

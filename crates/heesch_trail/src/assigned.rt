@@ -1,24 +1,30 @@
-ghost use Rattle.std.specs.Prelude.{◌≡◌, ℕ, ◌+◌, ◌<◌, ◌≤◌, ◌^◌, [], ◌∷◌, ◌++◌, length, Some, None, All, IfOk, IfErr, OnOk, OnErr, option_map, option_and_then, replicate, take, ◌-◌, slice_index_or};
+ghost use Rattle.std.specs.Prelude.{◌≡◌, ◌≢◌, ℕ, ◌+◌, ◌<◌, ◌≤◌, ◌^◌, [], ◌∷◌, ◌++◌, length, Some, None, All, IfOk, IfErr, OnOk, OnErr, option_map, option_and_then, replicate, take, ◌-◌, slice_index_or, true};
 ghost use Rattle.heesch_cnf.specs.Clauses.{IsClause};
 ghost use Rattle.heesch_cnf.specs.Lines.{IsNumber, numbered};
-ghost use Rattle.heesch_cnf.specs.Literals.{lit_value, is_true_value, is_false_value};
-ghost use Rattle.heesch_trail.specs.Readings.{IsReading};
+ghost use Rattle.heesch_cnf.specs.Literals.{opposite, lit_value, is_true_value, is_false_value};
+ghost use Rattle.heesch_cnf.specs.Flat.{code_of};
+ghost use Rattle.heesch_trail.specs.Inner.{value_in, reason_in};
+ghost use Rattle.heesch_trail.specs.declared.truth.Truth.TheVariants.{Open};
+ghost use Rattle.heesch_trail.specs.Readings.{IsReading, IsOther};
 ghost use Rattle.heesch_trail.specs.State.{State, IsTrail, StepHolds, fact_of, values_of, made_by, level_of, up_to, decision};
 
 use crate::Step;
-use crate::scan::{Reading, read_clause};
+use crate::pair::Pair;
+use crate::scan::Reading;
+use crate::truth::Truth;
 use heesch_cnf::{FlatFormula, Lit, Lits, PackedLit};
 use heesch_io::NoMemory;
 use std::alloc::Global;
 use std::marker::Model;
 
-/// Clauses, and assignments to their variables in the order in which they were made, by variable too.
+/// Clauses, and assignments to their variables in the order in which they were made: by literal its value, by variable the
+/// level and the number of the clause that it follows from, or 0.
 #[derive(Drop)]
 pub struct Assigned {
     formula: FlatFormula,
-    values: Vec<Option<bool>>,
-    facts: Vec<Option<Step>>,
-    steps: Vec<Step>,
+    values: Vec<Truth>,
+    levels: Vec<u32>,
+    reasons: Vec<u32>,
     made: Vec<Lit>,
 }
 
@@ -27,24 +33,47 @@ impl Model for Assigned {
 
     ghost Value = { State };
 
-    ghost use Rattle.heesch_trail.specs.Inner.{IsInner};
+    ghost use Rattle.heesch_trail.specs.Inner.{IsInner, steps_of};
 
-    ghost view = { λ t. record { vars = t.formula.vars; clauses = t.formula.clauses; steps = t.steps.items } };
+    ghost view = { λ t. record { vars = t.formula.vars; clauses = t.formula.clauses; steps = steps_of t.levels.items t.reasons.items t.made.items } };
 
-    ghost invariant = { λ t. IsInner t.formula.vars t.formula.clauses t.values.items t.facts.items t.steps.items t.made.items };
+    ghost invariant = { λ t. IsInner t.formula.vars t.formula.clauses t.values.items t.levels.items t.reasons.items t.made.items };
 }
 
-/// `count` places with nothing in them.
-pub fn nones<T: Drop>(alloc: Global, count: usize) -> Result<Vec<Option<T>>, NoMemory>
-    ensures { IfOk result (λ v. v.items ≡ replicate count None) }
+/// Where a literal's value stands.
+fn code(lit: Lit) -> usize
+    ensures { result ≡ code_of lit }
 {
-    let mut places = Vec::new(alloc);
-    for _ in 0..count {
-        if places.push(None).is_err() {
-            return Err(NoMemory);
-        }
+    2 * lit.var as usize + lit.positive as usize
+}
+
+/// The number that stands for a reason: 0 where there is none.
+fn reason_number(reason: Option<u32>) -> u32
+    requires { reason ≢ Some 0 }
+    ensures { reason_in result ≡ reason }
+{
+    match reason {
+        None => 0,
+        Some(number) => number,
     }
-    Ok(places)
+}
+
+/// The reason that a number stands for.
+fn reason_of_number(number: u32) -> Option<u32>
+    ensures { result ≡ reason_in number }
+{
+    if number == 0 { None } else { Some(number) }
+}
+
+/// The values of as many literals, which are open.
+fn opens(alloc: Global, count: usize) -> Result<Vec<Truth>, NoMemory>
+    ensures { IfOk result (λ v. v.items ≡ replicate count Open) }
+{
+    let mut values = Vec::with_capacity(alloc, count)?;
+    for _ in 0..count {
+        values.push(Truth::Open)?;
+    }
+    Ok(values)
 }
 
 impl Assigned {
@@ -56,10 +85,10 @@ impl Assigned {
         let places = formula.vars() as usize + 1;
         Ok(Assigned {
             formula,
-            values: nones(alloc, places)?,
-            facts: nones(alloc, places)?,
-            steps: Vec::new(alloc),
-            made: Vec::new(alloc),
+            values: opens(alloc, 2 * places)?,
+            levels: vec![in alloc; 0; places]?,
+            reasons: vec![in alloc; 0; places]?,
+            made: Vec::with_capacity(alloc, places)?,
         })
     }
 
@@ -85,47 +114,39 @@ impl Assigned {
         requires { var ≤ self.now.vars }
         ensures { result ≡ values_of self.now.steps var }
     {
-        self.values[var as usize]
+        self.values[2 * var as usize + 1].value()
+    }
+
+    /// The value of a literal. The cost is one look-up.
+    fn truth(&self, lit: PackedLit) -> Truth
+        requires { lit.var ≤ self.now.vars }
+        ensures { value_in result ≡ lit_value (values_of self.now.steps) lit }
+    {
+        self.values[lit.code()]
     }
 
     /// The value of a literal, or None where its variable is open. The cost is one look-up.
-    pub fn value_of(&self, lit: Lit) -> Option<bool>
+    pub fn value_of(&self, lit: PackedLit) -> Option<bool>
         requires { lit.var ≤ self.now.vars }
         ensures { result ≡ lit_value (values_of self.now.steps) lit }
     {
-        match self.value(lit.var) {
-            None => None,
-            Some(value) => Some(value == lit.positive),
-        }
+        self.truth(lit).value()
     }
 
     /// Whether a literal is true. The cost is one look-up.
-    pub fn is_true(&self, lit: Lit) -> bool
+    pub fn is_true(&self, lit: PackedLit) -> bool
         requires { lit.var ≤ self.now.vars }
         ensures { result ≡ is_true_value (lit_value (values_of self.now.steps) lit) }
     {
-        match self.value_of(lit) {
-            None => false,
-            Some(value) => value,
-        }
+        self.truth(lit).is_true()
     }
 
     /// Whether a literal is false. The cost is one look-up.
-    pub fn is_false(&self, lit: Lit) -> bool
+    pub fn is_false(&self, lit: PackedLit) -> bool
         requires { lit.var ≤ self.now.vars }
         ensures { result ≡ is_false_value (lit_value (values_of self.now.steps) lit) }
     {
-        match self.value_of(lit) {
-            None => false,
-            Some(value) => !value,
-        }
-    }
-
-    fn fact(&self, var: u32) -> Option<Step>
-        requires { var ≤ self.now.vars }
-        ensures { result ≡ fact_of self.now.steps var }
-    {
-        self.facts[var as usize]
+        self.truth(lit).is_false()
     }
 
     /// The level at which a variable was assigned, or None where it is open. The cost is one look-up.
@@ -133,9 +154,9 @@ impl Assigned {
         requires { var ≤ self.now.vars }
         ensures { result ≡ option_map (λ s. s.level) (fact_of self.now.steps var) }
     {
-        match self.fact(var) {
+        match self.value(var) {
             None => None,
-            Some(step) => Some(step.level),
+            Some(_) => Some(self.levels[var as usize]),
         }
     }
 
@@ -145,9 +166,9 @@ impl Assigned {
         requires { var ≤ self.now.vars }
         ensures { result ≡ option_and_then (λ s. s.reason) (fact_of self.now.steps var) }
     {
-        match self.fact(var) {
+        match self.value(var) {
             None => None,
-            Some(step) => step.reason,
+            Some(_) => reason_of_number(self.reasons[var as usize]),
         }
     }
 
@@ -156,9 +177,9 @@ impl Assigned {
         ensures level { result ≡ level_of self.now.steps }
         ensures few { result ≤ length self.now.steps }
     {
-        match self.steps.last() {
+        match self.made.last() {
             None => 0,
-            Some(step) => step.level,
+            Some(lit) => self.levels[lit.var as usize],
         }
     }
 
@@ -183,16 +204,14 @@ impl Assigned {
         ensures err { OnErr result (self.new ≡ self.old) }
         ensures valid { IsTrail self.new }
     {
-        if self.steps.push(step).is_err() {
-            return Err(NoMemory);
-        }
         if self.made.push(step.lit).is_err() {
-            let _ = self.steps.pop();
             return Err(NoMemory);
         }
         let var = step.lit.var as usize;
-        self.values[var] = Some(step.lit.positive);
-        self.facts[var] = Some(step);
+        self.values[code(step.lit)] = Truth::Yes;
+        self.values[code(step.lit.opposite())] = Truth::No;
+        self.levels[var] = step.level;
+        self.reasons[var] = reason_number(step.reason);
         Ok(())
     }
 
@@ -224,7 +243,28 @@ impl Assigned {
         })
     }
 
-    /// The clause of an index, which counts from 0, under the present assignments. The cost is at most its length.
+    /// Which literals of a clause aren't false: none, the only one, or the first two.
+    fn read_clause(&self, clause: &[PackedLit]) -> Reading
+        requires form { IsClause self.now.vars clause.now }
+        ensures { IsReading (values_of self.now.steps) clause.now result }
+    {
+        let mut left = None;
+        for lit in clause {
+            if !self.is_false(*lit) {
+                match left {
+                    None => left = Some(*lit),
+                    Some(one) => return Reading::Two(Pair { one, other: *lit }),
+                }
+            }
+        }
+        match left {
+            None => Reading::Nothing,
+            Some(lit) => Reading::One(lit),
+        }
+    }
+
+    /// The clause of an index, which counts from 0, under the present assignments: which of its literals aren't false, none,
+    /// the only one, or the first two. The cost is at most its length.
     pub fn read(&self, index: usize) -> Reading
         requires { index < length self.now.clauses }
         ensures reading { IsReading (values_of self.now.steps) (slice_index_or self.now.clauses index []) result }
@@ -232,11 +272,49 @@ impl Assigned {
         ensures valid { IsTrail self.now }
     {
         let _ = self.formula.len();
-        read_clause(
-            &self.values,
-            self.formula.vars(),
-            self.formula.clause(index),
-        )
+        self.read_clause(self.formula.clause(index))
+    }
+
+    /// A literal of a clause other than this one that isn't false, if there is one.
+    fn other_in(&self, clause: &[PackedLit], lit: PackedLit) -> Option<PackedLit>
+        requires form { IsClause self.now.vars clause.now }
+        ensures { IsOther (values_of self.now.steps) clause.now lit result }
+    {
+        for other in clause {
+            if *other != lit && !self.is_false(*other) {
+                return Some(*other);
+            }
+        }
+        None
+    }
+
+    /// A literal of the clause of an index, which counts from 0, other than this one that isn't false, if there is one. The
+    /// cost is at most the clause's length.
+    pub fn other(&self, index: usize, lit: PackedLit) -> Option<PackedLit>
+        requires { index < length self.now.clauses }
+        ensures other { IsOther (values_of self.now.steps) (slice_index_or self.now.clauses index []) lit result }
+        ensures few { length self.now.clauses ≤ 2 ^ 31 }
+        ensures valid { IsTrail self.now }
+    {
+        let _ = self.formula.len();
+        self.other_in(self.formula.clause(index), lit)
+    }
+
+    /// Whether the clause of an index, which counts from 0, has just two literals. The cost is one look-up.
+    pub fn is_binary(&self, index: usize) -> bool
+        requires { index < length self.now.clauses }
+        ensures { result ≡ true → length (slice_index_or self.now.clauses index []) ≡ 2 }
+    {
+        self.formula.clause(index).len() == 2
+    }
+
+    /// The opposite of the literal that was made true at a place, from 0. The cost is one look-up.
+    pub fn turned(&self, place: usize) -> PackedLit
+        requires { place < length self.now.steps }
+        ensures { (d : Step) → result ≡ opposite (slice_index_or self.now.steps place d).lit }
+    {
+        let _ = self.formula.vars();
+        PackedLit::of(self.made()[place]).opposite()
     }
 
     /// The number of the clauses. It takes no memory.
@@ -263,11 +341,9 @@ impl Assigned {
         ensures undone { self.new ≡ record self.old { steps = take (length self.old.steps - 1) self.old.steps } }
         ensures valid { IsTrail self.new }
     {
-        if let Some(step) = self.steps.pop() {
-            let _ = self.made.pop();
-            let var = step.lit.var as usize;
-            self.values[var] = None;
-            self.facts[var] = None;
+        if let Some(lit) = self.made.pop() {
+            self.values[code(lit)] = Truth::Open;
+            self.values[code(lit.opposite())] = Truth::Open;
         }
     }
 

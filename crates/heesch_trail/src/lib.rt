@@ -2,13 +2,18 @@
 #![tactic(auto)]
 
 mod assigned;
+mod entry;
 mod pair;
 mod propagation;
 mod scan;
 mod step;
 mod trail;
+mod truth;
 mod watch_list;
 mod watches;
 
 pub use step::Step;
 pub use trail::Trail;
+
+#[cfg(test)]
+mod tests;

@@ -1,17 +1,20 @@
-ghost use Rattle.std.specs.Prelude.{◌≡◌, ◌+◌, ◌<◌, ◌≤◌, ◌^◌, [], ◌∷◌, length, Some, false, IfOk, slice_index_or, ◌⊎◌};
+ghost use Rattle.std.specs.Prelude.{◌≡◌, ◌+◌, ◌<◌, ◌≤◌, ◌^◌, [], ◌∷◌, length, Some, None, Contains, false, IfOk, slice_index_or, ◌⊎◌};
 ghost use Rattle.heesch_cnf.specs.Literals.{lit_value};
 ghost use Rattle.heesch_cnf.specs.Clauses.{left_of};
 ghost use Rattle.heesch_trail.specs.Fixpoint.{HasTrue};
 ghost use Rattle.heesch_cnf.specs.Flat.{code_of};
-ghost use Rattle.heesch_trail.specs.Watches.{AreWhole, list_of};
-ghost use Rattle.heesch_trail.specs.Seen.{AreSeen, GoesOn, IsVisit, IsVisitBy, AreVisitedBy, AreRead, StaySeen};
+ghost use Rattle.heesch_trail.specs.Watches.{AreWhole, IsSound, index_of, list_of};
+ghost use Rattle.heesch_trail.specs.Seen.{AreSeen, GoesOn, IsEnd, IsVisit, IsVisitBy, AreVisitedBy, AreRead, StaySeen};
+ghost use Rattle.heesch_trail.specs.Readings.{IsOther};
 ghost use Rattle.heesch_trail.specs.State.{IsTrail, Continues, IsPropagated, values_of};
 
 use crate::Step;
 use crate::assigned::Assigned;
+use crate::entry::Entry;
+use crate::pair::Pair;
 use crate::scan::Reading;
 use crate::watches::Watches;
-use heesch_cnf::Lit;
+use heesch_cnf::{Lit, PackedLit};
 use heesch_io::NoMemory;
 
 /// What a visit left of a clause: a true literal, literals that watch it and aren't false, or nothing but false ones, by
@@ -24,7 +27,7 @@ enum Visit {
 }
 
 /// Makes the only literal that isn't false true, where it is open.
-fn follow(assigned: &mut Assigned, index: u32, lit: Lit) -> Result<(), NoMemory>
+fn follow(assigned: &mut Assigned, index: u32, lit: PackedLit) -> Result<(), NoMemory>
     requires within { index < length assigned.old.clauses }
     requires alone { left_of (values_of assigned.old.steps) (slice_index_or assigned.old.clauses index []) ≡ lit ∷ [] }
     ensures goes_on { Continues assigned.old assigned.new }
@@ -37,11 +40,29 @@ fn follow(assigned: &mut Assigned, index: u32, lit: Lit) -> Result<(), NoMemory>
     }
     let level = assigned.level();
     assigned.assign(Step {
-        lit,
+        lit: lit.lit(),
         level,
         reason: Some(index + 1),
     })?;
     Ok(())
+}
+
+/// Makes the literal of a clause whose others are false true, where it is open; where it is false too, the clause is a
+/// conflict.
+fn settle(assigned: &mut Assigned, index: u32, lit: PackedLit) -> Result<Visit, NoMemory>
+    requires within { index < length assigned.old.clauses }
+    requires has { Contains (slice_index_or assigned.old.clauses index []) lit }
+    requires others { IsOther (values_of assigned.old.steps) (slice_index_or assigned.old.clauses index []) lit None }
+    ensures goes_on { Continues assigned.old assigned.new }
+    ensures found { IfOk result (IsEnd assigned.new index) }
+    ensures valid { IsTrail assigned.new }
+{
+    let _ = assigned.count();
+    if assigned.is_false(lit) {
+        return Ok(Visit::AllFalse(index + 1));
+    }
+    follow(assigned, index, lit)?;
+    Ok(Visit::HasTrue)
 }
 
 /// Reads the clause of an index: watches it by two literals that aren't false, or makes the assignment that follows from it.
@@ -55,7 +76,6 @@ fn read_watched(
     requires whole { AreWhole assigned.old.vars assigned.old.clauses watches.old }
     ensures goes_on { GoesOn assigned.old watches.old assigned.new watches.new }
     ensures found { IfOk result (IsVisit assigned.new watches.new index) }
-    ensures stays { (l : Lit) → lit_value (values_of assigned.old.steps) l ≡ Some false → list_of watches.new.lists l ≡ list_of watches.old.lists l }
 {
     match assigned.read(index as usize) {
         Reading::Nothing => Ok(Visit::AllFalse(index + 1)),
@@ -64,7 +84,8 @@ fn read_watched(
             Ok(Visit::HasTrue)
         }
         Reading::Two(pair) => {
-            watches.watch(index, pair)?;
+            let binary = assigned.is_binary(index as usize);
+            watches.watch(index, pair, binary)?;
             Ok(Visit::Watched)
         }
     }
@@ -80,18 +101,17 @@ fn visit_clause(
     requires whole { AreWhole assigned.old.vars assigned.old.clauses watches.old }
     ensures goes_on { GoesOn assigned.old watches.old assigned.new watches.new }
     ensures found { IfOk result (IsVisit assigned.new watches.new index) }
-    ensures stays { (l : Lit) → lit_value (values_of assigned.old.steps) l ≡ Some false → list_of watches.new.lists l ≡ list_of watches.old.lists l }
 {
     watches.note_visit();
     read_watched(assigned, watches, index)
 }
 
-/// Visits the clause of an index that stands in the list of a false literal. It is read only where the literal watches it and
-/// the one beside isn't true.
-fn visit_by(
+/// Visits the clause of an index that may be watched by a false literal. It is read only where the literal watches it and the
+/// one beside isn't true: then another literal that isn't false watches it, or it is settled.
+fn visit_watched(
     assigned: &mut Assigned,
     watches: &mut Watches,
-    lit: Lit,
+    lit: PackedLit,
     index: u32,
 ) -> Result<Visit, NoMemory>
     requires whole { AreWhole assigned.old.vars assigned.old.clauses watches.old }
@@ -110,15 +130,48 @@ fn visit_by(
     if assigned.is_true(beside) {
         return Ok(Visit::HasTrue);
     }
-    visit_clause(assigned, watches, index)
+    match assigned.other(index as usize, beside) {
+        None => settle(assigned, index, beside),
+        Some(one) => {
+            watches.replace(index, Pair { one, other: beside })?;
+            Ok(Visit::Watched)
+        }
+    }
 }
 
-/// Visits the clauses in the list of a false literal, until all literals of one of them are false. A clause with no true literal
-/// goes to the lists of others.
+/// Visits the clause of an entry of a false literal's list. Where its blocker is true, nothing else is read, and where it has
+/// just two literals, the entry is the clause.
+fn visit_by(
+    assigned: &mut Assigned,
+    watches: &mut Watches,
+    lit: PackedLit,
+    entry: Entry,
+) -> Result<Visit, NoMemory>
+    requires whole { AreWhole assigned.old.vars assigned.old.clauses watches.old }
+    requires sound { IsSound assigned.old.clauses lit entry }
+    requires turned { lit_value (values_of assigned.old.steps) lit ≡ Some false }
+    ensures goes_on { GoesOn assigned.old watches.old assigned.new watches.new }
+    ensures found { IfOk result (IsVisitBy assigned.new watches.new lit (index_of entry)) }
+    ensures stays { list_of watches.new.lists lit ≡ list_of watches.old.lists lit }
+{
+    let _ = assigned.vars();
+    if assigned.is_true(entry.blocker) {
+        return Ok(Visit::HasTrue);
+    }
+    watches.note_visit();
+    if entry.is_binary() {
+        settle(assigned, entry.index(), entry.blocker)
+    } else {
+        visit_watched(assigned, watches, lit, entry.index())
+    }
+}
+
+/// Visits the clauses in the list of a false literal, until all literals of one of them are false. The entry of a clause that it
+/// watches no more is dropped.
 fn visit_list(
     assigned: &mut Assigned,
     watches: &mut Watches,
-    lit: Lit,
+    lit: PackedLit,
 ) -> Result<Option<u32>, NoMemory>
     requires fits { code_of lit < length watches.old.lists }
     requires whole { AreWhole assigned.old.vars assigned.old.clauses watches.old }
@@ -129,8 +182,8 @@ fn visit_list(
     let _ = assigned.vars();
     let mut place = 0;
     while place < watches.list(lit).len() {
-        let index = watches.list(lit)[place];
-        match visit_by(assigned, watches, lit, index)? {
+        let entry = watches.list(lit)[place];
+        match visit_by(assigned, watches, lit, entry)? {
             Visit::HasTrue => place += 1,
             Visit::Watched => watches.remove(lit, place),
             Visit::AllFalse(number) => return Ok(Some(number)),
@@ -202,7 +255,7 @@ pub fn drain(
 {
     let _ = assigned.vars();
     while *head < assigned.made().len() {
-        let lit = assigned.made()[*head].opposite();
+        let lit = assigned.turned(*head);
         let found = visit_list(assigned, watches, lit)?;
         if found.is_some() {
             return Ok(found);

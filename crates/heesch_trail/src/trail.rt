@@ -110,7 +110,7 @@ impl Trail {
         requires { lit.var ≤ self.now.vars }
         ensures { result ≡ lit_value (values_of self.now.steps) lit }
     {
-        self.assigned.value_of(lit.lit())
+        self.assigned.value_of(lit)
     }
 
     /// Whether a literal is true. The cost is one look-up.
@@ -118,7 +118,7 @@ impl Trail {
         requires { lit.var ≤ self.now.vars }
         ensures { result ≡ is_true_value (lit_value (values_of self.now.steps) lit) }
     {
-        self.assigned.is_true(lit.lit())
+        self.assigned.is_true(lit)
     }
 
     /// Whether a literal is false. The cost is one look-up.
@@ -126,7 +126,7 @@ impl Trail {
         requires { lit.var ≤ self.now.vars }
         ensures { result ≡ is_false_value (lit_value (values_of self.now.steps) lit) }
     {
-        self.assigned.is_false(lit.lit())
+        self.assigned.is_false(lit)
     }
 
     /// The level at which a variable was assigned, or None where it is open. The cost is one look-up.

@@ -1,55 +1,57 @@
 ghost use Rattle.std.specs.Prelude.{◌≡◌, ◌<◌, [], ◌∷◌, ◌++◌, length, OnOk, OnErr};
 ghost use Rattle.heesch_trail.specs.Watches.{IsWithout};
 
+use crate::entry::Entry;
 use heesch_io::NoMemory;
 use std::alloc::Global;
 use std::marker::Model;
 
-/// Indices of clauses, from 0.
+/// Entries of clauses.
 #[derive(Drop)]
 pub struct WatchList {
-    indices: Vec<u32>,
+    entries: Vec<Entry>,
 }
 
 impl Model for WatchList {
-    ghost use Rattle.std.specs.Prelude.{List, ℕ};
+    ghost use Rattle.std.specs.Prelude.{List};
+    ghost use Rattle.heesch_trail.specs.declared.entry.Entry.{Entry};
 
-    ghost Value = { List ℕ };
+    ghost Value = { List Entry };
 
-    ghost view = { λ l. l.indices.items };
+    ghost view = { λ l. l.entries.items };
 }
 
 impl WatchList {
-    /// No indices. It takes no memory.
+    /// No entries. It takes no memory.
     pub fn new(alloc: Global) -> WatchList
         ensures { result ≡ [] }
     {
         WatchList {
-            indices: Vec::new(alloc),
+            entries: Vec::new(alloc),
         }
     }
 
-    /// The indices. It takes no memory.
-    pub fn as_slice(&self) -> &[u32]
+    /// The entries. It takes no memory.
+    pub fn as_slice(&self) -> &[Entry]
         ensures { result.now ≡ self.now }
     {
-        self.indices.as_slice()
+        self.entries.as_slice()
     }
 
-    /// The index stands last, or nothing has changed. The cost is one write, as an average over many calls.
-    pub fn push(&mut self, index: u32) -> Result<(), NoMemory>
-        ensures ok { OnOk result (self.new ≡ self.old ++ index ∷ []) }
+    /// The entry stands last, or nothing has changed. The cost is one write, as an average over many calls.
+    pub fn push(&mut self, entry: Entry) -> Result<(), NoMemory>
+        ensures ok { OnOk result (self.new ≡ self.old ++ entry ∷ []) }
         ensures err { OnErr result (self.new ≡ self.old) }
     {
-        self.indices.push(index)?;
+        self.entries.push(entry)?;
         Ok(())
     }
 
-    /// The index at this place is gone, and the last one stands there. The cost is one write.
+    /// The entry at this place is gone, and the last one stands there. The cost is one write.
     pub fn remove(&mut self, place: usize)
         requires { place < length self.old }
         ensures { IsWithout place self.old self.new }
     {
-        let _ = self.indices.swap_remove(place);
+        let _ = self.entries.swap_remove(place);
     }
 }

@@ -1,17 +1,17 @@
-ghost use Rattle.std.specs.Prelude.{◌≡◌, ◌≢◌, ℕ, ◌+◌, ◌*◌, ◌<◌, ◌^◌, [], ◌∷◌, ◌++◌, length, set, replicate, None, Some, Contains, IfOk, OnOk, OnErr};
+ghost use Rattle.std.specs.Prelude.{◌≡◌, ◌≢◌, ℕ, ◌+◌, ◌*◌, ◌<◌, ◌^◌, ◌⊎◌, [], ◌∷◌, ◌++◌, length, set, replicate, None, Some, Contains, IfOk, OnOk, OnErr};
 ghost use Rattle.heesch_cnf.specs.Flat.{code_of};
-ghost use Rattle.heesch_trail.specs.Watches.{Watching, list_of, pair_of, AreKept, OthersStay, IsWithout, IsListed};
+ghost use Rattle.heesch_trail.specs.Watches.{Watching, list_of, pair_of, AreKept, OthersStay, IsWithout, IsListed, Names, IsEntry, AreMore, HasPushed};
 
-use crate::assigned::nones;
+use crate::entry::Entry;
 use crate::pair::Pair;
 use crate::watch_list::WatchList;
-use heesch_cnf::Lit;
+use heesch_cnf::{Lit, PackedLit};
 use heesch_io::NoMemory;
 use std::alloc::Global;
 use std::marker::Model;
 
 /// The two literals that watch a clause, where there are such, and for each literal the clauses that it watches. Clauses
-/// are named by indices from 0. A list may also have indices that its literal doesn't watch.
+/// are named by indices from 0. A list may also have entries of clauses that its literal doesn't watch: they are dropped when met.
 #[derive(Drop)]
 pub struct Watches {
     pairs: Vec<Option<Pair>>,
@@ -27,10 +27,17 @@ impl Model for Watches {
     ghost view = { λ w. record { pairs = w.pairs.items; lists = w.lists.items } };
 }
 
-fn code(lit: Lit) -> usize
-    ensures { result ≡ code_of lit }
+/// `count` places with nothing in them.
+fn nones<T: Drop>(alloc: Global, count: usize) -> Result<Vec<Option<T>>, NoMemory>
+    ensures { IfOk result (λ v. v.items ≡ replicate count None) }
 {
-    2 * lit.var as usize + lit.positive as usize
+    let mut places = Vec::new(alloc);
+    for _ in 0..count {
+        if places.push(None).is_err() {
+            return Err(NoMemory);
+        }
+    }
+    Ok(places)
 }
 
 fn no_lists(alloc: Global, vars: u32) -> Result<Vec<WatchList>, NoMemory>
@@ -89,44 +96,53 @@ impl Watches {
         }
     }
 
-    /// The indices of the clauses that the literal watches, and maybe others. The cost is one look-up.
-    pub fn list(&self, lit: Lit) -> &[u32]
+    /// The entries of the clauses that the literal watches, and maybe others. The cost is one look-up.
+    pub fn list(&self, lit: PackedLit) -> &[Entry]
         requires { code_of lit < length self.now.lists }
         ensures { result.now ≡ list_of self.now.lists lit }
     {
-        self.lists[code(lit)].as_slice()
+        self.lists[lit.code()].as_slice()
     }
 
-    fn push(&mut self, lit: Lit, index: u32) -> Result<(), NoMemory>
+    fn push(&mut self, lit: PackedLit, entry: Entry) -> Result<(), NoMemory>
         requires { code_of lit < length self.old.lists }
-        ensures ok { OnOk result (self.new ≡ record self.old { lists = set self.old.lists (code_of lit) (list_of self.old.lists lit ++ index ∷ []) }) }
+        ensures ok { OnOk result (self.new ≡ record self.old { lists = set self.old.lists (code_of lit) (list_of self.old.lists lit ++ entry ∷ []) }) }
         ensures err { OnErr result (self.new ≡ self.old) }
     {
-        self.lists[code(lit)].push(index)
+        self.lists[lit.code()].push(entry)
     }
 
-    /// The index stands in the literal's list.
-    fn enlist(&mut self, lit: Lit, index: u32) -> Result<(), NoMemory>
+    /// The literal's list names the clause of the index.
+    fn enlist(
+        &mut self,
+        lit: PackedLit,
+        index: u32,
+        beside: PackedLit,
+        binary: bool,
+    ) -> Result<(), NoMemory>
         requires fits { code_of lit < length self.old.lists }
+        requires small { index < 2 ^ 31 }
         requires listed { IsListed self.old index }
         ensures pairs { self.new.pairs ≡ self.old.pairs }
         ensures room { length self.new.lists ≡ length self.old.lists }
         ensures kept { AreKept self.old.lists self.new.lists }
         ensures others { OthersStay lit self.old.lists self.new.lists }
-        ensures there { IfOk result (λ _. Contains (list_of self.new.lists lit) index) }
+        ensures there { IfOk result (λ _. Names (list_of self.new.lists lit) index) }
+        ensures more { (e : Entry) → Contains (list_of self.new.lists lit) e → Contains (list_of self.old.lists lit) e ⊎ IsEntry index beside binary e }
     {
         if let Some(pair) = self.pair(index as usize)
             && pair.beside(lit).is_some()
         {
             return Ok(());
         }
-        self.push(lit, index)
+        self.push(lit, Entry::new(index, beside, binary))
     }
 
-    /// The pair watches the clause of an index from now on; at want of memory it is watched as before. The cost is that of
-    /// two writes, as an average over many calls.
-    pub fn watch(&mut self, index: u32, pair: Pair) -> Result<(), NoMemory>
+    /// The pair watches the clause of an index from now on, which has no other literals where it is binary; at want of memory
+    /// it is watched as before. The cost is that of two writes, as an average over many calls.
+    pub fn watch(&mut self, index: u32, pair: Pair, binary: bool) -> Result<(), NoMemory>
         requires place { index < length self.old.pairs }
+        requires small { index < 2 ^ 31 }
         requires one { code_of pair.one < length self.old.lists }
         requires other { code_of pair.other < length self.old.lists }
         requires listed { IsListed self.old index }
@@ -135,17 +151,33 @@ impl Watches {
         ensures room { length self.new.lists ≡ length self.old.lists }
         ensures kept { AreKept self.old.lists self.new.lists }
         ensures others { (l : Lit) → code_of l ≢ code_of pair.one → code_of l ≢ code_of pair.other → list_of self.new.lists l ≡ list_of self.old.lists l }
-        ensures one_there { IfOk result (λ _. Contains (list_of self.new.lists pair.one) index) }
-        ensures other_there { IfOk result (λ _. Contains (list_of self.new.lists pair.other) index) }
+        ensures one_there { IfOk result (λ _. Names (list_of self.new.lists pair.one) index) }
+        ensures other_there { IfOk result (λ _. Names (list_of self.new.lists pair.other) index) }
+        ensures more { AreMore pair index binary self.old.lists self.new.lists }
     {
-        self.enlist(pair.one, index)?;
-        self.enlist(pair.other, index)?;
+        self.enlist(pair.one, index, pair.other, binary)?;
+        self.enlist(pair.other, index, pair.one, binary)?;
         self.pairs[index as usize] = Some(pair);
         Ok(())
     }
 
-    /// The index at a place of the literal's list is gone from there. The cost is one write.
-    pub fn remove(&mut self, lit: Lit, place: usize)
+    /// The first literal of the pair watches the clause of an index in place of the one that stood beside the second; at want
+    /// of memory nothing has changed. The cost is that of two writes, as an average over many calls.
+    pub fn replace(&mut self, index: u32, pair: Pair) -> Result<(), NoMemory>
+        requires place { index < length self.old.pairs }
+        requires small { index < 2 ^ 31 }
+        requires one { code_of pair.one < length self.old.lists }
+        ensures pairs { OnOk result (self.new.pairs ≡ set self.old.pairs index (Some pair)) }
+        ensures pushed { OnOk result (HasPushed pair index self.old.lists self.new.lists) }
+        ensures err { OnErr result (self.new ≡ self.old) }
+    {
+        self.push(pair.one, Entry::new(index, pair.other, false))?;
+        self.pairs[index as usize] = Some(pair);
+        Ok(())
+    }
+
+    /// The entry at a place of the literal's list is gone from there. The cost is one write.
+    pub fn remove(&mut self, lit: PackedLit, place: usize)
         requires fits { code_of lit < length self.old.lists }
         requires place { place < length (list_of self.old.lists lit) }
         ensures pairs { self.new.pairs ≡ self.old.pairs }
@@ -153,6 +185,6 @@ impl Watches {
         ensures without { IsWithout place (list_of self.old.lists lit) (list_of self.new.lists lit) }
         ensures others { OthersStay lit self.old.lists self.new.lists }
     {
-        self.lists[code(lit)].remove(place);
+        self.lists[lit.code()].remove(place);
     }
 }

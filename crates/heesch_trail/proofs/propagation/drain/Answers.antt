@@ -1,32 +1,27 @@
-use Rattle.std.proofs.Common.{◌+◌, ◌<◌, false, length, sym, subst, ◌∙◌, arith}
-use Rattle.heesch_cnf.specs.declared.literal.Lit.{Lit}
+use Rattle.std.proofs.Common.{◌+◌, ◌<◌, length, sym, subst, ◌∙◌, arith}
 use Rattle.heesch_trail.specs.Seen.{AreVisitedBy}
 use Rattle.heesch_trail.proofs.Visits.{more_steps}
 use Rattle.heesch_trail.proofs.Guards.{GoesOn-both}
-use Rattle.heesch_trail.proofs.Rounds.{none_of, Opposite-at, Made-few, Turned-at, Fits-opposite, Seen-next, Seen-fixpoint, AreSeen-as_many, AreSeen-all}
+use Rattle.heesch_trail.proofs.Rounds.{none_of, Made-few, Turned-at, Fits-opposite, Seen-next, Seen-fixpoint, AreSeen-as_many, AreSeen-all}
 use Rattle.heesch_trail.proofs.propagation.drain.Goals as goal
 
 pub visit_list-requires-clause-fits : goal.visit_list-requires-clause-fits
 visit_list-requires-clause-fits c =
     let t = c.loop-head.assigned in
     let go = c.loop-head.invariant.goes_on in
-    let blank : Lit = record { var = 0; positive = false } in
     let few = Made-few t.steps c.made.result.now c.made.ensures.made in
-    let few_again = Made-few t.steps c.made-in-loop-head.result.now c.made-in-loop-head.ensures.made in
     let lt : c.loop-head.head < length t.steps = omega (arith, few, c.loop-head-test.true) in
-    Fits-opposite t (length c.loop-head.watches.lists) c.loop-head.head c.opposite-lit.result go.valid lt go.whole.room
-    (Opposite-at t.steps c.made-in-loop-head.result.now c.loop-head.head blank c.opposite-lit.result c.made-in-loop-head.ensures.made (omega (arith, lt, few_again)) c.opposite-lit.ensures)
+    Fits-opposite t (length c.loop-head.watches.lists) c.loop-head.head c.turned-lit.result go.valid lt go.whole.room
+    c.turned-lit.ensures
 
 pub visit_list-requires-clause-turned : goal.visit_list-requires-clause-turned
 visit_list-requires-clause-turned c =
     let t = c.loop-head.assigned in
     let go = c.loop-head.invariant.goes_on in
-    let blank : Lit = record { var = 0; positive = false } in
     let few = Made-few t.steps c.made.result.now c.made.ensures.made in
-    let few_again = Made-few t.steps c.made-in-loop-head.result.now c.made-in-loop-head.ensures.made in
     let lt : c.loop-head.head < length t.steps = omega (arith, few, c.loop-head-test.true) in
-    Turned-at t c.loop-head.head c.opposite-lit.result go.valid lt
-    (Opposite-at t.steps c.made-in-loop-head.result.now c.loop-head.head blank c.opposite-lit.result c.made-in-loop-head.ensures.made (omega (arith, lt, few_again)) c.opposite-lit.ensures)
+    Turned-at t c.loop-head.head c.turned-lit.result go.valid lt
+    c.turned-lit.ensures
 
 pub returns-in_err-found-clause-goes_on : goal.returns-in_err-found-clause-goes_on
 returns-in_err-found-clause-goes_on c =
@@ -51,18 +46,15 @@ loop-head-preserved c =
     let watched = c.loop-head.watches in
     let watching = c.visit_list.new.watches in
     let on = c.visit_list.ensures.goes_on in
-    let blank : Lit = record { var = 0; positive = false } in
     let few = Made-few t.steps c.made.result.now c.made.ensures.made in
-    let few_again = Made-few t.steps c.made-in-loop-head.result.now c.made-in-loop-head.ensures.made in
     let lt : c.loop-head.head < length t.steps = omega (arith, few, c.loop-head-test.true) in
-    let at = Opposite-at t.steps c.made-in-loop-head.result.now c.loop-head.head blank c.opposite-lit.result c.made-in-loop-head.ensures.made (omega (arith, lt, few_again)) c.opposite-lit.ensures in
     let none = none_of c.in_ok-found.found (sym c.is_some.ensures ∙ c.if-is_some.false) in
-    let visited = subst (AreVisitedBy new watching c.opposite-lit.result) none c.in_ok-found.ensures.found in
+    let visited = subst (AreVisitedBy new watching c.turned-lit.result) none c.in_ok-found.ensures.found in
     let more = more_steps t new on.steps in
     record {
       goes_on = GoesOn-both c.args.assigned.now t new c.args.watches.now watched watching c.loop-head.invariant.goes_on on;
       visited = omega (arith, lt, more);
-      seen = AreSeen-as_many t new watching (c.loop-head.head + 1) on.steps (Seen-next t new watched watching c.loop-head.head (length t.clauses) c.opposite-lit.result on lt c.loop-head.invariant.seen at visited);
+      seen = AreSeen-as_many t new watching (c.loop-head.head + 1) on.steps (Seen-next t new watched watching c.loop-head.head (length t.clauses) c.turned-lit.result on lt c.loop-head.invariant.seen c.turned-lit.ensures visited);
     }
 
 pub returns-clause-found : goal.returns-clause-found

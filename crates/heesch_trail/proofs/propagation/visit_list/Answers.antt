@@ -1,4 +1,7 @@
-use Rattle.std.proofs.Common.{◌≤◌, length, get_or, sym, subst, ◌∙◌}
+use Rattle.std.proofs.Common.{ap, false, Contains, ◌<◌, ◌≤◌, length, sym, subst, ◌∙◌}
+use Rattle.std.proofs.lemmas.List.{get_or_default}
+use Rattle.heesch_trail.specs.declared.entry.Entry.{Entry}
+use Rattle.heesch_trail.specs.Watches.{index_at, index_of}
 use Rattle.heesch_trail.specs.Seen.{IsVisitBy, IsUnwatched}
 use Rattle.heesch_trail.proofs.Visits.{Value-continues}
 use Rattle.heesch_trail.proofs.Guards.{GoesOn-both}
@@ -9,6 +12,13 @@ pub visit_by-requires-clause-turned : goal.visit_by-requires-clause-turned
 visit_by-requires-clause-turned c =
     let go = c.loop-place.invariant.goes_on in
     Value-continues c.args.assigned.now c.loop-place.assigned c.args.lit _ go.valid go.steps c.requires.turned
+
+pub visit_by-requires-clause-sound : goal.visit_by-requires-clause-sound
+visit_by-requires-clause-sound c =
+    let go = c.loop-place.invariant.goes_on in
+    let e = c.index-list-place.result in
+    let lt = subst (λ xs. c.loop-place.place < length xs) (c.list.ensures ∙ sym c.list-in-loop-place.ensures) c.loop-place-test.true in
+    go.whole.sound c.args.lit e (subst (λ xs. Contains xs e) c.list-in-loop-place.ensures (c.loop-place.place, lt, sym c.index-list-place.is))
 
 pub returns-in_err-visit_by-clause-goes_on : goal.returns-in_err-visit_by-clause-goes_on
 returns-in_err-visit_by-clause-goes_on c =
@@ -26,10 +36,14 @@ loop-place-preserved-in-HasTrue c =
     let watching = c.visit_by.new.watches in
     let go = c.loop-place.invariant.goes_on in
     let turned = Value-continues c.args.assigned.now mid c.args.lit _ go.valid go.steps c.requires.turned in
+    let list = c.list-in-loop-place.result.now in
+    let blank : Entry = record { mark = 0; blocker = record { var = 0; positive = false } } in
+    let below = subst (λ xs. c.loop-place.place < length xs) (c.list.ensures ∙ sym c.list-in-loop-place.ensures) c.loop-place-test.true in
+    let at = ap index_of (c.index-list-place.is ∙ get_or_default list c.loop-place.place c.index-list-place.result blank below) in
     record {
       goes_on = GoesOn-both c.args.assigned.now mid new c.args.watches.now watched watching go c.visit_by.ensures.goes_on;
       passed = Passed-true mid new watched watching c.args.lit c.loop-place.place c.list-in-loop-place.result.now c.visit_by.ensures.goes_on turned c.list-in-loop-place.ensures c.visit_by.ensures.stays c.loop-place.invariant.passed
-          (subst (IsVisitBy new watching c.args.lit (get_or c.list-in-loop-place.result.now c.loop-place.place 0)) c.in-HasTrue.is c.in_ok-visit_by.ensures.found);
+          (subst (IsVisitBy new watching c.args.lit (index_at list c.loop-place.place)) c.in-HasTrue.is (subst (λ k. IsVisitBy new watching c.args.lit k c.in_ok-visit_by.field-0) at c.in_ok-visit_by.ensures.found));
     }
 
 pub loop-place-preserved : goal.loop-place-preserved
@@ -42,13 +56,16 @@ loop-place-preserved c =
     let go = c.loop-place.invariant.goes_on in
     let turned = Value-continues c.args.assigned.now mid c.args.lit _ go.valid go.steps c.requires.turned in
     let list = c.list-in-loop-place.result.now in
+    let blank : Entry = record { mark = 0; blocker = record { var = 0; positive = false } } in
+    let below = subst (λ xs. c.loop-place.place < length xs) (c.list.ensures ∙ sym c.list-in-loop-place.ensures) c.loop-place-test.true in
+    let at = ap index_of (c.index-list-place.is ∙ get_or_default list c.loop-place.place c.index-list-place.result blank below) in
     let un =
-    subst (λ xs. IsUnwatched watching c.args.lit (get_or xs c.loop-place.place 0)) (c.list-in-loop-place.ensures ∙ sym c.visit_by.ensures.stays)
-    (subst (IsVisitBy new watching c.args.lit (get_or list c.loop-place.place 0)) c.in-Watched.is c.in_ok-visit_by.ensures.found) in
+    subst (λ xs. IsUnwatched watching c.args.lit (index_at xs c.loop-place.place)) (c.list-in-loop-place.ensures ∙ sym c.visit_by.ensures.stays)
+    (subst (IsVisitBy new watching c.args.lit (index_at list c.loop-place.place)) c.in-Watched.is (subst (λ k. IsVisitBy new watching c.args.lit k c.in_ok-visit_by.field-0) at c.in_ok-visit_by.ensures.found)) in
     let on = GoesOn-both c.args.assigned.now mid new c.args.watches.now watched watching go c.visit_by.ensures.goes_on in
     record {
       goes_on = GoesOn-both c.args.assigned.now new new c.args.watches.now watching without on
-          (GoesOn-without new watching without c.args.lit c.loop-place.place on.valid on.whole un c.remove.ensures.pairs c.remove.ensures.room c.remove.ensures.without c.remove.ensures.others);
+          (GoesOn-without new watching without c.args.lit c.loop-place.place on.valid on.whole un (let lt = c.loop-place-test.true in subst (λ xs. c.loop-place.place < length xs) (c.list.ensures ∙ sym c.visit_by.ensures.stays) lt) c.remove.ensures.pairs c.remove.ensures.room c.remove.ensures.without c.remove.ensures.others);
       passed = Passed-without new watching without c.args.lit c.loop-place.place c.remove.ensures.pairs c.remove.ensures.without (Passed-before mid new watched watching c.args.lit c.loop-place.place c.visit_by.ensures.goes_on turned c.visit_by.ensures.stays c.loop-place.invariant.passed);
     }
 

@@ -1,9 +1,15 @@
-use Rattle.std.proofs.Common.{None, ap, ◌∙◌, arith}
+use Rattle.std.proofs.Common.{◌+◌, ◌*◌, true, ap, ◌∙◌, arith}
+use Rattle.std.proofs.lemmas.List.{get_or_default}
+use Rattle.heesch_cnf.specs.declared.literal.Lit.{Lit}
+use Rattle.heesch_trail.specs.declared.truth.Truth.TheVariants.{Open}
 use Rattle.heesch_trail.specs.State.{State, values_of}
-use Rattle.heesch_trail.proofs.Inner.{read_held}
+use Rattle.heesch_trail.specs.Inner.{value_in}
 use Rattle.heesch_trail.proofs.assigned.Assigned.value.Goals as goal
 
 pub returns : goal.returns
 returns c =
-    read_held c.self.inside.values.items c.args.var _ None (values_of c.self.inside.steps.items) c.index.ensures (omega (arith, c.self.invariant.room, ap (λ (s : State). s.vars) c.self.view_is, c.requires)) c.self.invariant.values_are
-    ∙ ap (λ (s : State). values_of s.steps c.args.var) c.self.view_is
+    let t = c.self.inside in
+    let l : Lit = record { var = c.args.var; positive = true } in
+    let vars = ap (λ (s : State). s.vars) c.self.view_is in
+    c.value.ensures ∙ ap value_in (c.index.ensures ∙ get_or_default t.values.items (2 * c.args.var + 1) c.index.result.now Open (omega (arith, c.self.invariant.room, vars, c.requires)))
+    ∙ c.self.invariant.values_are l (omega (arith, vars, c.requires)) ∙ ap (λ (s : State). values_of s.steps c.args.var) c.self.view_is

@@ -1,5 +1,5 @@
 use Rattle.std.proofs.Common.{◌≡◌, replicate, None}
-use Rattle.heesch_trail.proofs.assigned.nones.Given as goal
+use Rattle.heesch_trail.proofs.watches.nones.Given as goal
 
 abbrev pub invariant-loop : goal.invariant-loop
 invariant-loop g l = l.places.items ≡ replicate l.counter None

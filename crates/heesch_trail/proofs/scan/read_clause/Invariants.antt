@@ -1,7 +1,0 @@
-use Rattle.std.proofs.Common.{◌≡◌, take, option_to_list}
-use Rattle.heesch_cnf.specs.Literals.{held}
-use Rattle.heesch_cnf.specs.Clauses.{left_of}
-use Rattle.heesch_trail.proofs.scan.read_clause.Given as goal
-
-abbrev pub invariant-loop-packed : goal.invariant-loop-packed
-invariant-loop-packed l = left_of (held l.values) (take l.packed-index l.clause) ≡ option_to_list l.left
