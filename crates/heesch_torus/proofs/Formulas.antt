@@ -17,7 +17,7 @@ use Rattle.heesch_grid.proofs.ListFacts.{All-from_members}
 use Rattle.heesch_grid.specs.Polyform.{IsPolyform}
 use Rattle.heesch_cdcl.proofs.Counting.{few_lines}
 use Rattle.heesch_cert.specs.Literals.{literals}
-use Rattle.heesch_cert.specs.Proofs.{HasNoGiven, RefutesTorus}
+use Rattle.heesch_cert.specs.Proofs.{RefutesTorus}
 use Rattle.heesch_cert.proofs.Bridge.{satisfied_log, log_satisfied}
 use Rattle.heesch_cert.proofs.TorusSound.{refuted_torus_means_no_cover}
 use Rattle.heesch_torus.specs.Answer.{IsRefutation, IsSpentSearch}
