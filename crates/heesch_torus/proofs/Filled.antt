@@ -1,7 +1,7 @@
 -- Covers as masks of tiles: each cover has one of which a tile of its least turn stands at (0, 0), and its masks have each point once.
-use Rattle.std.proofs.Common.{◌≡◌, refl, sym, ap, subst, ◌∙◌, ℕ, zero, suc, ◌+◌, ◌-◌, ◌*◌, ◌%◌, ◌^◌, ◌<◌, ◌≤◌, List, [], ◌∷◌, ◌++◌, map, filter, length, take, get_or, Bool, true, false, cond, ◌⊎◌, inl, inr, arith, bit_or, All, Contains, eq-eqb}
+use Rattle.std.proofs.Common.{◌≡◌, refl, sym, ap, subst, ◌∙◌, ℕ, zero, suc, ◌+◌, ◌-◌, ◌*◌, ◌%◌, ◌^◌, ◌<◌, ◌≤◌, List, [], ◌∷◌, ◌++◌, map, length, take, get_or, cond, ◌⊎◌, inl, inr, arith, bit_or, All, Contains}
 use Rattle.std.specs.Prelude.{ℤ, pos, neg_ℤ, ◌+ℤ◌, ◌*ℤ◌, ◌≤ℤ◌, ◌<ℤ◌, ◌==◌, Some, None, nat_lt, unwrap_or}
-use Rattle.std.specs.List.{count_by, slice_get}
+use Rattle.std.specs.List.{slice_get}
 use Rattle.std.specs.Int.{bit_at}
 use Rattle.std.proofs.lemmas.Int.{ints}
 use Rattle.std.proofs.lemmas.Nat.Bits.{bit_at-zero, bit_at-lt}
@@ -11,7 +11,7 @@ use Rattle.std.proofs.lemmas.List.Sums.{sum_by-cons, sum_by_push}
 use Rattle.std.proofs.lemmas.List.Elements.{All-contains}
 use Rattle.heesch_grid.specs.declared.Cell.{Cell}
 use Rattle.heesch_grid.specs.declared.isometries.Iso.{Iso}
-use Rattle.heesch_grid.specs.Listing.{ListsExactly, HoldsOnce}
+use Rattle.heesch_grid.specs.Listing.{HoldsOnce}
 use Rattle.heesch_grid.specs.Geometry.{Geometry, IsGrid, IsCell, IsIsometry, moved, apply, image}
 use Rattle.heesch_grid.specs.Lattice.{Triple, IsTriple, IsReduced, translated}
 use Rattle.heesch_grid.specs.Polyform.{IsPolyform}
@@ -26,7 +26,7 @@ use Rattle.heesch_tiling.proofs.Tallies.{times_append}
 use Rattle.heesch_torus.specs.Formula.{reduced_cells}
 use Rattle.heesch_torus.specs.Beside.{with_bit, FillBeside}
 use Rattle.heesch_torus.specs.Masks.{IsMaskOf, HasDouble, AddsMasks, HasMasksFrom}
-use Rattle.heesch_torus.specs.Covers.{HasAllPoints, AreFewNodes, unmoved, IsTileMask, AreExactMasks, HasNoCoverAt}
+use Rattle.heesch_torus.specs.Covers.{HasAllPoints, unmoved, IsTileMask, AreExactMasks, HasNoCoverAt}
 use Rattle.heesch_torus.proofs.Beside.{bit_cases, power_more, index_of}
 use Rattle.heesch_torus.proofs.Numbering.{reduced_listed}
 use Rattle.heesch_torus.proofs.Masking.{one_mask, no_mask, mask_more, mask_double, masks_of_turn}

@@ -1,5 +1,5 @@
 -- What the search for a cover that keeps no log answers.
-use Rattle.std.specs.Prelude.{◌≡◌, ◌<◌, ◌≤◌, ◌*◌, ◌^◌, ◌⊎◌, ◌↔◌, ℕ, pos, true, false, Bool, Some, List, [], ◌∷◌, length, slice_index_or, cond, nat_lt, All, Contains}
+use Rattle.std.specs.Prelude.{◌≡◌, ◌<◌, ◌≤◌, ◌*◌, ◌^◌, ◌⊎◌, ◌↔◌, ℕ, pos, true, false, Bool, Some, List, ◌∷◌, length, slice_index_or, cond, nat_lt, All, Contains}
 use Rattle.std.specs.List.{slice_get}
 use Rattle.std.specs.Int.{bit_at}
 use Rattle.heesch_grid.specs.declared.Cell.{Cell}

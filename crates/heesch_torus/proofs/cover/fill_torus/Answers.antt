@@ -1,15 +1,8 @@
-use Rattle.std.proofs.Common.{◌≡◌, ℕ, List, length, ◌+◌, ◌-◌, ◌*◌, ◌^◌, ◌<◌, ◌≤◌, All, Contains, inl, inr, sym, ap, subst, ◌∙◌, arith}
-use Rattle.std.proofs.lemmas.Bool.{cases_order}
-use Rattle.heesch_grid.specs.declared.Cell.{Cell}
-use Rattle.heesch_grid.specs.Geometry.{IsCell}
-use Rattle.heesch_grid.proofs.CellFacts.{has-is}
-use Rattle.std.proofs.lemmas.List.Elements.{All-contains}
+use Rattle.std.proofs.Common.{◌≡◌, ℕ, List, length, ◌-◌, ◌*◌, ◌^◌, ◌<◌, All, Contains, subst, arith}
 use Rattle.heesch_tiling.proofs.Steps.{cells_near}
-use Rattle.heesch_torus.specs.declared.filling.Filling.TheVariants.{Filled, None, Open}
 use Rattle.heesch_torus.specs.Beside.{FillBeside}
-use Rattle.heesch_torus.specs.Masks.{IsMaskOf, AddsMasks, HasMasksFrom}
-use Rattle.heesch_torus.specs.Covers.{unmoved, HasNoCoverAt, IsFillingAt}
-use Rattle.heesch_torus.proofs.Masking.{masks_of_turn, no_masks_from}
+use Rattle.heesch_torus.specs.Masks.{IsMaskOf, HasMasksFrom}
+use Rattle.heesch_torus.specs.Covers.{unmoved, IsFillingAt}
 use Rattle.heesch_torus.proofs.Filled.{masks_now, next_masks, next_none, masks_few, no_cover, few_nodes, used_more}
 use Rattle.heesch_torus.proofs.cover.fill_torus.Goals as goal
 
