@@ -8,4 +8,3 @@ pub mod Marks
 pub mod Chosen
 pub mod Answer
 pub mod Outcome
-pub mod Covers

@@ -6,7 +6,6 @@ mod clauses;
 mod covering;
 mod formula;
 mod found;
-mod masks;
 mod outcome;
 mod pairs;
 mod places;
@@ -16,7 +15,6 @@ mod window;
 
 pub use answer::{TorusAnswer, search};
 pub use formula::torus_formula;
-pub use masks::{CoverAnswer, find_cover};
 
 #[cfg(test)]
 mod tests;
