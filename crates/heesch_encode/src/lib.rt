@@ -1,6 +1,7 @@
 //! The corona formula E(S, j) of a polyform and a level.
 #![tactic(auto)]
 
+mod around;
 mod clauses;
 mod collector;
 mod desk;
@@ -10,6 +11,7 @@ mod lists;
 mod marks;
 mod meeting;
 mod ring;
+
 mod stop;
 
 pub use encoding::{Encoded, FlatEncoded, encode, encode_flat};
