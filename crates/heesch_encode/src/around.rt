@@ -25,11 +25,7 @@ pub(crate) struct TurnedRing {
 }
 
 /// The cells around the shape under turn k.
-fn turned_ring<G: Grid>(
-    alloc: Global,
-    shape: &Shape<G>,
-    k: u32,
-) -> Result<TurnedRing, NoMemory>
+fn turned_ring<G: Grid>(alloc: Global, shape: &Shape<G>, k: u32) -> Result<TurnedRing, NoMemory>
     requires turn { k < G.geometry.turns }
     requires near { (c : Cell) → has shape.now c ≡ true → IsWithin 200 c }
     ensures { IfOk result (IsTurnedRing G.geometry shape.now k) }

@@ -218,7 +218,16 @@ fn take_family<G: Grid>(
         → IsTaken result collector.old collector.new (flat_map (clauses_at family G.geometry around shape.now level universe.now.vars) (enumerate_from 1 universe.now.vars)) }
 {
     for i in 0..universe.count() {
-        take_of(universe, rings, shape, level, family, i + 1, desk, collector)?;
+        take_of(
+            universe,
+            rings,
+            shape,
+            level,
+            family,
+            i + 1,
+            desk,
+            collector,
+        )?;
     }
     Ok(())
 }
@@ -262,5 +271,13 @@ pub(crate) fn take_formula<G: Grid>(
         &mut desk,
         collector,
     )?;
-    take_family(universe, rings, shape, level, Family::Apart, &mut desk, collector)
+    take_family(
+        universe,
+        rings,
+        shape,
+        level,
+        Family::Apart,
+        &mut desk,
+        collector,
+    )
 }

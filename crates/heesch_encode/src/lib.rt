@@ -11,7 +11,6 @@ mod lists;
 mod marks;
 mod meeting;
 mod ring;
-
 mod stop;
 
 pub use encoding::{Encoded, FlatEncoded, encode, encode_flat};
