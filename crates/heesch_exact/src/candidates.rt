@@ -10,7 +10,8 @@ use std::alloc::Global;
 pub(crate) fn within(alloc: Global, masks: &[u64], points: u64) -> Result<Vec<u32>, NoMemory>
     requires { length masks.now < 2 ^ 31 }
     ensures candidates { IfOk result (λ numbers. AreCandidates masks.now points numbers.items) }
-    ensures all { IfOk result (λ numbers. (i : ℕ) → i < length masks.now → IsPart (slice_index masks.now i) points → Contains numbers.items i) }
+    ensures all { IfOk result (λ numbers. (i : ℕ) → i < length masks.now → IsPart (slice_index masks.now i) points
+        → Contains numbers.items i) }
     ensures few { IfOk result (λ numbers. vec_len numbers ≤ length masks.now) }
 {
     let mut numbers = Vec::new(alloc);

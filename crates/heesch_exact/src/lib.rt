@@ -1,7 +1,7 @@
 //! Exact covers: which of some sets have each of given points exactly once. A set of at most 64 points is a mask.
 //!
-//! The method is Knuth's for the exact cover problem ("Dancing Links", 2000) over words: a node covers the point that
-//! the fewest candidates have, by each of them in turn, and the counts are kept one bit a point.
+//! The method is Knuth's for exact covers ("Dancing Links", 2000), over words in place of links: a node covers a point
+//! that few candidates have, by each of them in turn, and counts the candidates of all points at once, one bit a point.
 #![tactic(auto)]
 
 mod candidates;
@@ -32,11 +32,12 @@ pub enum CoverAnswer {
 
 /// Which of the sets have each of the points exactly once, and no other point.
 ///
-/// A point is a number below 64, and a mask has it where that bit is set. Each node of the search takes one of `nodes`
-/// and counts, for each point that is left, the candidates that have it, up to three. Where a point has none, the branch ends;
-/// else the least point with one is covered next, or the least with two, or the first that is left. So a node costs one
-/// pass over its candidates, and one more for each of them that it tries; there are at most 2^n nodes for n sets, and the
-/// search is at most 64 deep. `Open` comes only where the nodes are used up.
+/// A point is a number below 64, and a mask has it where that bit is set. A node of the search takes one of `nodes`, and
+/// counts for each point that is left the candidates that have it, up to three. Where a point has none, the branch ends;
+/// else the least point with one candidate is covered next, else the least with two, else the least that is left. So a
+/// node costs one pass over its candidates, and one more for each of them that it tries. There are at most 2^n nodes for
+/// n sets, and `Open` comes only where `nodes` was below that; the search is at most 64 deep. Memory is taken for the
+/// candidates of the nodes on the way alone.
 pub fn exact_cover(
     alloc: Global,
     masks: &[u64],

@@ -30,7 +30,8 @@ pub(crate) struct Search {
 }
 
 impl Search {
-    /// Covers the points that are left by candidates from this place on. The search is at most as deep as points are left.
+    /// Covers the points that are left by candidates from this place on. It calls itself at most as deep as points are
+    /// left, since each set that is chosen has one of them.
     #[cycle(search)]
     pub(crate) fn cover(
         &mut self,
