@@ -357,8 +357,8 @@ module _ (g : Geometry) (law : IsGrid g) (shape : List Cell) (form : IsPolyform 
         member = apply g x.0 m.0;
         in_tile = member_map (apply g x.0) shape m.0 m.1;
         is = sym (back da db c)
-        ∙ ap (moved g (neg_ℤ da) (neg_ℤ db)) (h.is ∙ ap (translated g t k.1 k.2) member ∙ translated_moved da db k.1 k.2 (apply g x.0 m.0))
-        ∙ back da db (translated g t k.1 k.2 (apply g x.0 m.0));
+            ∙ ap (moved g (neg_ℤ da) (neg_ℤ db)) (h.is ∙ ap (translated g t k.1 k.2) member ∙ translated_moved da db k.1 k.2 (apply g x.0 m.0))
+            ∙ back da db (translated g t k.1 k.2 (apply g x.0 m.0));
       }
 
   shifted_cover : (da db : ℤ) (places : List Iso) → IsPeriodicCover g shape t places → IsPeriodicCover g shape t (map (shifted da db) places)

@@ -77,9 +77,9 @@ module _ (g : Geometry) (law : IsGrid g) (shape : List Cell) (form : IsPolyform 
   set_of_mask by p m is =
       let xs : List Cell = tile_residues g shape t by in
       let few : (c : Cell) → Contains (tile_residues g shape t by) c → times_in (tile_residues g shape t by) c ≤ 1 = λ c i.
-          let k = point_of c (from_tile g law shape form t triple by p c i).reduced in
-          let e = is.cells k.0 c k.1 in
-          elim (bit_cases m k.0) [ inl z ↦ omega arith | inr o ↦ omega arith ]
+      let k = point_of c (from_tile g law shape form t triple by p c i).reduced in
+      let e = is.cells k.0 c k.1 in
+      elim (bit_cases m k.0) [ inl z ↦ omega arith | inr o ↦ omega arith ]
       in
       record {
         is_isometry = p;
@@ -110,9 +110,9 @@ module _ (g : Geometry) (law : IsGrid g) (shape : List Cell) (form : IsPolyform 
   -- masks that are one are of one residue set
   one_set : (a b : Iso) (m : ℕ) (r s : List Cell) → IsMaskOf g shape t a m → IsMaskOf g shape t b m → GivesResidues g shape t r a → GivesResidues g shape t s b → r ≡ s
   one_set a b m r s p q gr gs =
-    same_rising cell_before cell_before-irreflexive cell_before-asymmetric r s gr.lists.rising gs.lists.rising
-    (λ c i. let k = point_of c (reduced_member r a gr c i) in has-true s c (bit_set s c (sym (bit_is b m s q gs k.0 c k.1) ∙ bit_is a m r p gr k.0 c k.1 ∙ set_bit r c (has-is r c i))))
-    (λ c i. let k = point_of c (reduced_member s b gs c i) in has-true r c (bit_set r c (sym (bit_is a m r p gr k.0 c k.1) ∙ bit_is b m s q gs k.0 c k.1 ∙ set_bit s c (has-is s c i))))
+      same_rising cell_before cell_before-irreflexive cell_before-asymmetric r s gr.lists.rising gs.lists.rising
+      (λ c i. let k = point_of c (reduced_member r a gr c i) in has-true s c (bit_set s c (sym (bit_is b m s q gs k.0 c k.1) ∙ bit_is a m r p gr k.0 c k.1 ∙ set_bit r c (has-is r c i))))
+      (λ c i. let k = point_of c (reduced_member s b gs c i) in has-true r c (bit_set r c (sym (bit_is a m r p gr k.0 c k.1) ∙ bit_is b m s q gs k.0 c k.1 ∙ set_bit s c (has-is s c i))))
 
   -- a mask of one tile is that of each other with its residue set
   mask_of_set : (a b : Iso) (m : ℕ) (r : List Cell) → IsMaskOf g shape t a m → GivesResidues g shape t r a → GivesResidues g shape t r b → IsMaskOf g shape t b m

@@ -37,7 +37,7 @@ loop-done-preserved g c =
       masks = next_masks g.G.Grid.geometry g.met.G.Grid.laws c.args.cells.now c.requires.form c.args.triple c.requires.triple c.args.full c.requires.full c.requires.few c.TURNS.result c.loop-done.done turns less c.add_masks.new.masks.items (subst (HasMasksFrom g.G.Grid.geometry c.args.cells.now c.args.triple (c.TURNS.result - 1 - c.loop-done.done)) c.deref.ensures.value have);
       none = next_none g.G.Grid.geometry g.met.G.Grid.laws c.args.cells.now c.requires.form c.args.triple c.requires.triple c.args.full c.requires.full c.requires.few c.TURNS.result c.loop-done.done turns less c.deref.result.now have none c.loop-done.invariant.none;
       used = used_more c.args.nodes c.loop-done.left c.fill_at.new.nodes c.loop-done.done (g.G.Grid.geometry.turns * (c.args.triple.p * c.args.triple.q)) (length c.deref.result.now)
-      (masks_few g.G.Grid.geometry g.met.G.Grid.laws c.args.cells.now c.requires.form c.args.triple c.requires.triple c.args.full c.requires.full c.requires.few c.TURNS.result c.loop-done.done turns less c.deref.result.now have) c.loop-done.invariant.used c.in_ok-filling.ensures.used;
+          (masks_few g.G.Grid.geometry g.met.G.Grid.laws c.args.cells.now c.requires.form c.args.triple c.requires.triple c.args.full c.requires.full c.requires.few c.TURNS.result c.loop-done.done turns less c.deref.result.now have) c.loop-done.invariant.used c.in_ok-filling.ensures.used;
     }
 
 pub returns : goal.returns
