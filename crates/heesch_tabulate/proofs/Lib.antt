@@ -1,3 +1,7 @@
 mod Answering
+mod Cuts
 mod EntryCounts
+pub mod OneTabulation
+mod Shapes
 mod Standing
+mod Whole
