@@ -3,6 +3,7 @@ use Rattle.std.proofs.Common.{◌≡◌, ◌⊎◌, inl, inr, ℕ, ◌<◌, ◌�
 use Rattle.std.specs.Io.KnownBytes.{Consumes, IsAtEnd}
 use Rattle.std.proofs.lemmas.List.{append-nil}
 use Rattle.heesch_grid.specs.declared.Cell.{Cell}
+use Rattle.heesch_grid.specs.declared.GridName.{GridName}
 use Rattle.heesch_grid.specs.Names.{geometry_of}
 use Rattle.heesch_cert.specs.declared.verdict.Verdict.{Verdict}
 use Rattle.heesch_text.specs.declared.line.Line.{Line}
@@ -32,7 +33,7 @@ use Rattle.heesch_tabulate.specs.Entries.{entries_of, IsEntryAt, IsOfGrid, AreSh
 use Rattle.heesch_tabulate.specs.Steps.{IsOnward, HasTable, AreReady, CountsItems, StopsAtFault}
 use Rattle.heesch_tabulate.specs.Tabulating.{IsTallied, AreWholeAt, HasShapeFault, HasTextFault, HasLengthFault, ReadsNoFurther}
 use Rattle.heesch_tabulate.proofs.Standing.{all_both, entries_append, ready}
-use Rattle.heesch_tabulate.proofs.Whole.{WholeAt, StandAt, stand_at, last_is_end, entry_whole}
+use Rattle.heesch_reader.proofs.Whole.{IsEntryItem, WholeAt, StandAt, stand_at, last_is_end, entry_whole}
 
 -- what was read so far was counted
 pub record Going (first now : Option (List ℕ)) (s : Streamed) (t : Table) : Type 0 where
@@ -113,17 +114,17 @@ None_ next = ⊥
 is_empty : List ℕ → Type 0
 is_empty next = next ≡ []
 
-begun_whole : (input bytes behind : List ℕ) (front back : List Item) (item : Item) (line : ℕ) (cells : List Cell) → IsEntryAt item line cells → input ≡ bytes ++ behind → length bytes ≤ 1099511627776 → (held : List Line) (left : List ℕ) (reached : Progress)
+begun_whole : (input bytes behind : List ℕ) (front back : List Item) (item : Item) → IsEntryItem item → input ≡ bytes ++ behind → length bytes ≤ 1099511627776 → (held : List Line) (left : List ℕ) (reached : Progress)
     → Stands none_appended bytes (front ++ item ∷ back) held left reached → IsShown (with_items none_appended (front ++ item ∷ back)) (text_of held ++ left) → AreWholeAt input (front ++ item ∷ [])
 unfolding None_
-begun_whole input bytes behind front back item line cells is split few held left reached s shown =
-    ends_here input bytes behind (front ++ item ∷ []) None_ split few (λ next q. absurd q) (entry_whole None_ bytes front back item line cells held left reached is (stand_at bytes (front ++ item ∷ back) held left reached s) (λ none. s.items_lead) (λ some going. inl (shown some going)))
+begun_whole input bytes behind front back item is split few held left reached s shown =
+    ends_here input bytes behind (front ++ item ∷ []) None_ split few (λ next q. absurd q) (entry_whole None_ bytes front back item held left reached is (stand_at bytes (front ++ item ∷ back) held left reached s) (λ none. s.items_lead) (λ some going. inl (shown some going)))
 
-ended_whole : (input bytes behind : List ℕ) (front back : List Item) (item : Item) (line : ℕ) (cells : List Cell) → IsEntryAt item line cells → input ≡ bytes ++ behind → length bytes ≤ 1099511627776 → behind ≡ [] → (held : List Line) (left : List ℕ) (reached : Progress)
+ended_whole : (input bytes behind : List ℕ) (front back : List Item) (item : Item) → IsEntryItem item → input ≡ bytes ++ behind → length bytes ≤ 1099511627776 → behind ≡ [] → (held : List Line) (left : List ℕ) (reached : Progress)
     → StandAt bytes (front ++ item ∷ back) held left reached → (back ≡ [] → ItemsLead none_appended (front ++ item ∷ back)) → IsShownAtEnd (with_items none_appended (front ++ item ∷ back)) (text_of held ++ left) → AreWholeAt input (front ++ item ∷ [])
 unfolding is_empty
-ended_whole input bytes behind front back item line cells is split few none held left reached s leads shown =
-    ends_here input bytes behind (front ++ item ∷ []) is_empty split few (λ next q. (q, none)) (entry_whole is_empty bytes front back item line cells held left reached is s leads
+ended_whole input bytes behind front back item is split few none held left reached s leads shown =
+    ends_here input bytes behind (front ++ item ∷ []) is_empty split few (λ next q. (q, none)) (entry_whole is_empty bytes front back item held left reached is s leads
     (λ some going. elim (shown some going) [
       | inl empty ↦ inr empty
       | inr begins ↦ inl begins
@@ -142,10 +143,19 @@ catalogue_stands input all c =
       numbered = c.numbered;
     }
 
+entry_item : (item : Item) (line : ℕ) (cells : List Cell) → IsEntryAt item line cells → IsEntryItem item
+entry_item (items.Header header) line cells is = is
+entry_item (items.Entry first entry) line cells is = tt
+entry_item (items.Brief first given verdict) line cells is = tt
+entry_item (items.End count) line cells is = is
+
 step_whole : (first before now : Option (List ℕ)) (failed fails : ℕ) (old new : Streamed) (items found : List Item) (taken : Result Taken StreamStop) (onward : Onward) (front back : List Item) (item : Item) (line : ℕ) (cells : List Cell) → HasRead first before found old
     → TakeResult before now failed fails old new [] items taken → IsOnward taken (Ok onward) → IsEntryAt item line cells → items ≡ front ++ item ∷ back → WholeInput first (found ++ front) item
 step_whole first before now failed fails old new items found taken onward front back item line cells h t o is e = by_taken taken t o
   where
+    one : IsEntryItem item
+    one = entry_item item line cells is
+
     same : found ++ items ≡ (found ++ front) ++ item ∷ back
     same = ap (λ (x : List Item). found ++ x) e ∙ sym (append_assoc found front (item ∷ back))
 
@@ -156,7 +166,7 @@ step_whole first before now failed fails old new items found taken onward front 
         record {
           input = n.bytes ++ unread now;
           all_of = all_of_rest first now n.bytes n.consumed;
-          whole = begun_whole (n.bytes ++ unread now) n.bytes (unread now) (found ++ front) back item line cells is refl n.at_most n.begins.held n.begins.left n.begins.reached
+          whole = begun_whole (n.bytes ++ unread now) n.bytes (unread now) (found ++ front) back item one refl n.at_most n.begins.held n.begins.left n.begins.reached
               (subst (λ (x : List Item). Stands none_appended n.bytes x n.begins.held n.begins.left n.begins.reached) split n.begins.stands)
               (subst (λ (x : List Item). IsShown (with_items none_appended x) (text_of n.begins.held ++ n.begins.left)) split n.begins.shown);
         }
@@ -166,9 +176,9 @@ step_whole first before now failed fails old new items found taken onward front 
         record {
           input = n.input;
           all_of = n.all_of;
-          whole = ended_whole n.input n.input [] (found ++ front) back item line cells is (sym (append-nil n.input)) n.few refl [] [] n.catalogue.reached
+          whole = ended_whole n.input n.input [] (found ++ front) back item one (sym (append-nil n.input)) n.few refl [] [] n.catalogue.reached
               (subst (λ (x : List Item). StandAt n.input x [] [] n.catalogue.reached) split (catalogue_stands n.input (found ++ t.more) n.catalogue))
-              (λ none. absurd (last_is_end (found ++ front) back item line cells n.catalogue.reached is
+              (λ none. absurd (last_is_end (found ++ front) back item n.catalogue.reached one
               (subst (λ (x : List Item). walk stages.Start (lines_of x) ≡ Some n.catalogue.reached) split n.catalogue.lead.reached)
               (subst (λ (x : List Item). (with_items none_appended x).ended ≡ true) split n.catalogue.ended) none))
               (λ some going. inl refl);
@@ -178,25 +188,25 @@ step_whole first before now failed fails old new items found taken onward front 
         let split : found ++ t.more ≡ (found ++ front) ++ item ∷ back = ap (λ (x : List Item). found ++ x) (sym t.after_is) ∙ same in
         elim n.fault [
           | inl r ↦
-            let stood = sym r.after_is ∙ split in
-            record {
-              input = n.input;
-              all_of = n.all_of;
-              whole = begun_whole n.input n.front n.behind (found ++ front) back item line cells is n.split n.few r.held r.left r.reached
-                  (subst (λ (x : List Item). Stands none_appended n.front x r.held r.left r.reached) stood r.stands)
-                  (subst (λ (x : List Item). IsShown (with_items none_appended x) (text_of r.held ++ r.left)) stood r.shown);
-            }
+              let stood = sym r.after_is ∙ split in
+              record {
+                input = n.input;
+                all_of = n.all_of;
+                whole = begun_whole n.input n.front n.behind (found ++ front) back item one n.split n.few r.held r.left r.reached
+                    (subst (λ (x : List Item). Stands none_appended n.front x r.held r.left r.reached) stood r.stands)
+                    (subst (λ (x : List Item). IsShown (with_items none_appended x) (text_of r.held ++ r.left)) stood r.shown);
+              }
           | inr f ↦
-            let r = f.0 in
-            let stood = sym r.after_is ∙ split in
-            record {
-              input = n.input;
-              all_of = n.all_of;
-              whole = ended_whole n.input n.front n.behind (found ++ front) back item line cells is n.split n.few f.1 r.held r.left r.reached
-                  (stand_at n.front ((found ++ front) ++ item ∷ back) r.held r.left r.reached (subst (λ (x : List Item). Stands none_appended n.front x r.held r.left r.reached) stood r.stands))
-                  (λ none. (subst (λ (x : List Item). Stands none_appended n.front x r.held r.left r.reached) stood r.stands).items_lead)
-                  (subst (λ (x : List Item). IsShownAtEnd (with_items none_appended x) (text_of r.held ++ r.left)) stood r.shown);
-            }
+              let r = f.0 in
+              let stood = sym r.after_is ∙ split in
+              record {
+                input = n.input;
+                all_of = n.all_of;
+                whole = ended_whole n.input n.front n.behind (found ++ front) back item one n.split n.few f.1 r.held r.left r.reached
+                    (stand_at n.front ((found ++ front) ++ item ∷ back) r.held r.left r.reached (subst (λ (x : List Item). Stands none_appended n.front x r.held r.left r.reached) stood r.stands))
+                    (λ none. (subst (λ (x : List Item). Stands none_appended n.front x r.held r.left r.reached) stood r.stands).items_lead)
+                    (subst (λ (x : List Item). IsShownAtEnd (with_items none_appended x) (text_of r.held ++ r.left)) stood r.shown);
+              }
         ]
     by_taken (Err (stream_stops.TooLong at)) t o = absurd (no_item front back item (sym t.after_is ∙ e))
     by_taken (Err stream_stops.Failed) t o = absurd cc
@@ -289,7 +299,7 @@ input_fault first before now failed fails old new items found (Err (stream_stops
     let same_line : line ≡ at = cc in
     let same_number : number ≡ 8 = cc in
     let m : HasTable found table = subst (λ (x : List Item). HasTable x table) (append-nil found) (subst (λ (x : List Item). HasTable (found ++ x) table) t.after_is k) in
-    let n = t.too_many first found h in
+    let n = (t.too_many first found h).0 in
     inr (record { all = found; too_many = subst (λ (x : ℕ). HasTooMany first found x) (sym same_line) n; grid = m.grid; of_grid = m.of_grid; shapes = m.shapes; number_is = same_number })
 input_fault first before now failed fails old new items found (Err stream_stops.Failed) table line number h t o k = absurd cc
 input_fault first before now failed fails old new items found (Err stream_stops.NoMemory) table line number h t o k = absurd cc
@@ -343,7 +353,7 @@ reads_no_further {first} {now} s =
       last = s.one_piece.0;
       consumed = consumes_both first s.before now h.bytes s.one_piece.0 h.consumed s.one_piece.1;
       one_piece = s.one_piece.2;
-      open = record { all = s.going.found; begins = h.begins; grid = t.grid; of_grid = t.of_grid; shapes = t.shapes };
+      undecided = record { all = s.going.found; begins = h.begins; grid = t.grid; of_grid = t.of_grid; shapes = t.shapes };
     }
 
 -- the end was read at the end of the input

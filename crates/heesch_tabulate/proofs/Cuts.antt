@@ -1,24 +1,20 @@
 -- Two readings of one input.
-use Rattle.std.proofs.Common.{◌≡◌, ◌≢◌, ◌⊎◌, inl, inr, ℕ, ◌+◌, ◌≤◌, Bool, true, false, List, [], ◌∷◌, ◌++◌, length, Option, Some, None, refl, sym, ap, subst, ◌∙◌, append_assoc, arith}
+use Rattle.std.proofs.Common.{◌≡◌, ◌⊎◌, inl, inr, ℕ, true, List, [], ◌∷◌, ◌++◌, Option, Some, None, refl, sym, ap, subst, ◌∙◌}
 use Rattle.std.specs.Prelude.{option_and_then}
 use Rattle.std.specs.List.{AllByRecursion}
 use Rattle.std.proofs.lemmas.Bool.{false≢true}
-use Rattle.std.proofs.lemmas.List.{append-nil, length-append, append_cancel_left}
+use Rattle.std.proofs.lemmas.List.{append-nil}
 use Rattle.heesch_text.specs.declared.line.Line.{Line}
-use Rattle.heesch_text.specs.declared.line.Line.TheVariants as lines
 use Rattle.heesch_text.specs.Lines.{words_of, text_of}
-use Rattle.heesch_line.specs.Forms.{IsLine, HasNoNewline}
-use Rattle.heesch_line.proofs.Newlines.{no_newline}
+use Rattle.heesch_line.specs.Forms.{IsLine}
 use Rattle.heesch_grammar.proofs.Heading.{bind_some}
-use Rattle.heesch_reader.specs.declared.item.Item.{Item}
 use Rattle.heesch_reader.specs.declared.progress.Progress.{Progress}
 use Rattle.heesch_reader.specs.declared.progress.Progress.TheVariants as stages
 use Rattle.heesch_reader.specs.Progress.{Lead, next, walk, may_end}
-use Rattle.heesch_reader.specs.Items.{lines_of}
 use Rattle.heesch_reader.specs.Faults.{begins_next}
 use Rattle.heesch_reader.specs.Feeding.{BeginEntry, IsInside}
 use Rattle.heesch_reader.proofs.FirstWords.{begins_next_cut, inside_begins}
-use Rattle.heesch_reader.proofs.SameLines.{along, line_front, one_first_line, no_first_line}
+use Rattle.heesch_reader.proofs.SameLines.{along, line_front}
 use Rattle.heesch_reader.proofs.Walking.{walk_append}
 
 -- ---- where lines lead

@@ -4,4 +4,3 @@ mod EntryCounts
 pub mod OneTabulation
 mod Shapes
 mod Standing
-mod Whole

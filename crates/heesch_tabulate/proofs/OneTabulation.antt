@@ -1,26 +1,26 @@
 -- An input has one tabulation.
-use Rattle.std.proofs.Common.{◌≡◌, ◌≢◌, ◌⊎◌, inl, inr, ℕ, ◌+◌, ◌<◌, ◌≤◌, Bool, true, false, List, [], ◌∷◌, ◌++◌, length, Option, Some, refl, sym, ap, subst, ◌∙◌, append_assoc, arith}
-use Rattle.std.specs.List.{AllByRecursion, AllZip}
-use Rattle.std.proofs.lemmas.List.{append-nil, length-append, append_cancel_left}
+use Rattle.std.proofs.Common.{◌≡◌, ◌≢◌, ◌⊎◌, inl, inr, ℕ, ◌+◌, ◌<◌, Bool, true, false, List, [], ◌∷◌, ◌++◌, length, Some, refl, sym, ap, subst, ◌∙◌, append_assoc, arith}
+use Rattle.std.specs.List.{AllZip}
+use Rattle.std.proofs.lemmas.List.{append-nil, length-append}
 use Rattle.heesch_grid.specs.declared.Cell.{Cell}
 use Rattle.heesch_grid.specs.declared.GridName.{GridName}
 use Rattle.heesch_grid.specs.Geometry.{Geometry}
 use Rattle.heesch_grid.specs.Names.{geometry_of}
 use Rattle.heesch_text.specs.declared.line.Line.{Line}
 use Rattle.heesch_text.specs.Lines.{words_of, text_of}
-use Rattle.heesch_line.specs.Forms.{IsLine, HasNoNewline}
+use Rattle.heesch_line.specs.Forms.{HasNoNewline}
 use Rattle.heesch_line.proofs.Newlines.{no_newline}
 use Rattle.heesch_shape.specs.declared.faults.ShapeFault.{ShapeFault}
 use Rattle.heesch_shape.specs.declared.faults.ShapeFault.TheVariants.{Empty, TooMany, NotACell, Repeated, Apart}
 use Rattle.heesch_shape.specs.Places.{AllHold, IsFirstFailure}
-use Rattle.heesch_shape.specs.Faults.{IsFault, IsFaultless, number_of}
+use Rattle.heesch_shape.specs.Faults.{IsFault, number_of}
 use Rattle.heesch_reader.specs.declared.item.Item.{Item}
 use Rattle.heesch_reader.specs.declared.item.Part.{Part}
 use Rattle.heesch_reader.specs.declared.progress.Progress.{Progress}
 use Rattle.heesch_reader.specs.declared.progress.Progress.TheVariants as stages
-use Rattle.heesch_reader.specs.Progress.{Lead, next, may_end}
+use Rattle.heesch_reader.specs.Progress.{Lead}
 use Rattle.heesch_reader.specs.Items.{lines_of, with_items, none_appended}
-use Rattle.heesch_reader.specs.Faults.{begins_next, FaultsAt}
+use Rattle.heesch_reader.specs.Faults.{begins_next}
 use Rattle.heesch_reader.specs.Feeding.{Refuses, FallsShort}
 use Rattle.heesch_reader.proofs.Finishing.{whole_is_not_short}
 use Rattle.heesch_reader.proofs.FirstWords.{begins_next_cut}
@@ -28,11 +28,11 @@ use Rattle.heesch_reader.proofs.NoFault.{no_fault}
 use Rattle.heesch_reader.proofs.SameLines.{along, one_first_line, no_first_line, front_on, same_front}
 use Rattle.heesch_reader.proofs.Walking.{shows_more}
 use Rattle.heesch_stream.specs.Input.{newlines, IsWholeCatalogue}
-use Rattle.heesch_stream.specs.Taking.{HasFault, HasTooMany}
+use Rattle.heesch_stream.specs.Taking.{HasTooMany}
 use Rattle.heesch_cert.specs.declared.verdict.Verdict.{Verdict}
 use Rattle.heesch_table.specs.Holed.{IsHoled}
 use Rattle.heesch_table.specs.Texts.{tally_text}
-use Rattle.heesch_tabulate.specs.Entries.{entries_of, IsEntryAt, IsOfGrid, AreShapes, IsCounted}
+use Rattle.heesch_tabulate.specs.Entries.{entries_of, IsOfGrid, AreShapes, IsCounted}
 use Rattle.heesch_tabulate.specs.Tabulating.{IsTallied, AreWholeAt, HasShapeFault, HasTextFault, HasLengthFault, IsFaulty}
 use Rattle.heesch_tabulate.proofs.Cuts.{Cut, same_cut, before_cut}
 use Rattle.heesch_tabulate.proofs.Shapes.{Told, told, told_append, last_told, AreFaultless, shapes_told, faultless_at, grid_named, grid_is, same_grid, last_or_front, no_lines, shapes_in, verdicts_in, cells_are, verdicts_are, pairs}
@@ -183,22 +183,22 @@ shape_or_text input line number at other s t =
     let all : input ≡ h.front ++ h.behind = sym h.all_of ∙ h.split in
     elim h.fault [
       | inl r ↦
-        let cut : Cut input (lines_of t.all ++ r.held) (r.left ++ h.behind) r.reached = subst (λ (x : List ℕ). Cut x (lines_of t.all ++ r.held) (r.left ++ h.behind) r.reached) (sym all) (refused_cut h.front t.all at t.part h.behind r) in
-        let split : r.left ++ h.behind ≡ r.fault.words ++ 10 ∷ (r.fault.back ++ h.behind) = ap (λ (x : List ℕ). x ++ h.behind) r.fault.split ∙ append_assoc r.fault.words (10 ∷ r.fault.back) h.behind in
-        fault_before t.all t.grid t.of_grid t.shapes (shape_before input line number t.all s
-        (before_cut input (lines_of (s.before ++ s.item ∷ [])) (lines_of t.all) r.held a (r.left ++ h.behind) w.reached r.reached cut r.stands.one_entry
-        (λ may seen. elim seen [
-          | inl begins ↦ r.prompt may (sym (ap begins_next split ∙ begins_next_cut r.fault.words (r.fault.back ++ h.behind)) ∙ begins)
-          | inr none ↦ absurd (some_left r.fault.words (r.fault.back ++ h.behind) (sym split ∙ none.0))
-        ]) w.lead w.whole text shown))
+          let cut : Cut input (lines_of t.all ++ r.held) (r.left ++ h.behind) r.reached = subst (λ (x : List ℕ). Cut x (lines_of t.all ++ r.held) (r.left ++ h.behind) r.reached) (sym all) (refused_cut h.front t.all at t.part h.behind r) in
+          let split : r.left ++ h.behind ≡ r.fault.words ++ 10 ∷ (r.fault.back ++ h.behind) = ap (λ (x : List ℕ). x ++ h.behind) r.fault.split ∙ append_assoc r.fault.words (10 ∷ r.fault.back) h.behind in
+          fault_before t.all t.grid t.of_grid t.shapes (shape_before input line number t.all s
+          (before_cut input (lines_of (s.before ++ s.item ∷ [])) (lines_of t.all) r.held a (r.left ++ h.behind) w.reached r.reached cut r.stands.one_entry
+          (λ may seen. elim seen [
+            | inl begins ↦ r.prompt may (sym (ap begins_next split ∙ begins_next_cut r.fault.words (r.fault.back ++ h.behind)) ∙ begins)
+            | inr none ↦ absurd (some_left r.fault.words (r.fault.back ++ h.behind) (sym split ∙ none.0))
+          ]) w.lead w.whole text shown))
       | inr f ↦
-        let cut : Cut input (lines_of t.all ++ f.0.held) f.0.left f.0.reached = subst (λ (x : List ℕ). Cut x (lines_of t.all ++ f.0.held) f.0.left f.0.reached) (sym (all ∙ ap (λ (x : List ℕ). h.front ++ x) f.1 ∙ append-nil h.front)) (short_cut h.front t.all at t.part f.0) in
-        fault_before t.all t.grid t.of_grid t.shapes (shape_before input line number t.all s
-        (before_cut input (lines_of (s.before ++ s.item ∷ [])) (lines_of t.all) f.0.held a f.0.left w.reached f.0.reached cut f.0.stands.one_entry
-        (λ may seen. elim seen [
-          | inl begins ↦ f.0.prompt.0 may begins
-          | inr none ↦ f.0.prompt.1 may none.0
-        ]) w.lead w.whole text shown))
+          let cut : Cut input (lines_of t.all ++ f.0.held) f.0.left f.0.reached = subst (λ (x : List ℕ). Cut x (lines_of t.all ++ f.0.held) f.0.left f.0.reached) (sym (all ∙ ap (λ (x : List ℕ). h.front ++ x) f.1 ∙ append-nil h.front)) (short_cut h.front t.all at t.part f.0) in
+          fault_before t.all t.grid t.of_grid t.shapes (shape_before input line number t.all s
+          (before_cut input (lines_of (s.before ++ s.item ∷ [])) (lines_of t.all) f.0.held a f.0.left w.reached f.0.reached cut f.0.stands.one_entry
+          (λ may seen. elim seen [
+            | inl begins ↦ f.0.prompt.0 may begins
+            | inr none ↦ f.0.prompt.1 may none.0
+          ]) w.lead w.whole text shown))
     ]
   where
     some_left : (words more : List ℕ) → words ++ 10 ∷ more ≡ [] → ⊥
@@ -218,9 +218,9 @@ shape_or_length input line number at other s t =
     let begun : begins_next (w.next ++ more.0) ≡ true = elim w.shown [
       | inl begins ↦ shows_more w.next more.0 begins
       | inr none ↦
-        let short : length input ≡ length shown_text + 0 = ap length (w.split ∙ ap (λ (x : List ℕ). shown_text ++ x) none.1) ∙ length-append shown_text [] in
-        let long : length input ≡ length h.front + (1 + length h.behind) = ap length all ∙ length-append h.front (h.byte ∷ h.behind) ∙ omega arith in
-        absurd (omega (arith, short, long, w.few, h.most))
+          let short : length input ≡ length shown_text + 0 = ap length (w.split ∙ ap (λ (x : List ℕ). shown_text ++ x) none.1) ∙ length-append shown_text [] in
+          let long : length input ≡ length h.front + (1 + length h.behind) = ap length all ∙ length-append h.front (h.byte ∷ h.behind) ∙ omega arith in
+          absurd (omega (arith, short, long, w.few, h.most))
     ] in
     fault_before t.all t.grid t.of_grid t.shapes (shape_before input line number t.all s
     (before_cut h.front (lines_of found) (lines_of t.all) h.begins.held (w.next ++ more.0) h.begins.left w.reached h.begins.reached cut h.begins.stands.one_entry
@@ -248,8 +248,8 @@ further input line number at other s t more e =
             (subst (λ (x : List Cell). IsFault (geometry_of t.grid) x s.fault) (ap (λ (x : Told). x.1) (sym same)) (subst (λ (x : GridName). IsFault (geometry_of x) s.cells s.fault) grids s.is_fault)) t.is_fault ∙ sym t.number_is,
       )
       | inr f ↦
-        let all_told = subst (AreFaultless (geometry_of t.grid)) f.1 (shapes_told (geometry_of t.grid) 0 t.before t.shapes) in
-        absurd (faultless_at (geometry_of t.grid) (told 0 (lines_of s.before)) f.0 (line, s.cells) all_told s.fault (subst (λ (x : GridName). IsFault (geometry_of x) s.cells s.fault) grids s.is_fault))
+          let all_told = subst (AreFaultless (geometry_of t.grid)) f.1 (shapes_told (geometry_of t.grid) 0 t.before t.shapes) in
+          absurd (faultless_at (geometry_of t.grid) (told 0 (lines_of s.before)) f.0 (line, s.cells) all_told s.fault (subst (λ (x : GridName). IsFault (geometry_of x) s.cells s.fault) grids s.is_fault))
     ]
 
 two_shapes : (input : List ℕ) (line number at other : ℕ) → HasShapeFault (Some input) line number → HasShapeFault (Some input) at other → (line ≡ at) × (number ≡ other)
@@ -260,8 +260,8 @@ two_shapes input line number at other s t =
     elim (along (lines_of (s.before ++ s.item ∷ [])) (lines_of (t.before ++ t.item ∷ [])) (w.next ++ w.behind) (v.next ++ v.behind) w.lead.forms v.lead.forms e) [
       | inl r ↦ further input line number at other s t r.more r.lines
       | inr r ↦
-        let f = further input at other line number t s r.more r.lines in
-        (sym f.0, sym f.1)
+          let f = further input at other line number t s r.more r.lines in
+          (sym f.0, sym f.1)
     ]
 
 -- ---- faults of lines
@@ -309,13 +309,13 @@ text_or_tally input text line number s t =
     let c = subst (λ (x : List ℕ). Cut x (lines_of t.all ++ []) [] t.catalogue.reached) t.all_of (whole_cut t.input t.all t.catalogue) in
     elim h.fault [
       | inl r ↦
-        let cut : Cut input (lines_of s.all ++ r.held) (r.left ++ h.behind) r.reached = subst (λ (x : List ℕ). Cut x (lines_of s.all ++ r.held) (r.left ++ h.behind) r.reached) (sym all) (refused_cut h.front s.all line s.part h.behind r) in
-        let same = same_cut input (lines_of t.all ++ []) (lines_of s.all ++ r.held) [] (r.left ++ h.behind) t.catalogue.reached r.reached c cut in
-        no_first_line r.fault.words (r.fault.back ++ h.behind) [] tt (same.1 ∙ ap (λ (x : List ℕ). x ++ h.behind) r.fault.split ∙ append_assoc r.fault.words (10 ∷ r.fault.back) h.behind)
+          let cut : Cut input (lines_of s.all ++ r.held) (r.left ++ h.behind) r.reached = subst (λ (x : List ℕ). Cut x (lines_of s.all ++ r.held) (r.left ++ h.behind) r.reached) (sym all) (refused_cut h.front s.all line s.part h.behind r) in
+          let same = same_cut input (lines_of t.all ++ []) (lines_of s.all ++ r.held) [] (r.left ++ h.behind) t.catalogue.reached r.reached c cut in
+          no_first_line r.fault.words (r.fault.back ++ h.behind) [] tt (same.1 ∙ ap (λ (x : List ℕ). x ++ h.behind) r.fault.split ∙ append_assoc r.fault.words (10 ∷ r.fault.back) h.behind)
       | inr f ↦
-        let cut : Cut input (lines_of s.all ++ f.0.held) f.0.left f.0.reached = subst (λ (x : List ℕ). Cut x (lines_of s.all ++ f.0.held) f.0.left f.0.reached) (sym (all ∙ ap (λ (x : List ℕ). h.front ++ x) f.1 ∙ append-nil h.front)) (short_cut h.front s.all line s.part f.0) in
-        whole_is_not_short none_appended t.all s.all f.0.held f.0.left c.lead.forms cut.lead.forms f.0.stands.one_entry f.0.one_line (sym c.text ∙ cut.text) t.catalogue.ended
-        (subst (λ (x : List Item). (f.0.left ≢ []) ⊎ ((with_items none_appended x).ended ≡ false)) (sym f.0.after_is) f.0.short)
+          let cut : Cut input (lines_of s.all ++ f.0.held) f.0.left f.0.reached = subst (λ (x : List ℕ). Cut x (lines_of s.all ++ f.0.held) f.0.left f.0.reached) (sym (all ∙ ap (λ (x : List ℕ). h.front ++ x) f.1 ∙ append-nil h.front)) (short_cut h.front s.all line s.part f.0) in
+          whole_is_not_short none_appended t.all s.all f.0.held f.0.left c.lead.forms cut.lead.forms f.0.stands.one_entry f.0.one_line (sym c.text ∙ cut.text) t.catalogue.ended
+          (subst (λ (x : List Item). (f.0.left ≢ []) ⊎ ((with_items none_appended x).ended ≡ false)) (sym f.0.after_is) f.0.short)
     ]
 
 -- ---- the length
@@ -347,16 +347,16 @@ text_or_length input line number at other s t =
     let more = front_on l.front h.front (l.byte ∷ l.behind) h.behind all (omega (arith, h.few, l.most)) in
     elim h.fault [
       | inl r ↦
-        let cut = refused_cut h.front s.all line s.part more.0 r in
-        let split : r.left ++ more.0 ≡ r.fault.words ++ 10 ∷ (r.fault.back ++ more.0) = ap (λ (x : List ℕ). x ++ more.0) r.fault.split ∙ append_assoc r.fault.words (10 ∷ r.fault.back) more.0 in
-        no_fault stages.Start l.begins.reached r.reached (lines_of t.all ++ l.begins.held) (lines_of s.all ++ r.held) l.begins.left (r.left ++ more.0) s.part l.begins.stands.lead l.begins.one_line cut.lead
-        (record { words = r.fault.words; back = r.fault.back ++ more.0; split = split; one_line = r.fault.one_line; may_not = r.fault.may_not; part_is = r.fault.part_is })
-        (sym l.begins.stands.text ∙ more.1 ∙ cut.text)
+          let cut = refused_cut h.front s.all line s.part more.0 r in
+          let split : r.left ++ more.0 ≡ r.fault.words ++ 10 ∷ (r.fault.back ++ more.0) = ap (λ (x : List ℕ). x ++ more.0) r.fault.split ∙ append_assoc r.fault.words (10 ∷ r.fault.back) more.0 in
+          no_fault stages.Start l.begins.reached r.reached (lines_of t.all ++ l.begins.held) (lines_of s.all ++ r.held) l.begins.left (r.left ++ more.0) s.part l.begins.stands.lead l.begins.one_line cut.lead
+          (record { words = r.fault.words; back = r.fault.back ++ more.0; split = split; one_line = r.fault.one_line; may_not = r.fault.may_not; part_is = r.fault.part_is })
+          (sym l.begins.stands.text ∙ more.1 ∙ cut.text)
       | inr f ↦
-        let long = long_input input t.all at l in
-        let short : length input ≡ length h.front + 0 = ap length (sym h.all_of ∙ h.split ∙ ap (λ (x : List ℕ). h.front ++ x) f.1) ∙ length-append h.front [] in
-        let few = h.few in
-        omega (arith, long, short, few)
+          let long = long_input input t.all at l in
+          let short : length input ≡ length h.front + 0 = ap length (sym h.all_of ∙ h.split ∙ ap (λ (x : List ℕ). h.front ++ x) f.1) ∙ length-append h.front [] in
+          let few = h.few in
+          omega (arith, long, short, few)
     ]
 
 -- ---- the tabulation

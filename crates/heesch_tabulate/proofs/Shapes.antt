@@ -1,11 +1,10 @@
 -- The `shape` lines among lines, each with its number, and the entries that begin on them.
-use Rattle.std.proofs.Common.{◌≡◌, ◌⊎◌, inl, inr, ℕ, ◌+◌, List, [], ◌∷◌, ◌++◌, map, length, Option, Some, None, refl, sym, ap, subst, ◌∙◌, append_assoc, arith}
+use Rattle.std.proofs.Common.{◌≡◌, ◌⊎◌, inl, inr, ℕ, suc, ◌+◌, List, [], ◌∷◌, ◌++◌, map, length, Option, Some, None, refl, sym, ap, subst, ◌∙◌, arith}
 use Rattle.std.specs.List.{AllByRecursion}
 use Rattle.std.proofs.lemmas.List.{append-nil, length-append}
 use Rattle.heesch_grid.specs.declared.Cell.{Cell}
 use Rattle.heesch_grid.specs.declared.GridName.{GridName}
 use Rattle.heesch_grid.specs.Geometry.{Geometry}
-use Rattle.heesch_grid.specs.Names.{geometry_of}
 use Rattle.heesch_cert.specs.declared.verdict.Verdict.{Verdict}
 use Rattle.heesch_text.specs.declared.line.Line.{Line}
 use Rattle.heesch_text.specs.declared.line.Line.TheVariants as lines
@@ -29,10 +28,10 @@ told n [] = []
 told n (lines.Shape cells ∷ ls) = (n + 1, cells) ∷ told (n + 1) ls
 told n (line ∷ ls) = told (n + 1) ls
 
-at_sum : (n k : ℕ) (ls : List Line) → told (n + 1 + k) ls ≡ told (n + (k + 1)) ls
-at_sum n k ls = let e : n + 1 + k ≡ n + (k + 1) = omega arith in ap (λ (x : ℕ). told x ls) e
+at_sum : (n k : ℕ) (ls : List Line) → told (n + 1 + k) ls ≡ told (n + suc k) ls
+at_sum n k ls = let e : n + 1 + k ≡ n + suc k = omega arith in ap (λ (x : ℕ). told x ls) e
 
-one_on : (n : ℕ) (a b : List Line) → told (n + 1) (a ++ b) ≡ told (n + 1) a ++ told (n + 1 + length a) b → told (n + 1) (a ++ b) ≡ told (n + 1) a ++ told (n + (length a + 1)) b
+one_on : (n : ℕ) (a b : List Line) → told (n + 1) (a ++ b) ≡ told (n + 1) a ++ told (n + 1 + length a) b → told (n + 1) (a ++ b) ≡ told (n + 1) a ++ told (n + suc (length a)) b
 one_on n a b h = h ∙ ap (λ (x : List Told). told (n + 1) a ++ x) (at_sum n (length a) b)
 
 pub told_append : (n : ℕ) (a b : List Line) → told n (a ++ b) ≡ told n a ++ told (n + length a) b
@@ -243,7 +242,7 @@ pairs (x ∷ xs) (y ∷ ys) e f =
     let left : x.0 ≡ y.0 = cc in
     let right : x.1 ≡ y.1 = cc in
     let one : x ≡ y = ap (λ u. (u, x.1)) left ∙ ap (λ u. (y.0, u)) right in
-    ap (λ u. u ∷ xs) one ∙ ap (λ u. y ∷ u) (pairs xs ys cc cc)
+    ap (λ u. u ∷ xs) one ∙ ap (λ u. y ∷ u) (pairs xs ys (cc) (cc))
 
 pub no_lines : (item : Item) (found : List Item) → lines_of (item ∷ found) ≡ [] → ⊥
 no_lines (items.Header header) found e = absurd cc

@@ -61,6 +61,7 @@ pub returns-in-Fault-clause-no_further : goal.returns-in-Fault-clause-no_further
 returns-in-Fault-clause-no_further g c = reads_no_further (stepped g (goal.at.returns-in-Fault-clause-no_further g c).After-as_slice)
 
 pub returns-in-End-clause-ended : goal.returns-in-End-clause-ended
+unfolding stepped
 returns-in-End-clause-ended g c = at_end (stepped g (goal.at.returns-in-End-clause-ended g c).After-as_slice) c.in-End.is c.take.ensures.ended
 
 pub loop-items-preserved : goal.loop-items-preserved
