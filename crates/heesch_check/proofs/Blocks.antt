@@ -3,7 +3,7 @@ use Rattle.std.proofs.Common.{◌≡◌, ◌⊎◌, inl, inr, ℕ, ◌==◌, ◌
 use Rattle.std.specs.List.{AllByRecursion}
 use Rattle.std.proofs.lemmas.Bool.{ne_eqb}
 use Rattle.heesch_text.specs.declared.line.Line.{Line}
-use Rattle.heesch_text.specs.Lines.{words_of, line_text, text_of}
+use Rattle.heesch_text.specs.Lines.{words_of, text_of}
 use Rattle.heesch_line.specs.Forms.{IsLine, HasNoNewline}
 use Rattle.heesch_line.proofs.Newlines.{no_newline}
 use Rattle.heesch_reader.specs.Faults.{begins_next}

@@ -1,6 +1,6 @@
 -- Where bytes decide an invalid part, an input that begins with them isn't too long.
-use Rattle.std.proofs.Common.{◌≡◌, ◌≢◌, ◌⊎◌, inl, inr, ℕ, ◌+◌, ◌<◌, ◌≤◌, ◌==◌, ◌||◌, Bool, true, false, List, [], ◌∷◌, ◌++◌, length, codes, Option, Some, refl, sym, ap, subst, ◌∙◌, append_assoc, arith}
-use Rattle.std.specs.Prelude.{option_map, option_and_then, if◌then◌else◌}
+use Rattle.std.proofs.Common.{◌≡◌, ◌⊎◌, inl, inr, ℕ, ◌+◌, ◌<◌, ◌≤◌, ◌||◌, Bool, true, false, List, [], ◌∷◌, ◌++◌, length, codes, Option, Some, refl, sym, ap, subst, ◌∙◌, append_assoc, arith}
+use Rattle.std.specs.Prelude.{option_map, option_and_then}
 use Rattle.std.specs.List.{AllByRecursion, flat_map}
 use Rattle.std.proofs.lemmas.Bool.{false≢true, eq-eqb}
 use Rattle.std.proofs.lemmas.List.{append-nil}
@@ -10,14 +10,13 @@ use Rattle.heesch_grid.specs.declared.Cell.{Cell}
 use Rattle.heesch_grid.specs.Names.{geometry_of}
 use Rattle.heesch_text.specs.declared.line.Line.{Line}
 use Rattle.heesch_text.specs.declared.line.Line.TheVariants as lines
-use Rattle.heesch_text.specs.Lines.{words_of, line_text, text_of}
+use Rattle.heesch_text.specs.Lines.{words_of, text_of}
 use Rattle.heesch_text.specs.Catalogue.{header_text, entry_lines, entry_text, end_text}
 use Rattle.heesch_line.specs.Forms.{IsLine, HasNoNewline}
-use Rattle.heesch_line.proofs.Newlines.{no_newline}
 use Rattle.heesch_grammar.specs.declared.place.Place.TheVariants as places
 use Rattle.heesch_grammar.specs.declared.spot.Spot.{Spot}
 use Rattle.heesch_grammar.specs.Grammar.{step, steps, is_whole}
-use Rattle.heesch_grammar.specs.Statements.{start, between_entries}
+use Rattle.heesch_grammar.specs.Statements.{start}
 use Rattle.heesch_grammar.proofs.Heading.{bind_some}
 use Rattle.heesch_grammar.proofs.Truth.{may_stand}
 use Rattle.heesch_grammar.proofs.Running.{steps_through, steps_between}
@@ -25,14 +24,13 @@ use Rattle.heesch_reader.specs.declared.item.Item.{Item}
 use Rattle.heesch_reader.specs.declared.item.Part.{Part}
 use Rattle.heesch_reader.specs.declared.progress.Progress.{Progress}
 use Rattle.heesch_reader.specs.declared.progress.Progress.TheVariants as stages
-use Rattle.heesch_reader.specs.declared.scan.Appended.{Appended}
 use Rattle.heesch_reader.specs.Progress.{Lead, next, walk}
 use Rattle.heesch_reader.specs.Items.{lines_of, with_items, none_appended}
 use Rattle.heesch_reader.specs.Faults.{begins, begins_next, FaultsAt}
 use Rattle.heesch_reader.specs.Feeding.{BeginEntry, IsInside, Stands, IsShown}
 use Rattle.heesch_reader.proofs.FirstWords.{begins_next_cut, inside_begins}
 use Rattle.heesch_reader.proofs.NoFault.{no_fault}
-use Rattle.heesch_reader.proofs.SameLines.{along, line_front, one_first_line, no_first_line, front_on}
+use Rattle.heesch_reader.proofs.SameLines.{along, line_front, no_first_line, front_on}
 use Rattle.heesch_reader.proofs.EntryLines.{body_lines}
 use Rattle.heesch_reader.proofs.Following.{text_append}
 use Rattle.heesch_reader.proofs.Walking.{all_append, shows_more}
@@ -42,7 +40,7 @@ use Rattle.heesch_check.specs.Judging.{AreGood}
 use Rattle.heesch_check.proofs.Answering.{BadBlock, bad_checked, bad_none}
 use Rattle.heesch_check.proofs.Blocks.{IsNext, block_split}
 use Rattle.heesch_check.proofs.Leading.{IsBounded, over_entries}
-use Rattle.heesch_check.proofs.OneAnswer.{same_header, along_blocks, Further, begins_entry, short_decided}
+use Rattle.heesch_check.proofs.OneAnswer.{same_header, along_blocks, begins_entry, short_decided}
 use Rattle.heesch_check.proofs.Seen.{IsRead}
 use Rattle.heesch_check.proofs.Stopping.{few_entries}
 
@@ -161,11 +159,11 @@ open_leads bytes o bound =
     let shapes : a.spot.shapes ≡ length o.es = a.shapes ∙ omega arith in
     elim o.goes_on [
       | inl g ↦
-        let n = begun_steps a.spot g.reached (length o.es) g.held g.one_entry a.whole shapes g.may_stand in
-        leads_by bytes o.header o.es o.rest g.left g.held n.0 bound c g.text g.forms g.one_line a.spot a.reached n.1
+          let n = begun_steps a.spot g.reached (length o.es) g.held g.one_entry a.whole shapes g.may_stand in
+          leads_by bytes o.header o.es o.rest g.left g.held n.0 bound c g.text g.forms g.one_line a.spot a.reached n.1
       | inr g ↦
-        leads_by bytes o.header o.es o.rest g.left (lines.End (length o.es) ∷ []) _ bound c (g.text ∙ ap (λ (x : List ℕ). x ++ g.left) (sym (append-nil (end_text (length o.es)))))
-        (few_entries o.header o.es bound (blocks_good o.header 0 c.body o.es o.rest c.blocks), tt) g.one_line a.spot a.reached (end_goes a.spot (length o.es) a.whole shapes)
+          leads_by bytes o.header o.es o.rest g.left (lines.End (length o.es) ∷ []) _ bound c (g.text ∙ ap (λ (x : List ℕ). x ++ g.left) (sym (append-nil (end_text (length o.es)))))
+          (few_entries o.header o.es bound (blocks_good o.header 0 c.body o.es o.rest c.blocks), tt) g.one_line a.spot a.reached (end_goes a.spot (length o.es) a.whole shapes)
     ]
 
 -- ---- a line at fault

@@ -1,42 +1,39 @@
 -- An item at fault decides, and so does a last line that comes too early.
-use Rattle.std.proofs.Common.{◌≡◌, ◌≢◌, ◌⊎◌, inl, inr, ℕ, ◌+◌, ◌<◌, ◌≤◌, ◌&&◌, ◌||◌, nat_eq, if◌then◌else◌, Bool, true, false, List, [], ◌∷◌, ◌++◌, length, codes, Option, Some, refl, sym, ap, subst, ◌∙◌, append_assoc, arith}
-use Rattle.std.specs.List.{AllByRecursion, flat_map}
+use Rattle.std.proofs.Common.{◌≡◌, ◌≢◌, ◌⊎◌, inl, inr, ℕ, ◌+◌, ◌≤◌, ◌&&◌, ◌||◌, nat_eq, if◌then◌else◌, Bool, true, false, List, [], ◌∷◌, ◌++◌, length, codes, Some, refl, sym, ap, subst, ◌∙◌, append_assoc, arith}
+use Rattle.std.specs.List.{flat_map}
 use Rattle.std.proofs.lemmas.Bool.{false≢true, eqb-true}
 use Rattle.std.proofs.lemmas.List.{append-nil}
 use Rattle.heesch_cert.specs.declared.entry.Entry.{Entry}
 use Rattle.heesch_cert.specs.declared.header.Header.{Header}
-use Rattle.heesch_grid.specs.declared.Cell.{Cell}
 use Rattle.heesch_grid.specs.Names.{geometry_of}
 use Rattle.heesch_text.specs.declared.line.Line.{Line}
 use Rattle.heesch_text.specs.declared.line.Line.TheVariants as lines
-use Rattle.heesch_text.specs.Lines.{words_of, text_of}
-use Rattle.heesch_text.specs.Catalogue.{header_text, entry_lines, entry_text, end_text}
-use Rattle.heesch_line.specs.Forms.{IsLine, HasNoNewline}
+use Rattle.heesch_text.specs.Lines.{text_of}
+use Rattle.heesch_text.specs.Catalogue.{header_text, entry_lines, entry_text}
+use Rattle.heesch_line.specs.Forms.{HasNoNewline}
 use Rattle.heesch_grammar.specs.declared.spot.Spot.{Spot}
 use Rattle.heesch_grammar.specs.Grammar.{steps, is_whole}
 use Rattle.heesch_grammar.proofs.Truth.{may_stand}
 use Rattle.heesch_reader.specs.declared.item.Item.{Item}
 use Rattle.heesch_reader.specs.declared.item.Item.TheVariants as items
-use Rattle.heesch_reader.specs.declared.progress.AtHand.{AtHand}
 use Rattle.heesch_reader.specs.declared.progress.AtHand.TheVariants as hands
 use Rattle.heesch_reader.specs.declared.progress.Progress.{Progress}
 use Rattle.heesch_reader.specs.declared.progress.Progress.TheVariants as stages
 use Rattle.heesch_reader.specs.Progress.{Lead, may_end}
 use Rattle.heesch_reader.specs.Items.{item_lines, lines_of, with_items, none_appended}
 use Rattle.heesch_reader.specs.Faults.{begins, begins_next}
-use Rattle.heesch_reader.specs.Feeding.{BeginEntry, IsInside, IsPrompt, IsShown, Stands}
+use Rattle.heesch_reader.specs.Feeding.{IsPrompt, IsShown, Stands}
 use Rattle.heesch_reader.specs.Endings.{ending_of}
 use Rattle.heesch_reader.proofs.EntryLines.{body_lines}
 use Rattle.heesch_reader.proofs.SameLines.{same_front, same_lines, same_reading}
 use Rattle.heesch_reader.proofs.Walking.{shows_more}
-use Rattle.heesch_reader.proofs.Whole.{IsEntryItem, WholeAt, entry_whole, stand_at}
+use Rattle.heesch_reader.proofs.Whole.{IsEntryItem, entry_whole, stand_at}
 use Rattle.heesch_check.specs.declared.answers.Checked.{Checked}
 use Rattle.heesch_check.specs.declared.answers.Checked.TheVariants as answers
-use Rattle.heesch_check.specs.Answers.{IsInvalidEntry, IsInvalidEnd, IsBegun, IsEnded, IsOpen, IsTooLong, IsDecided, Comes, IsChecked}
-use Rattle.heesch_check.specs.Catalogues.{block_of, IsGoodEntry, AreChecked, AreAll}
-use Rattle.heesch_check.specs.Judging.{AreJudged, HoldsLines, Judges}
-use Rattle.heesch_check.proofs.Answering.{BadBlock, bad_checked, bad_none, invalid_block, behind_item, entry_bad, brief_bad, holds_at, next_item}
-use Rattle.heesch_check.proofs.Blocks.{IsNext}
+use Rattle.heesch_check.specs.Answers.{IsOpen, IsTooLong, IsDecided, Comes, IsChecked}
+use Rattle.heesch_check.specs.Catalogues.{block_of, IsGoodEntry, AreAll}
+use Rattle.heesch_check.specs.Judging.{AreJudged, Judges}
+use Rattle.heesch_check.proofs.Answering.{BadBlock, bad_none, invalid_block, entry_bad, brief_bad, holds_at, next_item}
 use Rattle.heesch_check.proofs.Deciding.{RefusedIn, refused_decided, same_rest, block_decides, end_decides}
 use Rattle.heesch_check.proofs.Leading.{IsBounded, no_second_header}
 use Rattle.heesch_check.proofs.OneAnswer.{begins_entry}
@@ -199,8 +196,8 @@ early_open front header all n held left reached bound full j none read one_line 
     let c = checked front header j.es (text_of held ++ left) h.stand.text h.stand.form full j.good h.shown in
     elim (same_rest front header j.es (text_of held ++ left) bound o c no_entry next) [
       | inl g ↦
-        let same = same_reading held g.held left g.left h.stand.forms g.forms one_line g.one_line g.text in
-        bad (subst (AreAll header header.subject) (sym j.count) (g.in_time (subst (λ (x : List ℕ). begins x (codes "end ") ≡ true) same.1 ends)))
+          let same = same_reading held g.held left g.left h.stand.forms g.forms one_line g.one_line g.text in
+          bad (subst (AreAll header header.subject) (sym j.count) (g.in_time (subst (λ (x : List ℕ). begins x (codes "end ") ≡ true) same.1 ends)))
       | inr g ↦ bad (subst (AreAll header header.subject) (sym j.count) g.all)
     ]
 

@@ -1,5 +1,5 @@
 -- What reading came to, and the answer of the whole input.
-use Rattle.std.proofs.Common.{◌≡◌, ◌≢◌, ◌⊎◌, inl, inr, ℕ, ◌≤◌, arith, codes, ◌+◌, ◌<◌, true, false, List, [], ◌∷◌, ◌++◌, length, Option, Some, None, refl, sym, ap, subst, ◌∙◌, append_assoc}
+use Rattle.std.proofs.Common.{◌≡◌, ◌≢◌, ◌⊎◌, inl, inr, ℕ, ◌≤◌, arith, codes, ◌+◌, true, false, List, [], ◌∷◌, ◌++◌, length, Option, Some, None, refl, sym, ap, subst, ◌∙◌, append_assoc}
 use Rattle.std.specs.List.{AllByRecursion}
 use Rattle.std.specs.Io.KnownBytes.{Consumes}
 use Rattle.std.proofs.lemmas.Bool.{false≢true}
@@ -20,9 +20,8 @@ use Rattle.heesch_reader.specs.Items.{IsItemAt, item_lines, lines_of, AreItemsAt
 use Rattle.heesch_reader.specs.declared.progress.AtHand.{AtHand}
 use Rattle.heesch_reader.specs.declared.progress.AtHand.TheVariants as hands
 use Rattle.heesch_reader.specs.Endings.{ending_of}
-use Rattle.heesch_reader.specs.Faults.{begins, begins_next}
-use Rattle.heesch_reader.specs.Feeding.{Stands, IsShown, Refuses, FallsShort}
-use Rattle.heesch_reader.proofs.Walking.{shows_more}
+use Rattle.heesch_reader.specs.Faults.{begins}
+use Rattle.heesch_reader.specs.Feeding.{Refuses, FallsShort}
 use Rattle.heesch_stream.specs.Input.{IsAllOf, IsWholeCatalogue}
 use Rattle.heesch_stream.specs.Taking.{Streamed, HasRead, Begins, HasFault, HasTooMany}
 use Rattle.heesch_check.specs.declared.answers.Checked.{Checked}
@@ -33,7 +32,6 @@ use Rattle.heesch_check.specs.Answers.{HasNoHeader, IsTooLong, IsDecided, IsChec
 use Rattle.heesch_check.specs.Catalogues.{AreAll}
 use Rattle.heesch_check.specs.Judging.{IsFit, HoldsLines, AreJudged}
 use Rattle.heesch_check.specs.Reading.{AnswersLong, IsAnswerOf, IsReading, BeginWith, IsOpened}
-use Rattle.heesch_check.proofs.Blocks.{IsNext}
 use Rattle.heesch_check.proofs.Leading.{IsBounded}
 use Rattle.heesch_check.proofs.Seen.{IsRead}
 use Rattle.heesch_check.proofs.Stopping.{StopsAt, refused, fallen, stops_in_entry, stops_at_end, stops_behind_header, ends_valid, goes_on_open}
