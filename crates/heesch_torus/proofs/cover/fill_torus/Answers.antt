@@ -3,7 +3,8 @@ use Rattle.heesch_tiling.proofs.Steps.{cells_near}
 use Rattle.heesch_torus.specs.Beside.{FillBeside}
 use Rattle.heesch_torus.specs.Masks.{IsMaskOf, HasMasksFrom}
 use Rattle.heesch_torus.specs.Covers.{unmoved, IsFillingAt}
-use Rattle.heesch_torus.proofs.Filled.{masks_now, next_masks, next_none, masks_few, no_cover, few_nodes, used_more}
+use Rattle.heesch_torus.proofs.Filled.{no_cover}
+use Rattle.heesch_torus.proofs.Turning.{masks_now, next_masks, next_none, masks_few, few_nodes, used_more}
 use Rattle.heesch_torus.proofs.cover.fill_torus.Goals as goal
 
 pub add_masks-requires-clause-cells : goal.add_masks-requires-clause-cells
