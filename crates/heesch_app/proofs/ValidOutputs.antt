@@ -26,7 +26,7 @@ use Rattle.heesch_check.specs.declared.answers.Checked.TheVariants as answers
 use Rattle.heesch_check.specs.Answers.{IsValid, IsChecked}
 use Rattle.heesch_check.specs.Judging.{AreGood}
 use Rattle.heesch_check.proofs.Written.{written_is_valid}
-use Rattle.heesch_check.proofs.OneAnswer.{one_answer}
+use Rattle.heesch_check.proofs.OneAnswer.{one_answer, short_decided}
 use Rattle.heesch_app.specs.declared.status.Status.{Status}
 use Rattle.heesch_app.specs.declared.status.Status.TheVariants.{Done}
 use Rattle.heesch_app.specs.Checks.{check_status}
@@ -126,5 +126,5 @@ valid_is_done words input status text workers count asks short valid (request, a
   where
     by_answer : IsOutput (CheckRequest workers) (Some input) status text → status ≡ Done
     by_answer (read, all, (checked, is, status_is, text_is)) =
-        let one : checked ≡ answers.Valid count = one_answer input checked (answers.Valid count) short (subst (λ bytes. IsChecked bytes checked) all is) valid in
+        let one : checked ≡ answers.Valid count = one_answer input checked (answers.Valid count) (subst (λ bytes. IsChecked bytes checked) all is) (valid, short_decided input short) in
         status_is ∙ ap check_status one
