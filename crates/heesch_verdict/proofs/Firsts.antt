@@ -85,7 +85,7 @@ module _ (g : Geometry) where
   pub passed_over : (shape : List Cell) (turns : ℕ) (t : Triple) (answer : TorusAnswer) → IsTorusAnswer g shape t turns answer → ((tiling : Tiling) → answer ≡ Tiles tiling → ⊥) → IsPassedOver g shape turns t
   passed_over shape turns t (Tiles tiling) h none = absurd (none tiling refl)
   passed_over shape turns t (None log) h none = inl h.none
-  passed_over shape turns t (Spent log) h none = inr (log, h.0, h.1)
+  passed_over shape turns t (Spent log) h none = inr (log, h.alone, h.spent)
 
 -- ---- triples that are left open
 module _ (g : Geometry) (shape : List Cell) where
