@@ -1,8 +1,8 @@
-use Rattle.std.proofs.Common.{◌≡◌, ◌∙◌, suc, ◌+◌, List, [], ◌∷◌, ◌++◌, length, take, drop, ap, subst, sym, rules}
-use Rattle.std.proofs.lemmas.List.{take_more}
+use Rattle.std.proofs.Common.{◌≡◌, ◌∙◌, suc, ◌+◌, List, [], ◌∷◌, ◌++◌, length, take, drop, All, ap, subst, sym, rules}
+use Rattle.std.proofs.lemmas.List.{take_all, take_more}
 use Rattle.heesch_grid.specs.Lattice.{Triple}
 use Rattle.heesch_torus.specs.Covers.{IsCoverAnswer}
-use Rattle.heesch_verdict.specs.Domains.{AreLeftOpen, IsFirstOf}
+use Rattle.heesch_verdict.specs.Domains.{AreLeftOpen, IsFirstOf, IsTried}
 use Rattle.heesch_verdict.proofs.Firsts.{AreTried, domain_at, first_cover_of, found_cover, none_tried, open_tried, parts_at, tried_at_first}
 use Rattle.heesch_verdict.proofs.covers.first_cover.Goals as goal
 use Rattle.heesch_verdict.proofs.covers.first_cover.Goals.{in-None, in-Open+in_ok-push-in-Open}
@@ -62,3 +62,8 @@ loop-triple-preserved g c =
           let same : c.match-branch-2.left.items ≡ old ++ t ∷ [] = search rules in
           subst At (sym same) (subst (λ (ts : List Triple). AreTried geometry shape 1000000 ts (old ++ t ∷ [])) (sym more) (open_tried geometry shape 1000000 (take k triples) old t domain open_answer c.loop-triple.invariant))
     ]
+
+pub returns : goal.returns
+returns g c =
+    let Tried = IsTried g.G.Grid.geometry c.args.shape.now 1000000 in
+    subst (All Tried) (take_all c.loop-triple.triple-index c.args.triples.now c.loop-triple-test.false) c.loop-triple.invariant.tried
