@@ -168,4 +168,3 @@ bad_is_long words input status output workers asks (request, asked, out) bad =
 
     by_answer : IsOutput (CheckRequest workers) (Some input) status output → 1099511627776 < length input
     by_answer (read, all, (checked, is, status_is, text_is)) = by_checked checked (subst (λ bytes. IsChecked bytes checked) all is) (sym status_is ∙ bad)
-

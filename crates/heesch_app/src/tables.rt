@@ -22,7 +22,10 @@ pub fn table_reply<R: Source>(alloc: Global, source: &mut R) -> Result<Reply, Re
             text,
         }),
         Ok(Tabulated::Fault { line, number }) => {
-            bad_input(alloc, line, number).map_err(|_| ReadStop::NoMemory)
+            match bad_input(alloc, line, number) {
+                Ok(reply) => Ok(reply),
+                Err(_) => Err(ReadStop::NoMemory),
+            }
         }
         Err(TableStop::Failed) => Err(ReadStop::Failed),
         Err(TableStop::NoMemory) => Err(ReadStop::NoMemory),
