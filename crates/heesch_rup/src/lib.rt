@@ -1,4 +1,4 @@
-//! The check of a log, line by line, and whether its lines are new. It shares no code with the solver.
+//! The check of a log, line by line, and whether its lines are new. Of the solver it shares the types alone, and none of its code.
 #![tactic(auto)]
 
 mod added;
