@@ -1,12 +1,12 @@
 #!/usr/bin/env bash
-# Compares `encode` with a plain Rust program of the same method (encode.rs), on a heptomino at level 3: the variables, clauses
-# and literals of each, and the milliseconds that the variables and the whole took. The Rattle program (encode.rattle) is
-# built over a copy of the crates in a folder of its own, since one that stands outside the workspace is refused by the
-# gate; the first time, proving takes some minutes.
+# Compares `encode` with a plain Rust program of the same method (encode.rs, coronas.rs), on a heptomino at level 3: the
+# variables, clauses and literals of each, and the milliseconds that the variables and the whole took. The Rattle
+# program (encode.rattle) is built over a copy of the crates in a folder of its own, since one that stands outside the
+# workspace is refused by the gate; the first time, proving takes some minutes.
 set -eu
 cd "$(dirname "$0")"
 work=$(mktemp -d)
-rustc -O -o "$work/encode" encode.rs
+rustc -O --edition 2021 -o "$work/encode" encode.rs
 needed='io grid index shape place lattice cnf cert encode'
 for crate in $needed; do
   mkdir -p "$work/crates/heesch_$crate"

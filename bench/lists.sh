@@ -6,7 +6,7 @@ set -eu
 cd "$(dirname "$0")"
 program=../crates/heesch/out/heesch
 plain=$(mktemp -d)/polyforms
-rustc -O -o "$plain" polyforms.rs
+rustc -O --edition 2021 -o "$plain" polyforms.rs
 best() {
   local least=
   for _ in 1 2 3 4 5 6 7; do

@@ -1,5 +1,5 @@
 -- What `classify` writes is a valid catalogue, in the words of `check`.
-use Rattle.std.proofs.Common.{◌≡◌, ℕ, suc, ◌+◌, ◌≤◌, false, List, [], ◌∷◌, ◌++◌, length, map, refl, sym, ap, ◌∙◌, subst, arith, inl, inr, append_assoc}
+use Rattle.std.proofs.Common.{◌≡◌, ℕ, suc, ◌+◌, ◌≤◌, ◌<◌, false, List, [], ◌∷◌, ◌++◌, length, map, length-append, refl, sym, ap, ◌∙◌, subst, arith, inl, inr, append_assoc}
 use Rattle.std.specs.Prelude.{Option, Some, slice_get, All}
 use Rattle.std.specs.List.{AllByRecursion, AllZip}
 use Rattle.std.specs.Io.KnownBytes.{Appends}
@@ -17,19 +17,25 @@ use Rattle.heesch_cert.specs.declared.limits.Limits.{Limits}
 use Rattle.heesch_cert.specs.TrueEntry.{IsTrueEntry}
 use Rattle.heesch_line.specs.Forms.{IsLine}
 use Rattle.heesch_text.specs.declared.line.Line.TheVariants as lines
-use Rattle.heesch_words.specs.declared.requests.Request.TheVariants.{Classify as ClassifyRequest, Check as CheckRequest}
+use Rattle.heesch_words.specs.declared.requests.Request.TheVariants.{Classify as ClassifyRequest, Check as CheckRequest, Table as TableRequest}
 use Rattle.heesch_words.specs.Requests.{Asks}
 use Rattle.heesch_words.proofs.Forms.{one_request}
 use Rattle.heesch_words.proofs.Ranges.{asked_in_range}
 use Rattle.heesch_catalogue.specs.Catalogues.{AreReadable, IsCatalogue}
+use Rattle.heesch_check.specs.declared.answers.Checked.{Checked}
 use Rattle.heesch_check.specs.declared.answers.Checked.TheVariants as answers
+use Rattle.heesch_tabulate.specs.declared.answers.Tabulated.{Tabulated}
+use Rattle.heesch_tabulate.specs.declared.answers.Tabulated.TheVariants as told
+use Rattle.heesch_tabulate.specs.Tabulating.{IsTallied, IsTabulated}
+use Rattle.heesch_tabulate.proofs.OneTabulation.{apart}
 use Rattle.heesch_check.specs.Answers.{IsValid, IsChecked}
 use Rattle.heesch_check.specs.Judging.{AreGood}
 use Rattle.heesch_check.proofs.Written.{written_is_valid}
-use Rattle.heesch_check.proofs.OneAnswer.{one_answer}
+use Rattle.heesch_check.proofs.OneAnswer.{one_answer, short_decided}
 use Rattle.heesch_app.specs.declared.status.Status.{Status}
-use Rattle.heesch_app.specs.declared.status.Status.TheVariants.{Done}
+use Rattle.heesch_app.specs.declared.status.Status.TheVariants.{Done, Invalid, BadInput}
 use Rattle.heesch_app.specs.Checks.{check_status}
+use Rattle.heesch_app.specs.Tables.{table_status}
 use Rattle.heesch_app.specs.Inputs.{AreGiven, IsCanonicalOf}
 use Rattle.heesch_app.specs.Outputs.{IsOutput, IsAnswer, header_of, WritesValid}
 
@@ -126,5 +132,40 @@ valid_is_done words input status text workers count asks short valid (request, a
   where
     by_answer : IsOutput (CheckRequest workers) (Some input) status text → status ≡ Done
     by_answer (read, all, (checked, is, status_is, text_is)) =
-        let one : checked ≡ answers.Valid count = one_answer input checked (answers.Valid count) short (subst (λ bytes. IsChecked bytes checked) all is) valid in
+        let one : checked ≡ answers.Valid count = one_answer input checked (answers.Valid count) (subst (λ bytes. IsChecked bytes checked) all is) (valid, short_decided input short) in
         status_is ∙ ap check_status one
+
+-- over an input that has a tally, `table` ends Done
+pub tallied_is_done : (words : List (List ℕ)) (input text : List ℕ) (status : Status) (output : List ℕ) → Asks words TableRequest → IsTallied (Some input) text
+    → IsAnswer words (Some input) status output → status ≡ Done
+tallied_is_done words input text status output asks tallied (request, asked, out) =
+    let same : request ≡ TableRequest = one_request words request _ asked asks in
+    by_answer (subst (λ r. IsOutput r (Some input) status output) same out)
+  where
+    by_told : (told : Tabulated) → IsTabulated (Some input) told → status ≡ table_status told → status ≡ Done
+    by_told (told.Tally counts) is e = e
+    by_told (told.Fault line number) is e = absurd (apart input text line number tallied is)
+
+    by_answer : IsOutput TableRequest (Some input) status output → status ≡ Done
+    by_answer (answer, is, status_is, text_is) = by_told answer is status_is
+
+-- where `check` finds bad input, the input is longer than is read
+pub bad_is_long : (words : List (List ℕ)) (input : List ℕ) (status : Status) (output : List ℕ) (workers : ℕ) → Asks words (CheckRequest workers) → IsAnswer words (Some input) status output
+    → status ≡ BadInput → 1099511627776 < length input
+bad_is_long words input status output workers asks (request, asked, out) bad =
+    let same : request ≡ CheckRequest workers = one_request words request _ asked asks in
+    by_answer (subst (λ r. IsOutput r (Some input) status output) same out)
+  where
+    by_checked : (checked : Checked) → IsChecked input checked → check_status checked ≡ BadInput → 1099511627776 < length input
+    by_checked (answers.Valid count) is e = absurd (let no : Done ≡ BadInput = e in cc)
+    by_checked answers.InvalidHeader is e = absurd (let no : Invalid ≡ BadInput = e in cc)
+    by_checked (answers.InvalidEntry number) is e = absurd (let no : Invalid ≡ BadInput = e in cc)
+    by_checked answers.InvalidEnd is e = absurd (let no : Invalid ≡ BadInput = e in cc)
+    by_checked (answers.TooLong line) is e =
+        let t = is.0 in
+        let all : length input ≡ length t.front + suc (length t.behind) = ap length t.text ∙ length-append t.front (t.byte ∷ t.behind) in
+        omega (arith, all, t.length_is)
+
+    by_answer : IsOutput (CheckRequest workers) (Some input) status output → 1099511627776 < length input
+    by_answer (read, all, (checked, is, status_is, text_is)) = by_checked checked (subst (λ bytes. IsChecked bytes checked) all is) (sym status_is ∙ bad)
+

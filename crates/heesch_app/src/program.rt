@@ -1,10 +1,11 @@
-ghost use Rattle.std.specs.Prelude.{◌≡◌, ◌≢◌, ◌≤◌, ◌^◌, ◌⊎◌, ℕ, List, length, map, string_bytes, false, Some, IfOk, Err};
+ghost use Rattle.std.specs.Prelude.{◌≡◌, ◌≢◌, ◌≤◌, ◌<◌, ◌^◌, ◌⊎◌, ℕ, List, length, map, string_bytes, false, Some, IfOk, Err};
 ghost use Rattle.heesch_cert.specs.declared.header.Subject.{Subject};
 ghost use Rattle.heesch_cert.specs.declared.limits.Limits.{Limits};
 ghost use Rattle.heesch_check.specs.Answers.{IsValid};
 ghost use Rattle.heesch_grid.specs.declared.GridName.{GridName};
 ghost use Rattle.heesch_io.specs.Causes.{Rose};
-ghost use Rattle.heesch_words.specs.declared.requests.Request.TheVariants.{Classify as ClassifyRequest, Check as CheckRequest};
+ghost use Rattle.heesch_words.specs.declared.requests.Request.TheVariants.{Classify as ClassifyRequest, Check as CheckRequest, Table as TableRequest};
+ghost use Rattle.heesch_tabulate.specs.Tabulating.{IsTallied};
 ghost use Rattle.heesch_words.specs.Requests.{Asks};
 ghost use Rattle.heesch_app.specs.Outputs.{IsAccepted, IsOutput, Reads, AreReading, Writes, WritesPrefix, AsksForCatalogue, IsCatalogued, WritesValid};
 ghost use Rattle.heesch_app.specs.Ranges.{IsInRange};
@@ -59,6 +60,11 @@ pub fn run<T: Threads + Sync, R: Source, W: Sink, H: Gate + Sync>(
     ensures passes { (input : List ℕ) (workers count : ℕ) → R.left source.old ≡ Some input → length input ≤ 2 ^ 40
         → Asks (map string_bytes words.now) (CheckRequest workers) → IsValid input count
         → (result ≢ Status.Invalid) × (result ≢ Status.BadInput) }
+    // Only an input that is longer is told `check` bad input, and no input that has a tally `table`.
+    ensures too_long { (input : List ℕ) (workers : ℕ) → R.left source.old ≡ Some input
+        → Asks (map string_bytes words.now) (CheckRequest workers) → result ≡ Status.BadInput → 2 ^ 40 < length input }
+    ensures tables { (input tally : List ℕ) → R.left source.old ≡ Some input
+        → Asks (map string_bytes words.now) TableRequest → IsTallied (Some input) tally → result ≢ Status.BadInput }
     ensures bad_input { result ≡ Status.BadInput →
         Writes (map string_bytes words.now) (R.left source.old) Status.BadInput (W.held sink.old) (W.held sink.new) }
     ensures invalid { result ≡ Status.Invalid →

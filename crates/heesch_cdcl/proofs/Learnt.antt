@@ -1,4 +1,4 @@
-use Rattle.std.proofs.Common.{◌≡◌, ◌≢◌, ℕ, ◌-◌, ◌<◌, ◌≤◌, Bool, true, false, not, cond, eqb, unwrap_or, Option, None, Some, Result, Ok, Err, IfOk, option_map, List, [], ◌∷◌, take, Decides, sym, ap, ◌∙◌, subst, inl, inr, ◌⊎◌, refl, arith}
+use Rattle.std.proofs.Common.{◌≡◌, ◌≢◌, ℕ, ◌-◌, ◌<◌, ◌≤◌, Bool, true, false, not, cond, eqb, unwrap_or, Option, None, Some, option_map, List, [], ◌∷◌, take, Decides, sym, ap, ◌∙◌, subst, inl, inr, ◌⊎◌, refl, arith}
 use Rattle.std.specs.List.{Contains}
 use Rattle.std.proofs.lemmas.Bool.{cases_lt}
 use Rattle.std.proofs.lemmas.Bool.Decides.{Decides-eqb}

@@ -7,7 +7,7 @@ use Rattle.heesch_cnf.specs.declared.literal.Lit.{Lit}
 use Rattle.heesch_cnf.specs.declared.log.Line.{Line}
 use Rattle.heesch_cnf.specs.declared.log.Line.TheVariants.{Learn, Given}
 use Rattle.heesch_cnf.specs.Clauses.{IsClause, IsNew}
-use Rattle.heesch_cnf.specs.Lines.{clauses_with, clause_of, LineHolds, IsNumber, IsShown, FinalHolds}
+use Rattle.heesch_cnf.specs.Lines.{clauses_with, clause_of, LineHolds, IsNumber, IsShown}
 use Rattle.heesch_cnf.proofs.Lists.{Contains-none}
 use Rattle.heesch_trail.specs.Fixpoint.{IsSettled, IsFixpoint}
 use Rattle.heesch_trail.specs.State.{State, IsTrail, values_of, level_of, up_to}

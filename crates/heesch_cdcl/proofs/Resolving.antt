@@ -8,7 +8,7 @@ use Rattle.std.proofs.lemmas.Bool.Decides.{Decides-eqb}
 use Rattle.heesch_cnf.specs.declared.literal.Lit.{Lit}
 use Rattle.heesch_cnf.specs.Literals.{Values, lit_value, signed, is_false_value}
 use Rattle.heesch_cnf.specs.Clauses.{IsClause, left_of}
-use Rattle.heesch_cnf.specs.Lines.{numbered, is_empty, IsNumber, clauses_with}
+use Rattle.heesch_cnf.specs.Lines.{numbered, is_empty, IsNumber}
 use Rattle.heesch_cnf.proofs.Lists.{Contains-none, Contains-cases, Contains-filter}
 use Rattle.heesch_trail.specs.declared.step.Step.{Step}
 use Rattle.heesch_trail.specs.Fixpoint.{IsFalse, IsSettled}
@@ -18,8 +18,6 @@ use Rattle.heesch_cdcl.specs.Marking.{marked, level_in, AreMarks, MarksClause}
 use Rattle.heesch_cdcl.specs.Resolved.{IsDerived, IsResolving, IsBegun}
 use Rattle.heesch_cdcl.specs.Learning.{IsConflict}
 use Rattle.heesch_cdcl.specs.Search.{LowerFixpoints}
-use Rattle.heesch_cdcl.specs.Searching.{IsSearching}
-use Rattle.heesch_cnf.specs.declared.log.Line.{Line}
 use Rattle.heesch_cdcl.proofs.Derive.{Derives-start, Derives-earlier, Derives-resolve, values_of-push}
 use Rattle.heesch_cdcl.proofs.MarkLemmas.{some_marked, same_or_not, marked-set_same, marked-set_other}
 use Rattle.heesch_cdcl.proofs.Facts.{AtStep, at_step, Trail-apart, assigned-fact, fact-is, fact-take, fact-level, fact-level_take, fact-value, value-take, value-low}

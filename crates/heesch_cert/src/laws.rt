@@ -1,5 +1,5 @@
 //! What certificates mean, each the contract of a function that does nothing.
-ghost use Rattle.heesch_cert.specs.Statements.{ModelWhereCoronas, ModelsAreCoronas, RefutedMeansNone, RefutedTorusMeansNoCover, TrueEntriesAreRight};
+ghost use Rattle.heesch_cert.specs.Statements.{ModelWhereCoronas, ModelsAreCoronas, RefutedMeansNone, RefutedTorusMeansNoCover, TrueEntriesAreRight, PlainTilingsAreKept};
 ghost use Rattle.heesch_cert.specs.Examples.{AreAsExpected};
 
 /// The chosen layers of a model of the corona formula are coronas.
@@ -25,6 +25,11 @@ pub fn refuted_torus_means_no_cover()
 /// The verdict of every true entry is right.
 pub fn true_entries_are_right()
     ensures { TrueEntriesAreRight }
+{}
+
+/// A true entry of a shape whose plain tiling the limit on domains admits is a tiling of that kind, and never undecided.
+pub fn plain_tilings_are_kept()
+    ensures { PlainTilingsAreKept }
 {}
 
 /// On the square grid the entry of the single square, which tiles by translations, is true under the default limits; on

@@ -21,16 +21,17 @@ use Rattle.heesch_grammar.proofs.Truth.{may_stand}
 use Rattle.heesch_reader.specs.declared.item.Item.{Item}
 use Rattle.heesch_reader.specs.declared.item.Item.TheVariants as items
 use Rattle.heesch_reader.specs.declared.progress.Progress.{Progress}
+use Rattle.heesch_reader.specs.declared.progress.Progress.TheVariants as stages
 use Rattle.heesch_reader.specs.declared.scan.Appended.{Appended}
 use Rattle.heesch_reader.specs.Items.{item_lines, lines_of, AreItemsAt, with_item, with_items, none_appended}
 use Rattle.heesch_reader.specs.Feeding.{IsInside}
 use Rattle.heesch_check.specs.declared.answers.Checked.{Checked}
-use Rattle.heesch_check.specs.Answers.{IsInvalidEntry, IsInvalidEnd, IsChecked}
-use Rattle.heesch_check.specs.Catalogues.{IsGoodEntry, AreAll}
+use Rattle.heesch_check.specs.Answers.{IsInvalidEntry, IsInvalidEnd, Tells}
+use Rattle.heesch_check.specs.Catalogues.{block_of, IsGoodEntry, AreAll, AreChecked}
 use Rattle.heesch_check.specs.Judging.{AreItemsOf, AreGood, AreJudged, Judges, HoldsLines, IsFit}
 use Rattle.heesch_check.proofs.Blocks.{IsNext, block_lines}
-use Rattle.heesch_check.proofs.SameLines.{same_lines}
-use Rattle.heesch_check.proofs.EntryLines.{body_lines, body_inside, not_brief}
+use Rattle.heesch_reader.proofs.SameLines.{same_lines}
+use Rattle.heesch_reader.proofs.EntryLines.{body_lines, body_inside, not_brief}
 use Rattle.heesch_check.proofs.Leading.{IsBounded, end_counts, no_second_header}
 use Rattle.heesch_check.proofs.Seen.{IsRead, Stand, placed, checked, counted}
 
@@ -54,7 +55,7 @@ none_ended input header front back item n held tail reached j s = elim j.ends_al
 ]
 
 -- behind judged items, an item and others, the lines held and the tail stand
-pub record Next (input : List ℕ) (header : Header) (es : List Entry) (item : Item) (back : List Item) (held : List Line) (tail : List ℕ) : Type 0 where
+pub record Next (input : List ℕ) (header : Header) (es : List Entry) (item : Item) (back : List Item) (held : List Line) (tail : List ℕ) (reached : Progress) : Type 0 where
   pub text : input ≡ header_text header ++ (text_of (flat_map entry_lines es) ++ (text_of (item_lines item) ++ (text_of (lines_of back ++ held) ++ tail)))
   pub form : IsLine (lines.Header header)
   pub forms : AllByRecursion IsLine (item_lines item)
@@ -63,13 +64,14 @@ pub record Next (input : List ℕ) (header : Header) (es : List Entry) (item : I
   pub shapes : spot.shapes ≡ length es
   pub last : Spot
   pub goes_on : steps false spot (item_lines item ++ (lines_of back ++ held)) ≡ Some last
+  pub reached_is : stages.Behind false last ≡ reached
 
 all_left : (xs ys : List Line) → AllByRecursion IsLine (xs ++ ys) → AllByRecursion IsLine xs
 all_left [] ys h = tt
 all_left (x ∷ xs) ys h = (h.0, all_left xs ys h.1)
 
 pub next_item : (input : List ℕ) (header : Header) (front back : List Item) (item : Item) (n : ℕ) (held : List Line) (tail : List ℕ) (reached : Progress) → IsBounded header → header.brief ≡ false
-    → (j : AreJudged header front n) → IsRead input (front ++ item ∷ back) held tail reached → (j.ends ≡ []) × Next input header j.es item back held tail
+    → (j : AreJudged header front n) → IsRead input (front ++ item ∷ back) held tail reached → (j.ends ≡ []) × Next input header j.es item back held tail reached
 next_item input header front back item n held tail reached bound full j read =
     let s = placed input header front (item ∷ back) n held tail reached bound full j read in
     let none = none_ended input header front back item n held tail reached j s in
@@ -88,6 +90,7 @@ next_item input header front back item n held tail reached bound full j read =
         shapes = s.shapes;
         last = s.last;
         goes_on = subst (λ (x : List Line). steps false s.spot x ≡ Some s.last) more s.goes_on;
+        reached_is = s.reached_is;
       },
     )
 
@@ -115,51 +118,86 @@ shown_last input header front item n held tail reached j none one read =
 
 -- ---- an item at fault
 
--- a block that is the text of no good entry
-invalid_block : (input : List ℕ) (header : Header) (es : List Entry) (cells : List Cell) (inner : List Line) (behind : List ℕ) (number : ℕ) → header.brief ≡ false → AreGood header 0 es
-    → input ≡ header_text header ++ (text_of (flat_map entry_lines es) ++ (text_of (lines.Shape cells ∷ inner) ++ behind)) → IsLine (lines.Header header)
-    → AllByRecursion IsLine (lines.Shape cells ∷ inner) → AllByRecursion IsInside inner → IsNext behind
-    → ((e : Entry) → IsGoodEntry header (length es) e → text_of (lines.Shape cells ∷ inner) ≡ entry_text e → ⊥) → number ≡ length es + 1
-    → IsInvalidEntry input number
-invalid_block input header es cells inner behind number full good text form forms inside next none is =
-    let rest = text_of (lines.Shape cells ∷ inner) ++ behind in
+-- behind a header and good entries stand a `shape` line and lines inside an entry, and then the next entry or the end, or nothing; they are the text of no good entry
+pub record BadBlock (input : List ℕ) (header : Header) (es : List Entry) (cells : List Cell) (inner : List Line) (behind : List ℕ) : Type 0 where
+  pub text : input ≡ header_text header ++ (text_of (flat_map entry_lines es) ++ (text_of (lines.Shape cells ∷ inner) ++ behind))
+  pub form : IsLine (lines.Header header)
+  pub full : header.brief ≡ false
+  pub good : AreGood header 0 es
+  pub forms : AllByRecursion IsLine (lines.Shape cells ∷ inner)
+  pub inside : AllByRecursion IsInside inner
+  pub next : IsNext behind
+  pub none : (e : Entry) → IsGoodEntry header (length es) e → text_of (lines.Shape cells ∷ inner) ≡ entry_text e → ⊥
+
+pub bad_checked : (input : List ℕ) (header : Header) (es : List Entry) (cells : List Cell) (inner : List Line) (behind : List ℕ) → BadBlock input header es cells inner behind → AreChecked input header es (text_of (lines.Shape cells ∷ inner) ++ behind)
+bad_checked input header es cells inner behind b = checked input header es (text_of (lines.Shape cells ∷ inner) ++ behind) b.text b.form b.full b.good (λ some. inr refl)
+
+pub bad_none : (input : List ℕ) (header : Header) (es : List Entry) (cells : List Cell) (inner : List Line) (behind : List ℕ) → BadBlock input header es cells inner behind
+    → (e : Entry) → IsGoodEntry header (length es) e → block_of (text_of (lines.Shape cells ∷ inner) ++ behind) ≡ entry_text e → ⊥
+bad_none input header es cells inner behind b e g same = b.none e g (sym (block_lines (lines.Shape cells) inner behind b.forms b.inside b.next).0 ∙ same)
+
+pub invalid_block : (input : List ℕ) (header : Header) (es : List Entry) (cells : List Cell) (inner : List Line) (behind : List ℕ) (number : ℕ) → BadBlock input header es cells inner behind → number ≡ length es + 1 → IsInvalidEntry input number
+invalid_block input header es cells inner behind number b is = record {
+  header = header;
+  es = es;
+  rest = text_of (lines.Shape cells ∷ inner) ++ behind;
+  checked = bad_checked input header es cells inner behind b;
+  begins_entry = refl;
+  no_entry = bad_none input header es cells inner behind b;
+  number_is = is;
+}
+
+-- what stands behind an item
+abbrev pub behind_item : List Item → List Line → List ℕ → List ℕ
+behind_item back held tail = text_of (lines_of back ++ held) ++ tail
+
+pub entry_bad : (input : List ℕ) (header : Header) (front back : List Item) (line : ℕ) (e : Entry) (n : ℕ) (held : List Line) (tail : List ℕ) (reached : Progress) → IsBounded header → header.brief ≡ false
+    → (j : AreJudged header front n) → IsRead input (front ++ items.Entry line e ∷ back) held tail reached → HoldsItsLines e → (IsGoodEntry header n e → ⊥) → BadBlock input header j.es e.cells (body_lines e) (behind_item back held tail)
+entry_bad input header front back line e n held tail reached bound full j read holds bad =
+    let i = next_item input header front back (items.Entry line e) n held tail reached bound full j read in
     record {
-      header = header;
-      es = es;
-      rest = rest;
-      checked = checked input header es rest text form full good (λ some. inr refl);
-      begins_entry = refl;
-      no_entry = λ e g same. none e g (sym (block_lines (lines.Shape cells) inner behind forms inside next).0 ∙ same);
-      number_is = is;
+      text = i.1.text;
+      form = i.1.form;
+      full = full;
+      good = j.good;
+      forms = i.1.forms;
+      inside = body_inside e;
+      next = next_behind back (entry_lines e) held tail i.1.spot i.1.last i.1.goes_on
+          (λ none. shown_last input header front (items.Entry line e) n held tail reached j i.0 (λ a. (refl, refl)) (subst (λ (x : List Item). IsRead input (front ++ items.Entry line e ∷ x) held tail reached) none read));
+      none = λ other good same.
+          let one : e ≡ other = same_entry e other holds (may_stand (geometry_of header.grid) header.limits other good.is_true).holds (same_lines (entry_lines e) (entry_lines other) i.1.forms good.forms same) in
+          bad (subst (λ (x : ℕ). IsGoodEntry header x e) (sym j.count) (subst (λ (x : Entry). IsGoodEntry header (length j.es) x) (sym one) good));
     }
 
 entry_fault : (input : List ℕ) (header : Header) (front back : List Item) (line : ℕ) (e : Entry) (n : ℕ) (held : List Line) (tail : List ℕ) (reached : Progress) → IsBounded header → header.brief ≡ false
     → AreJudged header front n → IsRead input (front ++ items.Entry line e ∷ back) held tail reached → HoldsItsLines e → (IsGoodEntry header n e → ⊥) → IsInvalidEntry input (n + 1)
 entry_fault input header front back line e n held tail reached bound full j read holds bad =
-    let i = next_item input header front back (items.Entry line e) n held tail reached bound full j read in
-    let behind = text_of (lines_of back ++ held) ++ tail in
-    let next : IsNext behind = next_behind back (entry_lines e) held tail i.1.spot i.1.last i.1.goes_on
-    (λ none. shown_last input header front (items.Entry line e) n held tail reached j i.0 (λ a. (refl, refl)) (subst (λ (x : List Item). IsRead input (front ++ items.Entry line e ∷ x) held tail reached) none read)) in
-    invalid_block input header j.es e.cells (body_lines e) behind (n + 1) full j.good i.1.text i.1.form i.1.forms (body_inside e) next
-    (λ other good same.
-    let one : e ≡ other = same_entry e other holds (may_stand (geometry_of header.grid) header.limits other good.is_true).holds (same_lines (entry_lines e) (entry_lines other) i.1.forms good.forms same) in
-    bad (subst (λ (x : ℕ). IsGoodEntry header x e) (sym j.count) (subst (λ (x : Entry). IsGoodEntry header (length j.es) x) (sym one) good)))
-    (ap (λ (x : ℕ). x + 1) j.count)
+    invalid_block input header j.es e.cells (body_lines e) (behind_item back held tail) (n + 1) (entry_bad input header front back line e n held tail reached bound full j read holds bad) (ap (λ (x : ℕ). x + 1) j.count)
+
+pub brief_bad : (input : List ℕ) (header : Header) (front back : List Item) (line : ℕ) (cells : List Cell) (verdict : Verdict) (n : ℕ) (held : List Line) (tail : List ℕ) (reached : Progress) → IsBounded header → header.brief ≡ false
+    → (j : AreJudged header front n) → IsRead input (front ++ items.Brief line cells verdict ∷ back) held tail reached → BadBlock input header j.es cells (lines.Verdict verdict ∷ []) (behind_item back held tail)
+brief_bad input header front back line cells verdict n held tail reached bound full j read =
+    let i = next_item input header front back (items.Brief line cells verdict) n held tail reached bound full j read in
+    let two = lines.Shape cells ∷ lines.Verdict verdict ∷ [] in
+    record {
+      text = i.1.text;
+      form = i.1.form;
+      full = full;
+      good = j.good;
+      forms = i.1.forms;
+      inside = (tt, tt);
+      next = next_behind back two held tail i.1.spot i.1.last i.1.goes_on
+          (λ none. shown_last input header front (items.Brief line cells verdict) n held tail reached j i.0 (λ a. (refl, refl)) (subst (λ (x : List Item). IsRead input (front ++ items.Brief line cells verdict ∷ x) held tail reached) none read));
+      none = λ other good same.
+          let one : two ≡ entry_lines other = same_lines two (entry_lines other) i.1.forms good.forms same in
+          let none : evidence_lines other.verdict other.evidence ≡ [] = cc in
+          not_brief other.verdict other.evidence none;
+    }
 
 brief_fault : (input : List ℕ) (header : Header) (front back : List Item) (line : ℕ) (cells : List Cell) (verdict : Verdict) (n : ℕ) (held : List Line) (tail : List ℕ) (reached : Progress) → IsBounded header → header.brief ≡ false
     → AreJudged header front n → IsRead input (front ++ items.Brief line cells verdict ∷ back) held tail reached → IsInvalidEntry input (n + 1)
 brief_fault input header front back line cells verdict n held tail reached bound full j read =
-    let i = next_item input header front back (items.Brief line cells verdict) n held tail reached bound full j read in
-    let behind = text_of (lines_of back ++ held) ++ tail in
-    let two = lines.Shape cells ∷ lines.Verdict verdict ∷ [] in
-    let next : IsNext behind = next_behind back two held tail i.1.spot i.1.last i.1.goes_on
-    (λ none. shown_last input header front (items.Brief line cells verdict) n held tail reached j i.0 (λ a. (refl, refl)) (subst (λ (x : List Item). IsRead input (front ++ items.Brief line cells verdict ∷ x) held tail reached) none read)) in
-    invalid_block input header j.es cells (lines.Verdict verdict ∷ []) behind (n + 1) full j.good i.1.text i.1.form i.1.forms (tt, tt) next
-    (λ other good same.
-    let one : two ≡ entry_lines other = same_lines two (entry_lines other) i.1.forms good.forms same in
-    let none : evidence_lines other.verdict other.evidence ≡ [] = cc in
-    not_brief other.verdict other.evidence none)
-    (ap (λ (x : ℕ). x + 1) j.count)
+    invalid_block input header j.es cells (lines.Verdict verdict ∷ []) (behind_item back held tail) (n + 1) (brief_bad input header front back line cells verdict n held tail reached bound full j read) (ap (λ (x : ℕ). x + 1) j.count)
 
 end_fault : (input : List ℕ) (header : Header) (front back : List Item) (count n : ℕ) (held : List Line) (tail : List ℕ) (reached : Progress) → IsBounded header → header.brief ≡ false
     → AreJudged header front n → IsRead input (front ++ items.End count ∷ back) held tail reached → (AreAll header header.subject n → ⊥) → IsInvalidEnd input
@@ -224,7 +262,7 @@ end_judged header front count n j none all =
 
 -- the answer is that of the input, or the item belongs to those that were judged
 abbrev pub Settled : List ℕ → Header → List Item → (after : ℕ) → Option Checked → Type 0
-Settled input header judged after (Some answer) = IsChecked input answer
+Settled input header judged after (Some answer) = Tells input answer
 Settled input header judged after None = AreJudged header judged after
 
 entry_settled : (input : List ℕ) (header : Header) (front back : List Item) (line : ℕ) (e : Entry) (before after : ℕ) (held : List Line) (tail : List ℕ) (reached : Progress) (result : Option Checked)
@@ -234,7 +272,7 @@ entry_settled input header front back line e before after held tail reached None
     let i = next_item input header front back (items.Entry line e) before held tail reached bound full j read in
     subst (AreJudged header (front ++ items.Entry line e ∷ [])) (sym judges.1) (more_judged header front line e before j i.0 judges.0)
 entry_settled input header front back line e before after held tail reached (Some answer) bound full j read holds judges =
-    subst (IsChecked input) (sym judges.0) (entry_fault input header front back line e before held tail reached bound full j read holds judges.1)
+    subst (Tells input) (sym judges.0) (entry_fault input header front back line e before held tail reached bound full j read holds judges.1)
 
 end_settled : (input : List ℕ) (header : Header) (front back : List Item) (count before after : ℕ) (held : List Line) (tail : List ℕ) (reached : Progress) (result : Option Checked)
     → IsBounded header → header.brief ≡ false → (j : AreJudged header front before) → IsRead input (front ++ items.End count ∷ back) held tail reached
@@ -243,7 +281,7 @@ end_settled input header front back count before after held tail reached None bo
     let i = next_item input header front back (items.End count) before held tail reached bound full j read in
     subst (AreJudged header (front ++ items.End count ∷ [])) (sym judges.1) (end_judged header front count before j i.0 judges.0)
 end_settled input header front back count before after held tail reached (Some answer) bound full j read judges =
-    subst (IsChecked input) (sym judges.0) (end_fault input header front back count before held tail reached bound full j read judges.1)
+    subst (Tells input) (sym judges.0) (end_fault input header front back count before held tail reached bound full j read judges.1)
 
 -- what is judged of an item behind those that were judged
 pub settled : (input : List ℕ) (header : Header) (front back : List Item) (item : Item) (before after : ℕ) (held : List Line) (tail : List ℕ) (reached : Progress) (result : Option Checked)

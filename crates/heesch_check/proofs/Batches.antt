@@ -1,18 +1,24 @@
 -- Items that were judged one after the other.
-use Rattle.std.proofs.Common.{◌≡◌, ℕ, ◌+◌, ◌<◌, true, false, List, [], ◌∷◌, ◌++◌, length, get_or, take, drop, Option, Some, None, refl, sym, ap, subst, ◌∙◌, append_assoc}
+use Rattle.std.proofs.Common.{◌≡◌, ◌⊎◌, inl, inr, ℕ, ◌+◌, ◌<◌, ◌≤◌, true, false, List, [], ◌∷◌, ◌++◌, length, get_or, take, drop, Option, Some, None, refl, sym, ap, subst, ◌∙◌, append_assoc}
 use Rattle.std.specs.Prelude.{is_some}
 use Rattle.std.proofs.lemmas.List.{append-nil}
 use Rattle.std.proofs.lemmas.List.{take_more, take-append-drop, drop_more}
 use Rattle.heesch_cert.specs.declared.header.Header.{Header}
 use Rattle.heesch_text.specs.declared.line.Line.{Line}
+use Rattle.heesch_text.specs.Lines.{text_of}
+use Rattle.heesch_reader.specs.Items.{with_items, none_appended}
+use Rattle.heesch_reader.specs.Feeding.{IsShown, Stands}
 use Rattle.heesch_reader.specs.declared.item.Item.{Item}
 use Rattle.heesch_reader.specs.declared.progress.Progress.{Progress}
 use Rattle.heesch_check.specs.declared.answers.Checked.{Checked}
-use Rattle.heesch_check.specs.Answers.{IsChecked}
+use Rattle.heesch_check.specs.Answers.{Tells, Comes}
 use Rattle.heesch_check.specs.Judging.{AreJudged, Judges, AreAllGood, StopsIn, JudgesAll}
 use Rattle.heesch_check.proofs.Leading.{IsBounded}
 use Rattle.heesch_check.proofs.Seen.{IsRead}
 use Rattle.heesch_check.proofs.Answering.{settled, holds_at}
+use Rattle.heesch_check.proofs.Deciding.{Fronted, reads_on, stands_read, shown_on}
+use Rattle.heesch_check.proofs.Early.{comes, item_decides}
+use Rattle.heesch_check.proofs.OneAnswer.{short_decided}
 
 -- one more item that is good
 pub good_more : (header : Header) (before middle after : ℕ) (front : List Item) (item : Item) → AreAllGood header before middle front → Judges header middle after item None → AreAllGood header before after (front ++ item ∷ [])
@@ -32,12 +38,27 @@ all_settled input header found (item ∷ front) back before after held tail reac
 
 -- the answer of an item at fault is that of the input
 pub stop_settled : (input : List ℕ) (header : Header) (found items : List Item) (before after : ℕ) (held : List Line) (tail : List ℕ) (reached : Progress) (answer : Checked) → IsBounded header → header.brief ≡ false
-    → AreJudged header found before → IsRead input (found ++ items) held tail reached → StopsIn header before after items answer → IsChecked input answer
+    → AreJudged header found before → IsRead input (found ++ items) held tail reached → StopsIn header before after items answer → Tells input answer
 stop_settled input header found items before after held tail reached answer bound full j read stop =
     let whole : IsRead input (found ++ (stop.front ++ stop.item ∷ stop.back)) held tail reached = subst (λ (x : List Item). IsRead input (found ++ x) held tail reached) stop.split read in
     let here = all_settled input header found stop.front (stop.item ∷ stop.back) before stop.middle held tail reached bound full j whole stop.good in
     let read_on : IsRead input ((found ++ stop.front) ++ stop.item ∷ stop.back) held tail reached = subst (λ (x : List Item). IsRead input x held tail reached) (sym (append_assoc found stop.front (stop.item ∷ stop.back))) whole in
     settled input header (found ++ stop.front) stop.back stop.item stop.middle after held tail reached (Some answer) bound full here read_on (holds_at 0 (found ++ stop.front) stop.back stop.item read_on.numbered) stop.judges
+
+-- an item at fault among the bytes that are read decides
+pub stop_decided : (input : List ℕ) (header : Header) (found items : List Item) (before after : ℕ) (answer : Checked) → IsBounded header → header.brief ≡ false
+    → AreJudged header found before → (length input ≤ 1099511627776) ⊎ Fronted input (found ++ items) → StopsIn header before after items answer → Comes input answer
+stop_decided input header found items before after answer bound full j (inl few) stop = comes input answer (short_decided input few)
+stop_decided input header found items before after answer bound full j (inr f) stop = comes input answer (λ line t.
+    let more = reads_on input line f.front f.behind t f.split f.few in
+    let split : found ++ items ≡ found ++ (stop.front ++ stop.item ∷ stop.back) = ap (λ (x : List Item). found ++ x) stop.split in
+    let whole : found ++ items ≡ (found ++ stop.front) ++ stop.item ∷ stop.back = split ∙ sym (append_assoc found stop.front (stop.item ∷ stop.back)) in
+    let read : IsRead t.front (found ++ items) f.held (f.left ++ more.0) f.reached =
+    subst (λ (x : List ℕ). IsRead x (found ++ items) f.held (f.left ++ more.0) f.reached) (sym more.1) (stands_read f.front more.0 (found ++ items) f.held f.left f.reached f.stands (shown_on (found ++ items) f.held f.left more.0 f.shown)) in
+    let here = all_settled t.front header found stop.front (stop.item ∷ stop.back) before stop.middle f.held (f.left ++ more.0) f.reached bound full j (subst (λ (x : List Item). IsRead t.front x f.held (f.left ++ more.0) f.reached) split read) stop.good in
+    let read_on : IsRead t.front ((found ++ stop.front) ++ stop.item ∷ stop.back) f.held (f.left ++ more.0) f.reached = subst (λ (x : List Item). IsRead t.front x f.held (f.left ++ more.0) f.reached) whole read in
+    item_decides t.front f.front more.0 header (found ++ stop.front) stop.back stop.item stop.middle after f.held f.left f.reached answer bound full here
+    (subst (λ (x : List Item). Stands none_appended f.front x f.held f.left f.reached) whole f.stands) (subst (λ (x : List Item). IsShown (with_items none_appended x) (text_of f.held ++ f.left)) whole f.shown) more.1 read_on stop.judges t.goes_on)
 
 -- all items were judged good
 pub batch_settled : (input : List ℕ) (header : Header) (found items : List Item) (before after : ℕ) (held : List Line) (tail : List ℕ) (reached : Progress) → IsBounded header → header.brief ≡ false

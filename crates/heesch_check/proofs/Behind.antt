@@ -1,21 +1,26 @@
 -- A batch of items behind those that were judged, and how far reading came with it.
-use Rattle.std.proofs.Common.{◌≡◌, inl, inr, ℕ, ◌-◌, ◌<◌, arith, false, List, [], ◌∷◌, ◌++◌, length, take, drop, Option, Some, None, refl, sym, ap, subst, ◌∙◌}
+use Rattle.std.proofs.Common.{◌≡◌, ◌⊎◌, inl, inr, ℕ, ◌-◌, ◌<◌, arith, false, List, [], ◌∷◌, ◌++◌, length, take, drop, Option, Some, None, refl, sym, ap, subst, ◌∙◌}
 use Rattle.std.specs.List.{AllByRecursion}
 use Rattle.std.proofs.lemmas.List.{append-nil, take_all}
 use Rattle.heesch_cert.specs.declared.header.Header.{Header}
 use Rattle.heesch_reader.specs.declared.item.Item.{Item}
 use Rattle.heesch_reader.specs.declared.item.Item.TheVariants as items
 use Rattle.heesch_reader.specs.declared.item.Part.TheVariants as parts
-use Rattle.heesch_stream.specs.Taking.{Streamed, HasRead, TakesPiece, TakesEnd, TellsFault, TellsTooLong}
+use Rattle.heesch_stream.specs.Taking.{Streamed, HasRead, TakesPiece, TakesEnd, TellsFault, TellsTooLong, TakesOnePiece}
+use Rattle.heesch_stream.proofs.Reading.{consumes_both}
 use Rattle.heesch_reader.specs.declared.item.Part.{Part}
+use Rattle.heesch_reader.specs.declared.progress.AtHand.{AtHand}
+use Rattle.heesch_reader.specs.Endings.{ending_of, TellsEnding}
+use Rattle.heesch_reader.specs.Items.{Kept, lines_of}
+use Rattle.heesch_line.specs.Forms.{IsLine}
 use Rattle.heesch_check.specs.declared.answers.Checked.{Checked}
 use Rattle.heesch_check.specs.declared.reading.Reading.{Reading}
 use Rattle.heesch_check.specs.declared.reading.Reading.TheVariants as readings
 use Rattle.heesch_check.specs.Judging.{IsFit, AreJudged}
-use Rattle.heesch_check.specs.Reading.{answer_of, IsReading, Reads, JudgesBatch, Underway, BeginWith}
+use Rattle.heesch_check.specs.Reading.{IsAnswerOf, IsReading, Reads, JudgesBatch, Underway, BeginWith, ReadsNoFurther}
 use Rattle.heesch_check.proofs.Leading.{IsBounded}
-use Rattle.heesch_check.proofs.Batches.{batch_settled, stop_settled}
-use Rattle.heesch_check.proofs.Readings.{Answers, as_reading, reading_answers, batch_fits}
+use Rattle.heesch_check.proofs.Batches.{batch_settled, stop_settled, stop_decided}
+use Rattle.heesch_check.proofs.Readings.{Answers, all_right, as_reading, reading_answers, batch_fits}
 
 -- ---- one step of reading
 
@@ -28,12 +33,16 @@ end_reads before now old new items after t = record { more = t.more; after_is = 
 pub fault_reads : (before now : Option (List ℕ)) (old new : Streamed) (items after : List Item) (line : ℕ) (part : Part) → TellsFault before old items after line part → Reads before now old new items after (readings.Fault part)
 fault_reads before now old new items after line part t = record { more = t.more; after_is = t.after_is; grows = λ e. absurd cc; goes_on = λ first found h. (line, t.fault first found h) }
 
-pub long_reads : (before now : Option (List ℕ)) (old new : Streamed) (items after : List Item) (line : ℕ) → TellsTooLong before old items after line → Reads before now old new items after (readings.TooLong line)
-long_reads before now old new items after line t = record {
+pub long_reads : (before now : Option (List ℕ)) (old new : Streamed) (items after : List Item) (line : ℕ) (ending : AtHand) → TellsTooLong before old new items after line → TellsEnding new.kept ending → Reads before now old new items after (readings.TooLong line ending)
+long_reads before now old new items after line ending t told = record {
   more = [];
   after_is = t.after_is ∙ sym (append-nil items);
   grows = λ e. absurd cc;
-  goes_on = λ first found h. subst (λ (x : List Item). IsReading first now x new (readings.TooLong line)) (sym (append-nil found)) (t.too_many first found h);
+  goes_on = λ first found h.
+      let n = t.too_many first found h in
+      let b = n.0.begins in
+      let is : ending ≡ ending_of b.held b.left = told b.held b.left (ap (λ (k : Kept). k.refusal) n.1) (all_right IsLine (lines_of found) b.held b.stands.lead.forms) b.one_line (ap (λ (k : Kept). k.rest) n.1) in
+      subst (λ (x : List Item). IsReading first now x new (readings.TooLong line ending)) (sym (append-nil found)) (n.0, is);
 }
 
 -- a piece is read within the bound
@@ -52,13 +61,13 @@ piece_counts before now old new items after reading r more first found h =
 pub first_judged : (header : Header) → AreJudged header (items.Header header ∷ []) 0
 first_judged header = record { es = []; body = []; ends = []; split = refl; are = tt; good = tt; count = refl; ends_all = inl refl }
 
-none_more : (n : ℕ) (reading : Reading) → answer_of n reading ≡ None → reading ≡ readings.More
-none_more n readings.More e = refl
-none_more n readings.End e = absurd cc
-none_more n (readings.Fault parts.Header) e = absurd cc
-none_more n (readings.Fault parts.Entry) e = absurd cc
-none_more n (readings.Fault parts.End) e = absurd cc
-none_more n (readings.TooLong line) e = absurd cc
+none_more : (header : Header) (n : ℕ) (reading : Reading) → IsAnswerOf header n reading None → reading ≡ readings.More
+none_more header n readings.More e = refl
+none_more header n readings.End e = absurd cc
+none_more header n (readings.Fault parts.Header) e = absurd cc
+none_more header n (readings.Fault parts.Entry) e = absurd cc
+none_more header n (readings.Fault parts.End) e = absurd cc
+none_more header n (readings.TooLong line ending) e = let bad = e.1 in absurd cc
 
 -- the answer of a batch is that of the input
 pub batch_answers : (first now : Option (List ℕ)) (header : Header) (found batch : List Item) (before after : ℕ) (s : Streamed) (reading : Reading) (answer : Checked) → IsBounded header → header.brief ≡ false
@@ -66,7 +75,7 @@ pub batch_answers : (first now : Option (List ℕ)) (header : Header) (found bat
 batch_answers first now header found batch before after s reading answer bound full j h judges =
     let a = as_reading first now (found ++ batch) s reading h in
     elim judges [
-      | inl stop ↦ (a.input, a.all_of, stop_settled a.input header found batch before after a.held a.tail a.reached answer bound full j a.read stop)
+      | inl stop ↦ (a.input, a.all_of, (stop_settled a.input header found batch before after a.held a.tail a.reached answer bound full j a.read stop, stop_decided a.input header found batch before after answer bound full j a.within stop))
       | inr all ↦ reading_answers first now header (found ++ batch) after s reading answer bound full (batch_settled a.input header found batch before after a.held a.tail a.reached bound full j a.read all.0) h all.1
     ]
 
@@ -77,7 +86,7 @@ batch_goes_on first now header found batch before after s reading bound full j h
     let a = as_reading first now (found ++ batch) s reading h in
     record {
       all = found ++ batch;
-      has_read = subst (λ (x : Reading). IsReading first now (found ++ batch) s x) (none_more after reading judges.1) h;
+      has_read = subst (λ (x : Reading). IsReading first now (found ++ batch) s x) (none_more header after reading judges.1) h;
       judged = batch_settled a.input header found batch before after a.held a.tail a.reached bound full j a.read judges.0;
     }
 
@@ -136,4 +145,19 @@ pub next_smaller : (before now : Option (List ℕ)) (header own : Header) (old n
     → JudgesBatch own n m after reading result → result ≡ None → 1099511627776 - new.count < 1099511627776 - old.count
 next_smaller before now header own old new n m after reading result first u r judges is =
     let j = subst (JudgesBatch own n m after reading) is judges in
-    piece_counts before now old new [] after reading r (none_more m reading j.1) first u.all u.has_read
+    piece_counts before now old new [] after reading r (none_more own m reading j.1) first u.all u.has_read
+
+-- ---- what is read of the source
+
+-- what was read before one more piece decides nothing
+pub reads_no_further : (first before now : Option (List ℕ)) (all : List Item) (s : Streamed) → HasRead first before all s → (all ≡ []) ⊎ ((header : Header) × (entries : ℕ) × AreJudged header all entries) → TakesOnePiece before now → ReadsNoFurther first now
+reads_no_further first before now all s h judged piece = record {
+  bytes = h.bytes;
+  last = piece.0;
+  consumed = consumes_both first before now h.bytes piece.0 h.consumed piece.1;
+  one_piece = piece.2;
+  undecided = record { all = all; begins = h.begins; judged = judged };
+}
+
+pub batch_no_further : (first before now : Option (List ℕ)) (header : Header) (s : Streamed) (n : ℕ) → Underway header first before s n → TakesOnePiece before now → ReadsNoFurther first now
+batch_no_further first before now header s n u piece = reads_no_further first before now u.all s u.has_read (inr (header, n, u.judged)) piece

@@ -1,59 +1,18 @@
 -- The block of an entry in bytes is the text of its lines, where the next line begins an entry or the end, or there is none.
-use Rattle.std.proofs.Common.{◌≡◌, ◌⊎◌, inl, inr, ℕ, ◌==◌, ◌&&◌, ◌||◌, nat_eq, not, if◌then◌else◌, Bool, true, false, List, [], ◌∷◌, ◌++◌, codes, refl, sym, ap, ◌∙◌, append_assoc}
+use Rattle.std.proofs.Common.{◌≡◌, ◌⊎◌, inl, inr, ℕ, ◌==◌, ◌&&◌, if◌then◌else◌, Bool, true, false, List, [], ◌∷◌, ◌++◌, refl, sym, ap, ◌∙◌, append_assoc}
 use Rattle.std.specs.List.{AllByRecursion}
-use Rattle.std.proofs.lemmas.Bool.{cases_Bool, ne_eqb}
+use Rattle.std.proofs.lemmas.Bool.{ne_eqb}
 use Rattle.heesch_text.specs.declared.line.Line.{Line}
-use Rattle.heesch_text.specs.declared.line.Line.TheVariants as lines
-use Rattle.heesch_text.specs.Lines.{words_of, line_text, text_of}
+use Rattle.heesch_text.specs.Lines.{words_of, text_of}
 use Rattle.heesch_line.specs.Forms.{IsLine, HasNoNewline}
-use Rattle.heesch_line.proofs.Newlines.{free, parts, no_newline}
-use Rattle.heesch_grammar.proofs.Running.{IsOuter}
-use Rattle.heesch_reader.specs.Faults.{begins, begins_next}
+use Rattle.heesch_line.proofs.Newlines.{no_newline}
+use Rattle.heesch_reader.specs.Faults.{begins_next}
 use Rattle.heesch_reader.specs.Feeding.{IsInside}
-use Rattle.heesch_reader.proofs.Walking.{outer_words}
+use Rattle.heesch_reader.proofs.FirstWords.{begins_next_cut, inside_begins}
+use Rattle.heesch_reader.proofs.SameLines.{line_front}
 use Rattle.heesch_check.specs.Catalogues.{block_of, behind_block}
 
--- ---- words at the front
-
-not_true : (b : Bool) → not b ≡ true → b ≡ false
-not_true true e = absurd cc
-not_true false e = refl
-
--- a word without a newline begins the bytes of a line where it begins the line
-begins_cut : (word words back : List ℕ) → free word ≡ true → begins (words ++ 10 ∷ back) word ≡ begins words word
-begins_cut [] words back h = refl
-begins_cut (c ∷ word) [] back h =
-    let differs : nat_eq c 10 ≡ false = not_true (nat_eq c 10) (parts _ _ h).0 in
-    ap (λ (x : Bool). x && begins back word) differs
-begins_cut (c ∷ word) (b ∷ words) back h = ap (λ (x : Bool). nat_eq c b && x) (begins_cut word words back (parts _ _ h).1)
-
-pub begins_shape_cut : (words back : List ℕ) → begins (words ++ 10 ∷ back) (codes "shape ") ≡ begins words (codes "shape ")
-begins_shape_cut words back = begins_cut (codes "shape ") words back refl
-
-pub begins_end_cut : (words back : List ℕ) → begins (words ++ 10 ∷ back) (codes "end ") ≡ begins words (codes "end ")
-begins_end_cut words back = begins_cut (codes "end ") words back refl
-
-pub begins_next_cut : (words back : List ℕ) → begins_next (words ++ 10 ∷ back) ≡ begins_next words
-begins_next_cut words back =
-    ap (λ (x : Bool). x || begins (words ++ 10 ∷ back) (codes "end ")) (begins_shape_cut words back)
-    ∙ ap (λ (x : Bool). begins words (codes "shape ") || x) (begins_end_cut words back)
-
-outer_inside : (line : Line) → IsOuter line → IsInside line → ⊥
-outer_inside (lines.Shape cells) o i = i
-outer_inside (lines.End count) o i = i
-outer_inside line o i = o
-
--- a line inside an entry begins neither an entry nor the end
-pub inside_begins : (line : Line) → IsInside line → begins_next (words_of line) ≡ false
-inside_begins line i = elim (cases_Bool (begins_next (words_of line))) [
-  | inl begun ↦ absurd (outer_inside line (outer_words line begun) i)
-  | inr other ↦ other
-]
-
 -- ---- lines
-
-pub line_front : (line : Line) (ls : List Line) (more : List ℕ) → text_of (line ∷ ls) ++ more ≡ words_of line ++ 10 ∷ (text_of ls ++ more)
-line_front line ls more = append_assoc (line_text line) (text_of ls) more ∙ append_assoc (words_of line) (10 ∷ []) (text_of ls ++ more)
 
 pub line_alone : (line : Line) (ls : List Line) → text_of (line ∷ ls) ≡ words_of line ++ 10 ∷ text_of ls
 line_alone line ls = append_assoc (words_of line) (10 ∷ []) (text_of ls)

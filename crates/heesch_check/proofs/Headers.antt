@@ -30,8 +30,7 @@ use Rattle.heesch_reader.specs.Items.{lines_of}
 use Rattle.heesch_reader.specs.Feeding.{BeginEntry}
 use Rattle.heesch_reader.proofs.Walking.{no_first_shape}
 use Rattle.heesch_check.specs.Answers.{HasNoHeader}
-use Rattle.heesch_check.proofs.Blocks.{line_front}
-use Rattle.heesch_check.proofs.SameLines.{one_first_line}
+use Rattle.heesch_reader.proofs.SameLines.{line_front, one_first_line}
 use Rattle.heesch_check.proofs.Seen.{IsRead}
 use Rattle.heesch_check.proofs.Stopping.{StopsAt}
 

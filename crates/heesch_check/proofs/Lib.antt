@@ -2,14 +2,14 @@ pub mod Answering
 pub mod Batches
 pub mod Behind
 pub mod Blocks
-pub mod EntryLines
+pub mod Deciding
+pub mod Early
 pub mod Headers
 pub mod Leading
 pub mod Near
 pub mod OneAnswer
 mod Places
 pub mod Readings
-pub mod SameLines
 pub mod Seen
 pub mod Stopping
 pub mod Written

@@ -1,5 +1,6 @@
--- An input that isn't longer than is read has one answer.
-use Rattle.std.proofs.Common.{◌≡◌, ◌⊎◌, inl, inr, ℕ, ◌+◌, ◌≤◌, true, false, List, [], ◌∷◌, ◌++◌, length, codes, refl, sym, ap, subst, ◌∙◌, arith}
+-- An input has one answer.
+use Rattle.std.proofs.Common.{◌≡◌, ◌⊎◌, inl, inr, ℕ, ◌+◌, ◌≤◌, ◌==◌, true, false, List, [], ◌∷◌, ◌++◌, length, codes, refl, sym, ap, subst, ◌∙◌, append_assoc, arith}
+use Rattle.std.specs.Prelude.{count_by}
 use Rattle.std.proofs.lemmas.Bool.{false≢true}
 use Rattle.std.proofs.lemmas.List.{append-nil, length-append}
 use Rattle.heesch_grid.specs.Names.{geometry_of}
@@ -7,7 +8,7 @@ use Rattle.heesch_cert.specs.declared.entry.Entry.{Entry}
 use Rattle.heesch_cert.specs.declared.header.Header.{Header}
 use Rattle.heesch_text.specs.declared.line.Line.TheVariants as lines
 use Rattle.heesch_text.specs.Lines.{words_of}
-use Rattle.heesch_text.specs.Catalogue.{entry_lines, entry_text}
+use Rattle.heesch_text.specs.Catalogue.{header_text, entry_lines, entry_text}
 use Rattle.heesch_line.proofs.LinesAgain.{words_tell}
 use Rattle.heesch_line.proofs.Newlines.{no_newline}
 use Rattle.heesch_grammar.proofs.Again.{same_entry}
@@ -15,15 +16,15 @@ use Rattle.heesch_grammar.proofs.Truth.{may_stand}
 use Rattle.heesch_reader.specs.Faults.{begins}
 use Rattle.heesch_check.specs.declared.answers.Checked.{Checked}
 use Rattle.heesch_check.specs.declared.answers.Checked.TheVariants as answers
-use Rattle.heesch_check.specs.Answers.{IsValid, HasNoHeader, IsInvalidEntry, IsInvalidEnd, IsTooLong, IsChecked}
+use Rattle.heesch_check.specs.Answers.{IsValid, HasNoHeader, IsInvalidEntry, IsInvalidEnd, IsTooLong, IsDecided, IsChecked}
 use Rattle.heesch_check.specs.Catalogues.{block_of, behind_block, IsGoodEntry, AreBlocks, IsHeaded, AreChecked, IsEnd}
 use Rattle.heesch_check.proofs.Blocks.{block_split}
-use Rattle.heesch_check.proofs.SameLines.{same_lines, one_first_line}
+use Rattle.heesch_reader.proofs.SameLines.{same_lines, one_first_line, same_front}
 use Rattle.heesch_check.proofs.Headers.{header_front}
 
 -- ---- one header
 
-same_header : (input body other : List ℕ) (h k : Header) → IsHeaded input h body → IsHeaded input k other → (h ≡ k) × (body ≡ other)
+pub same_header : (input body other : List ℕ) (h k : Header) → IsHeaded input h body → IsHeaded input k other → (h ≡ k) × (body ≡ other)
 same_header input body other h k a b =
     let bytes : words_of (lines.Header h) ++ 10 ∷ body ≡ words_of (lines.Header k) ++ 10 ∷ other = sym (header_front h body) ∙ sym a.text ∙ b.text ∙ header_front k other in
     let s = one_first_line (words_of (lines.Header h)) (words_of (lines.Header k)) body other (no_newline (lines.Header h) a.form) (no_newline (lines.Header k) b.form) bytes in
@@ -34,10 +35,10 @@ same_header input body other h k a b =
 -- ---- one list of entries, as far as both go
 
 -- the second entries go on from the first
-record Further (header : Header) (before : ℕ) (es fs : List Entry) (rest last : List ℕ) : Type 0 where
-  more : List Entry
-  are : fs ≡ es ++ more
-  blocks : AreBlocks header (before + length es) rest more last
+pub record Further (header : Header) (before : ℕ) (es fs : List Entry) (rest last : List ℕ) : Type 0 where
+  pub more : List Entry
+  pub are : fs ≡ es ++ more
+  pub blocks : AreBlocks header (before + length es) rest more last
 
 same_good : (header : Header) (before : ℕ) (e f : Entry) → IsGoodEntry header before e → IsGoodEntry header before f → entry_text e ≡ entry_text f → e ≡ f
 same_good header before e f a b same =
@@ -59,7 +60,7 @@ one_further header before e f es fs rest last same r = record {
   blocks = subst (λ (n : ℕ). AreBlocks header n rest r.more last) (omega arith) r.blocks;
 }
 
-along_blocks : (header : Header) (before : ℕ) (bytes : List ℕ) (es fs : List Entry) (rest last : List ℕ) → AreBlocks header before bytes es rest → AreBlocks header before bytes fs last
+pub along_blocks : (header : Header) (before : ℕ) (bytes : List ℕ) (es fs : List Entry) (rest last : List ℕ) → AreBlocks header before bytes es rest → AreBlocks header before bytes fs last
     → Further header before es fs rest last ⊎ Further header before fs es last rest
 along_blocks header before bytes [] fs rest last a b = inl (from_here header before bytes rest last fs a b)
 along_blocks header before bytes (e ∷ es) [] rest last a b = inr (from_here header before bytes last rest (e ∷ es) b a)
@@ -88,10 +89,10 @@ record EndsIn (input : List ℕ) (c : Checked) : Type 0 where
   ends : Ends header (length es) rest c
 
 -- the last line begins no entry
-end_begins : (header : Header) (n : ℕ) (rest : List ℕ) → IsEnd header n rest → begins rest (codes "shape ") ≡ true → ⊥
+pub end_begins : (header : Header) (n : ℕ) (rest : List ℕ) → IsEnd header n rest → begins rest (codes "shape ") ≡ true → ⊥
 end_begins header n rest end b = let c = subst (λ (x : List ℕ). begins x (codes "shape ") ≡ true) end.text b in absurd cc
 
-begins_entry : (rest : List ℕ) (e : Entry) → block_of rest ≡ entry_text e → begins rest (codes "shape ") ≡ true
+pub begins_entry : (rest : List ℕ) (e : Entry) → block_of rest ≡ entry_text e → begins rest (codes "shape ") ≡ true
 begins_entry rest e same = subst (λ (x : List ℕ). begins x (codes "shape ") ≡ true) (sym (block_split rest ∙ ap (λ (x : List ℕ). x ++ behind_block rest) same)) refl
 
 -- no good entry stands there
@@ -159,22 +160,56 @@ entry_ends input number v = record { header = v.header; es = v.es; rest = v.rest
 end_ends : (input : List ℕ) → IsInvalidEnd input → EndsIn input answers.InvalidEnd
 end_ends input v = record { header = v.header; es = v.es; rest = v.rest; checked = v.checked; ends = (v.begins_none, v.no_end) }
 
--- an answer that isn't of the header
-ends_or_header : (input : List ℕ) (c : Checked) → length input ≤ 1099511627776 → IsChecked input c → ((c ≡ answers.InvalidHeader) × HasNoHeader input) ⊎ EndsIn input c
-ends_or_header input (answers.Valid count) few v = inr (valid_ends input count v)
-ends_or_header input answers.InvalidHeader few v = inl (refl, v)
-ends_or_header input (answers.InvalidEntry number) few v = inr (entry_ends input number v)
-ends_or_header input answers.InvalidEnd few v = inr (end_ends input v)
-ends_or_header input (answers.TooLong line) few v = absurd (not_long input line few v)
+-- an input that isn't longer than is read is decided
+pub short_decided : (input : List ℕ) → length input ≤ 1099511627776 → IsDecided input
+short_decided input few line t = not_long input line few t
 
-pub one_answer : (input : List ℕ) (c d : Checked) → length input ≤ 1099511627776 → IsChecked input c → IsChecked input d → c ≡ d
-one_answer input c d few a b = elim (ends_or_header input c few a) [
-  | inl none ↦ elim (ends_or_header input d few b) [
+-- an input that has no header isn't open
+pub no_header_decided : (input : List ℕ) → HasNoHeader input → IsDecided input
+no_header_decided input none line t =
+    let h = t.goes_on.checked.headed in
+    none t.goes_on.header (t.goes_on.checked.body ++ t.byte ∷ t.behind) (record {
+      text = t.text ∙ ap (λ (x : List ℕ). x ++ t.byte ∷ t.behind) h.text ∙ append_assoc (header_text t.goes_on.header) t.goes_on.checked.body (t.byte ∷ t.behind);
+      form = h.form;
+      full = h.full;
+    })
+
+-- an answer is of the header, or of what stands behind it, or says that the input is too long
+kinds : (input : List ℕ) (c : Checked) → IsChecked input c → ((c ≡ answers.InvalidHeader) × HasNoHeader input) ⊎ ((EndsIn input c × IsDecided input) ⊎ ((line : ℕ) × (c ≡ answers.TooLong line) × IsTooLong input line))
+kinds input (answers.Valid count) v = inr (inl (valid_ends input count v.0, v.1))
+kinds input answers.InvalidHeader v = inl (refl, v.0)
+kinds input (answers.InvalidEntry number) v = inr (inl (entry_ends input number v.0, v.1))
+kinds input answers.InvalidEnd v = inr (inl (end_ends input v.0, v.1))
+kinds input (answers.TooLong line) v = inr (inr (line, refl, v.0))
+
+one_line : (input : List ℕ) (line other : ℕ) → IsTooLong input line → IsTooLong input other → line ≡ other
+one_line input line other a b =
+    let same = same_front a.front b.front (a.byte ∷ a.behind) (b.byte ∷ b.behind) (sym a.text ∙ b.text) (a.length_is ∙ sym b.length_is) in
+    a.line_is ∙ ap (λ (x : List ℕ). count_by (λ (n : ℕ). n == 10) x + 1) same ∙ sym b.line_is
+
+pub one_answer : (input : List ℕ) (c d : Checked) → IsChecked input c → IsChecked input d → c ≡ d
+one_answer input c d a b = elim (kinds input c a) [
+  | inl none ↦ elim (kinds input d b) [
     | inl too ↦ none.0 ∙ sym too.0
-    | inr end ↦ absurd (none.1 end.header end.checked.body end.checked.headed)
+    | inr others ↦ elim others [
+      | inl end ↦ absurd (none.1 end.0.header end.0.checked.body end.0.checked.headed)
+      | inr long ↦ absurd (no_header_decided input none.1 long.0 long.2)
+    ]
   ]
-  | inr end ↦ elim (ends_or_header input d few b) [
-    | inl none ↦ absurd (none.1 end.header end.checked.body end.checked.headed)
-    | inr other ↦ one_end input c d end other
+  | inr one ↦ elim one [
+    | inl end ↦ elim (kinds input d b) [
+      | inl none ↦ absurd (none.1 end.0.header end.0.checked.body end.0.checked.headed)
+      | inr others ↦ elim others [
+        | inl other ↦ one_end input c d end.0 other.0
+        | inr long ↦ absurd (end.1 long.0 long.2)
+      ]
+    ]
+    | inr long ↦ elim (kinds input d b) [
+      | inl none ↦ absurd (no_header_decided input none.1 long.0 long.2)
+      | inr others ↦ elim others [
+        | inl end ↦ absurd (end.1 long.0 long.2)
+        | inr too ↦ long.1 ∙ ap answers.TooLong (one_line input long.0 too.0 long.2 too.2) ∙ sym too.1
+      ]
+    ]
   ]
 ]

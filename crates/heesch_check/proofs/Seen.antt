@@ -25,7 +25,7 @@ use Rattle.heesch_reader.proofs.Walking.{walk_behind}
 use Rattle.heesch_check.specs.Catalogues.{block_of, behind_block, AreBlocks, AreChecked}
 use Rattle.heesch_check.specs.Judging.{AreItemsOf, AreGood, AreJudged}
 use Rattle.heesch_check.proofs.Blocks.{IsNext, block_lines}
-use Rattle.heesch_check.proofs.EntryLines.{body_lines, body_inside}
+use Rattle.heesch_reader.proofs.EntryLines.{body_lines, body_inside}
 use Rattle.heesch_check.proofs.Leading.{IsBounded, over_entries}
 
 -- ---- what was read

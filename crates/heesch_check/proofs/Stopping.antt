@@ -34,11 +34,12 @@ use Rattle.heesch_reader.specs.Faults.{begins, begins_next, part_of, part_behind
 use Rattle.heesch_reader.specs.Feeding.{BeginEntry, IsInside, IsPrompt, IsPromptAtEnd}
 use Rattle.heesch_reader.proofs.Inner.{not_ended}
 use Rattle.heesch_check.specs.Answers.{IsValid, IsInvalidEntry, IsInvalidEnd, IsOpen, IsBegun}
-use Rattle.heesch_check.specs.Catalogues.{block_of, behind_block, IsGoodEntry}
+use Rattle.heesch_check.specs.Catalogues.{AreAll, block_of, behind_block, IsGoodEntry}
 use Rattle.heesch_check.specs.Judging.{AreGood, AreJudged}
-use Rattle.heesch_check.proofs.Blocks.{IsNext, line_front, begins_shape_cut, begins_end_cut, begins_next_cut, inside_begins, block_split, block_next}
-use Rattle.heesch_check.proofs.SameLines.{along, one_first_line, no_first_line}
-use Rattle.heesch_check.proofs.EntryLines.{body_lines}
+use Rattle.heesch_check.proofs.Blocks.{IsNext, block_split, block_next}
+use Rattle.heesch_reader.proofs.FirstWords.{begins_shape_cut, begins_end_cut, begins_next_cut, inside_begins}
+use Rattle.heesch_reader.proofs.SameLines.{line_front, along, one_first_line, no_first_line}
+use Rattle.heesch_reader.proofs.EntryLines.{body_lines}
 use Rattle.heesch_check.proofs.Leading.{IsBounded, end_counts}
 use Rattle.heesch_check.proofs.Seen.{IsRead, Stand, placed, checked, counted, shown_behind}
 
@@ -182,7 +183,7 @@ held_one s t (lines.Shape cells ∷ held) b some e =
     (r.0, r.1 ∙ f.1)
 held_one s t (line ∷ held) b some e = absurd b.0
 
-no_lines : (s t : Spot) (held : List Line) → held ≡ [] → steps false s held ≡ Some t → s ≡ t
+pub no_lines : (s t : Spot) (held : List Line) → held ≡ [] → steps false s held ≡ Some t → s ≡ t
 no_lines s t [] n e = cc
 no_lines s t (line ∷ held) n e = absurd cc
 
@@ -208,7 +209,7 @@ pub record Held (input : List ℕ) (header : Header) (es : List Entry) (held : L
   pub good : AreGood header 0 es
   pub shown : es ≢ [] → IsNext (text_of held ++ tail)
 
-same_place : (s t u : Spot) (ls ms : List Line) → ls ≡ ms → steps false s ls ≡ Some t → steps false s ms ≡ Some u → t ≡ u
+pub same_place : (s t u : Spot) (ls ms : List Line) → ls ≡ ms → steps false s ls ≡ Some t → steps false s ms ≡ Some u → t ≡ u
 same_place s t u ls ms e f g = let both : Some t ≡ Some u = sym f ∙ ap (steps false s) e ∙ g in cc
 
 inside_right : (xs ys : List Line) → AllByRecursion IsInside (xs ++ ys) → AllByRecursion IsInside ys
@@ -322,13 +323,13 @@ few header before [] bound good some = absurd (some refl)
 few header before (e ∷ []) bound good some = let low = bound.below before e.cells good.0.in_place in omega (arith, low)
 few header before (e ∷ second ∷ es) bound good some = let h = few header (before + 1) (second ∷ es) bound good.1 (λ x. cc) in omega (arith, h)
 
-few_entries : (header : Header) (es : List Entry) → IsBounded header → AreGood header 0 es → length es < 2 ^ 32
+pub few_entries : (header : Header) (es : List Entry) → IsBounded header → AreGood header 0 es → length es < 2 ^ 32
 few_entries header es bound good = elim (no_entries es) [
   | inl none ↦ let zero : length es ≡ 0 = ap length none in omega (arith, zero)
   | inr some ↦ let h = few header 0 es bound good some in omega (arith, h)
 ]
 
-end_stands : (s : Spot) (n : ℕ) → is_whole s.place ≡ true → s.shapes ≡ n → next (stages.Behind false s) (lines.End n) ≡ None → ⊥
+pub end_stands : (s : Spot) (n : ℕ) → is_whole s.place ≡ true → s.shapes ≡ n → next (stages.Behind false s) (lines.End n) ≡ None → ⊥
 end_stands s n whole shapes e =
     let test : (is_whole s.place && n == s.shapes) ≡ true = rw (whole, eq-eqb n s.shapes (sym shapes)) refl in
     let some : option_map (λ t. stages.Behind false t) (then_some (is_whole s.place && n == s.shapes) (record { shapes = s.shapes; place = places.Ended })) ≡ Some (stages.Behind false (record { shapes = s.shapes; place = places.Ended })) =
@@ -368,7 +369,7 @@ pub record Ended (input : List ℕ) (header : Header) (es : List Entry) (held : 
   pub place : last.place ≡ places.Ended
   pub reached_is : stages.Behind false last ≡ reached
 
-ended_at : (input : List ℕ) (header : Header) (es : List Entry) (ends : List Item) (count : ℕ) (held : List Line) (tail : List ℕ) (reached : Progress) → ends ≡ items.End count ∷ []
+pub ended_at : (input : List ℕ) (header : Header) (es : List Entry) (ends : List Item) (count : ℕ) (held : List Line) (tail : List ℕ) (reached : Progress) → ends ≡ items.End count ∷ []
     → Stand input header es (lines_of ends ++ held) tail reached → Ended input header es held tail reached
 ended_at input header es ends count held tail reached is s =
     let goes : steps false s.spot (lines.End count ∷ held) ≡ Some s.last = subst (λ (x : List Item). steps false s.spot (lines_of x ++ held) ≡ Some s.last) is s.goes_on in
@@ -404,11 +405,11 @@ ended_invalid input header es held tail reached full good e some = record {
 all_read : (input : List ℕ) (all : List Item) (held : List Line) (tail : List ℕ) (reached : Progress) → IsRead input all held tail reached → IsRead input (all ++ []) held tail reached
 all_read input all held tail reached read = subst (λ (x : List Item). IsRead input x held tail reached) (sym (append-nil all)) read
 
-behind_all : (input : List ℕ) (header : Header) (all : List Item) (n : ℕ) (held : List Line) (tail : List ℕ) (reached : Progress) → IsBounded header → header.brief ≡ false
+pub behind_all : (input : List ℕ) (header : Header) (all : List Item) (n : ℕ) (held : List Line) (tail : List ℕ) (reached : Progress) → IsBounded header → header.brief ≡ false
     → (j : AreJudged header all n) → IsRead input all held tail reached → Stand input header j.es (lines_of j.ends ++ held) tail reached
 behind_all input header all n held tail reached bound full j read = placed input header all [] n held tail reached bound full j (all_read input all held tail reached read)
 
-held_at : (input : List ℕ) (header : Header) (all : List Item) (n : ℕ) (held : List Line) (tail : List ℕ) (reached : Progress) → (j : AreJudged header all n) → j.ends ≡ [] → IsRead input all held tail reached
+pub held_at : (input : List ℕ) (header : Header) (all : List Item) (n : ℕ) (held : List Line) (tail : List ℕ) (reached : Progress) → (j : AreJudged header all n) → j.ends ≡ [] → IsRead input all held tail reached
     → Stand input header j.es (lines_of j.ends ++ held) tail reached → Held input header j.es held tail reached
 held_at input header all n held tail reached j none read s = record {
   stand = subst (λ (x : List Item). Stand input header j.es (lines_of x ++ held) tail reached) none s;
@@ -478,8 +479,8 @@ ends_valid input header all n reached bound full j read ended =
 
 -- what was read of an input that is too long
 pub goes_on_open : (front : List ℕ) (header : Header) (all : List Item) (n : ℕ) (held : List Line) (left : List ℕ) (reached : Progress) → IsBounded header → header.brief ≡ false
-    → AreJudged header all n → IsRead front all held left reached → HasNoNewline left → IsOpen front
-goes_on_open front header all n held left reached bound full j read one_line =
+    → AreJudged header all n → IsRead front all held left reached → HasNoNewline left → IsPrompt held left reached → (begins left (codes "end ") ≡ true → AreAll header header.subject n) → IsOpen front
+goes_on_open front header all n held left reached bound full j read one_line prompt in_time =
     let s = behind_all front header all n held left reached bound full j read in
     elim j.ends_all [
       | inl none ↦
@@ -489,7 +490,8 @@ goes_on_open front header all n held left reached bound full j read one_line =
             es = j.es;
             rest = text_of held ++ left;
             checked = checked front header j.es (text_of held ++ left) h.stand.text h.stand.form full j.good h.shown;
-            goes_on = inl (begun_lines h.stand.spot h.stand.last (length j.es) held left h.stand.forms read.one_entry h.stand.whole h.stand.shapes h.stand.goes_on one_line);
+            goes_on = inl (begun_lines header h.stand.spot h.stand.last (length j.es) held left h.stand.forms read.one_entry h.stand.whole h.stand.shapes h.stand.goes_on one_line
+                (subst (λ (x : Progress). IsPrompt held left x) (sym h.stand.reached_is) prompt) (λ ends. subst (AreAll header header.subject) j.count (in_time ends)));
           }
       | inr end ↦
           let e = ended_at front header j.es j.ends end.0 held left reached end.1 s in
@@ -502,9 +504,10 @@ goes_on_open front header all n held left reached bound full j read one_line =
           }
     ]
   where
-    begun_lines : (s t : Spot) (n : ℕ) (held : List Line) (left : List ℕ) → AllByRecursion IsLine held → BeginEntry held → is_whole s.place ≡ true → s.shapes ≡ n → steps false s held ≡ Some t → HasNoNewline left → IsBegun n (text_of held ++ left)
-    begun_lines s t n [] left forms begin whole shapes goes one_line = record { held = []; left = left; reached = record { shapes = n; place = places.Between }; text = refl; forms = tt; one_entry = tt; may_stand = refl; one_line = one_line }
-    begun_lines s t n (lines.Shape cells ∷ held) left forms begin whole shapes goes one_line = record {
+    begun_lines : (header : Header) (s t : Spot) (n : ℕ) (held : List Line) (left : List ℕ) → AllByRecursion IsLine held → BeginEntry held → is_whole s.place ≡ true → s.shapes ≡ n → steps false s held ≡ Some t → HasNoNewline left → IsPrompt held left (stages.Behind false t)
+        → (begins left (codes "end ") ≡ true → AreAll header header.subject n) → IsBegun header n (text_of held ++ left)
+    begun_lines header s t n [] left forms begin whole shapes goes one_line prompt in_time = record { held = []; left = left; reached = record { shapes = n; place = places.Between }; text = refl; forms = tt; one_entry = tt; may_stand = refl; one_line = one_line; unfinished = λ w b. refl; in_time = in_time }
+    begun_lines header s t n (lines.Shape cells ∷ held) left forms begin whole shapes goes one_line prompt in_time = record {
       held = lines.Shape cells ∷ held;
       left = left;
       reached = t;
@@ -513,5 +516,7 @@ goes_on_open front header all n held left reached bound full j read one_line =
       one_entry = begin;
       may_stand = subst (λ (x : ℕ). steps false (record { shapes = x; place = places.Between }) (lines.Shape cells ∷ held) ≡ Some t) shapes (sym (steps_between false s (lines.Shape cells) held whole tt) ∙ goes);
       one_line = one_line;
+      unfinished = prompt;
+      in_time = in_time;
     }
-    begun_lines s t n (line ∷ held) left forms begin whole shapes goes one_line = absurd begin.0
+    begun_lines header s t n (line ∷ held) left forms begin whole shapes goes one_line prompt in_time = absurd begin.0

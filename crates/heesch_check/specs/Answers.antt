@@ -9,8 +9,8 @@ use Rattle.heesch_text.specs.Catalogue.{entry_text, end_text}
 use Rattle.heesch_line.specs.Forms.{IsLine, HasNoNewline}
 use Rattle.heesch_grammar.specs.declared.place.Place.TheVariants as places
 use Rattle.heesch_grammar.specs.declared.spot.Spot.{Spot}
-use Rattle.heesch_grammar.specs.Grammar.{steps}
-use Rattle.heesch_reader.specs.Faults.{begins}
+use Rattle.heesch_grammar.specs.Grammar.{steps, is_whole}
+use Rattle.heesch_reader.specs.Faults.{begins, begins_next}
 use Rattle.heesch_reader.specs.Feeding.{BeginEntry}
 use Rattle.heesch_check.specs.declared.answers.Checked.{Checked}
 use Rattle.heesch_check.specs.declared.answers.Checked.TheVariants as answers
@@ -50,8 +50,9 @@ pub record IsInvalidEnd (input : List ℕ) : Type 0 where
 
 -- ---- an input that is longer than is read
 
--- behind so many entries, the bytes are lines of one more, none of them at fault, and then bytes of a line
-pub record IsBegun (entries : ℕ) (bytes : List ℕ) : Type 0 where
+-- behind so many entries, the bytes are lines of one more, none of them at fault, and then bytes of a line, which don't show that the
+-- entry is whole; where they begin as the last line does, the entries are all
+pub record IsBegun (header : Header) (entries : ℕ) (bytes : List ℕ) : Type 0 where
   pub held : List Line
   pub left : List ℕ
   pub reached : Spot
@@ -60,6 +61,8 @@ pub record IsBegun (entries : ℕ) (bytes : List ℕ) : Type 0 where
   pub one_entry : BeginEntry held
   pub may_stand : steps false (record { shapes = entries; place = places.Between }) held ≡ Some reached
   pub one_line : HasNoNewline left
+  pub unfinished : is_whole reached.place ≡ true → begins_next left ≡ true → held ≡ []
+  pub in_time : begins left (codes "end ") ≡ true → AreAll header header.subject entries
 
 -- behind so many entries, which are all, the bytes are the last line, and then bytes without a newline
 pub record IsEnded (header : Header) (entries : ℕ) (bytes : List ℕ) : Type 0 where
@@ -74,7 +77,7 @@ pub record IsOpen (bytes : List ℕ) : Type 0 where
   pub es : List Entry
   pub rest : List ℕ
   pub checked : AreChecked bytes header es rest
-  pub goes_on : IsBegun (length es) rest ⊎ IsEnded header (length es) rest
+  pub goes_on : IsBegun header (length es) rest ⊎ IsEnded header (length es) rest
 
 -- the input is longer than is read, on this line, and what is read of it decides no invalid part
 pub record IsTooLong (input : List ℕ) (line : ℕ) : Type 0 where
@@ -88,13 +91,26 @@ pub record IsTooLong (input : List ℕ) (line : ℕ) : Type 0 where
 
 -- ---- the answer
 
+-- what the answer says of the parts of the input
+abbrev pub Tells : List ℕ → Checked → Type 0
+Tells input (answers.Valid count) = IsValid input count
+Tells input answers.InvalidHeader = HasNoHeader input
+Tells input (answers.InvalidEntry number) = IsInvalidEntry input number
+Tells input answers.InvalidEnd = IsInvalidEnd input
+Tells input (answers.TooLong line) = IsTooLong input line
+
+-- the input isn't longer than is read, or the bytes that are read decide an invalid part
+abbrev pub IsDecided : List ℕ → Type 0
+IsDecided input = (line : ℕ) → IsTooLong input line → ⊥
+
+-- an answer comes for an input that is decided, but for the one that it is too long
+abbrev pub Comes : List ℕ → Checked → Type 0
+Comes input (answers.TooLong line) = Unit {0}
+Comes input answer = IsDecided input
+
 -- this is the answer of the input
 abbrev pub IsChecked : List ℕ → Checked → Type 0
-IsChecked input (answers.Valid count) = IsValid input count
-IsChecked input answers.InvalidHeader = HasNoHeader input
-IsChecked input (answers.InvalidEntry number) = IsInvalidEntry input number
-IsChecked input answers.InvalidEnd = IsInvalidEnd input
-IsChecked input (answers.TooLong line) = IsTooLong input line
+IsChecked input answer = Tells input answer × Comes input answer
 
 -- the line that tells the answer; that of an input that is too long is a fault's, and none of these
 abbrev pub checked_text : Checked → List ℕ

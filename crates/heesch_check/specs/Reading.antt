@@ -1,13 +1,17 @@
 -- What reading came to, and the answer behind items that were judged.
-use Rattle.std.specs.Prelude.{◌≡◌, ◌⊎◌, ℕ, ◌+◌, ◌<◌, false, List, [], ◌∷◌, ◌++◌, Option, Some, None, Result, IfOk}
+use Rattle.std.specs.Io.KnownBytes.{Consumes}
+use Rattle.std.specs.Prelude.{◌≡◌, ◌⊎◌, ℕ, ◌+◌, ◌<◌, ◌≤◌, false, List, [], ◌∷◌, ◌++◌, length, Option, Some, None, Result, IfOk}
 use Rattle.heesch_cert.specs.declared.header.Header.{Header}
 use Rattle.heesch_text.specs.declared.line.Line.TheVariants as lines
 use Rattle.heesch_line.specs.Forms.{IsLine}
 use Rattle.heesch_reader.specs.declared.item.Item.{Item}
 use Rattle.heesch_reader.specs.declared.item.Item.TheVariants as items
 use Rattle.heesch_reader.specs.declared.item.Part.TheVariants as parts
+use Rattle.heesch_reader.specs.declared.progress.AtHand.{AtHand}
+use Rattle.heesch_reader.specs.declared.progress.AtHand.TheVariants as endings
+use Rattle.heesch_reader.specs.Endings.{ending_of}
 use Rattle.heesch_stream.specs.Input.{IsAllOf}
-use Rattle.heesch_stream.specs.Taking.{Streamed, HasRead, IsCatalogue, HasFault, HasTooMany}
+use Rattle.heesch_stream.specs.Taking.{Streamed, Begins, HasRead, IsCatalogue, HasFault, HasTooMany, piece_max}
 use Rattle.heesch_check.specs.declared.answers.Checked.{Checked}
 use Rattle.heesch_check.specs.declared.answers.Checked.TheVariants as answers
 use Rattle.heesch_check.specs.declared.answers.CheckStop.{CheckStop}
@@ -15,22 +19,33 @@ use Rattle.heesch_check.specs.declared.reading.Reading.{Reading}
 use Rattle.heesch_check.specs.declared.reading.Reading.TheVariants as readings
 use Rattle.heesch_check.specs.Answers.{IsChecked}
 use Rattle.heesch_check.specs.Judging.{AreAllGood, StopsIn, AreJudged}
+use Rattle.heesch_check.specs.Catalogues.{AreAll}
+
+-- the answer where a line begins as the last one does: another one, unless the entries are all
+abbrev pub AnswersEarly : Header → (entries line : ℕ) → (early answer : Checked) → Type 0
+AnswersEarly header entries line early answer = (AreAll header header.subject entries × (answer ≡ answers.TooLong line)) ⊎ ((AreAll header header.subject entries → ⊥) × (answer ≡ early))
+
+-- the answer where the input is too long behind so many good entries, by how the line at hand begins
+abbrev pub AnswersLong : Header → (entries line : ℕ) → AtHand → Checked → Type 0
+AnswersLong header entries line endings.Other answer = answer ≡ answers.TooLong line
+AnswersLong header entries line endings.Next answer = AnswersEarly header entries line answers.InvalidEnd answer
+AnswersLong header entries line endings.Inside answer = AnswersEarly header entries line (answers.InvalidEntry (entries + 1)) answer
 
 -- the answer where reading stops behind so many good entries
-abbrev pub answer_of : ℕ → Reading → Option Checked
-answer_of entries readings.More = None
-answer_of entries readings.End = Some (answers.Valid entries)
-answer_of entries (readings.Fault parts.Header) = Some answers.InvalidHeader
-answer_of entries (readings.Fault parts.Entry) = Some (answers.InvalidEntry (entries + 1))
-answer_of entries (readings.Fault parts.End) = Some answers.InvalidEnd
-answer_of entries (readings.TooLong line) = Some (answers.TooLong line)
+abbrev pub IsAnswerOf : Header → ℕ → Reading → Option Checked → Type 0
+IsAnswerOf header entries readings.More answer = answer ≡ None
+IsAnswerOf header entries readings.End answer = answer ≡ Some (answers.Valid entries)
+IsAnswerOf header entries (readings.Fault parts.Header) answer = answer ≡ Some answers.InvalidHeader
+IsAnswerOf header entries (readings.Fault parts.Entry) answer = answer ≡ Some (answers.InvalidEntry (entries + 1))
+IsAnswerOf header entries (readings.Fault parts.End) answer = answer ≡ Some answers.InvalidEnd
+IsAnswerOf header entries (readings.TooLong line ending) answer = (told : Checked) × (answer ≡ Some told) × AnswersLong header entries line ending told
 
 -- since the source had `first` left, these items were read, and reading came so far
 abbrev pub IsReading : (first now : Option (List ℕ)) → List Item → Streamed → Reading → Type 0
 IsReading first now all s readings.More = HasRead first now all s
 IsReading first now all s readings.End = IsCatalogue first all
 IsReading first now all s (readings.Fault part) = (line : ℕ) × HasFault first all line part
-IsReading first now all s (readings.TooLong line) = HasTooMany first all line
+IsReading first now all s (readings.TooLong line ending) = (t : HasTooMany first all line) × (ending ≡ ending_of t.begins.held t.begins.left)
 
 -- items were appended: whatever was read before, they were read behind it, and reading came so far
 pub record Reads (before now : Option (List ℕ)) (old new : Streamed) (items after : List Item) (reading : Reading) : Type 0 where
@@ -64,8 +79,8 @@ IsAnswered first result = IfOk result (λ c. (input : List ℕ) × IsAllOf first
 
 -- the judgement of a batch of items, and of how far reading came with it
 abbrev pub JudgesBatch : Header → (before after : ℕ) → List Item → Reading → Option Checked → Type 0
-JudgesBatch header before after batch reading None = AreAllGood header before after batch × (answer_of after reading ≡ None)
-JudgesBatch header before after batch reading (Some answer) = StopsIn header before after batch answer ⊎ (AreAllGood header before after batch × (answer_of after reading ≡ Some answer))
+JudgesBatch header before after batch reading None = AreAllGood header before after batch × IsAnswerOf header after reading None
+JudgesBatch header before after batch reading (Some answer) = StopsIn header before after batch answer ⊎ (AreAllGood header before after batch × IsAnswerOf header after reading (Some answer))
 
 -- items were read and judged, so many entries among them, and more may follow
 pub record Underway (header : Header) (first now : Option (List ℕ)) (s : Streamed) (entries : ℕ) : Type 0 where
@@ -76,3 +91,19 @@ pub record Underway (header : Header) (first now : Option (List ℕ)) (s : Strea
 -- whatever was read before, nothing but bytes was read behind it, or these are its first items, and reading came so far
 abbrev pub FirstReads : (before now : Option (List ℕ)) (old new : Streamed) → List Item → Reading → Type 0
 FirstReads before now old new all reading = (first : Option (List ℕ)) → HasRead first before [] old → IsReading first now all new reading
+
+-- ---- what is read of the source
+
+-- the bytes decide nothing yet: they begin a catalogue with no whole item, or with a header, good entries, and maybe an end behind all of them
+pub record DecideNothing (bytes : List ℕ) : Type 0 where
+  pub all : List Item
+  pub begins : Begins bytes all
+  pub judged : (all ≡ []) ⊎ ((header : Header) × (entries : ℕ) × AreJudged header all entries)
+
+-- no piece is read beyond the one that decides: what was read before it decides nothing
+pub record ReadsNoFurther (first now : Option (List ℕ)) : Type 0 where
+  pub bytes : List ℕ
+  pub last : List ℕ
+  pub consumed : Consumes first now (bytes ++ last)
+  pub one_piece : length last ≤ piece_max
+  pub undecided : DecideNothing bytes

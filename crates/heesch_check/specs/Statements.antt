@@ -14,6 +14,6 @@ use Rattle.heesch_check.specs.Judging.{AreGood}
 abbrev pub CataloguesAreValid : Type 0
 CataloguesAreValid = (header : Header) (es : List Entry) → IsLine (lines.Header header) → header.brief ≡ false → AreGood header 0 es → AreAll header header.subject (length es) → IsValid (catalogue_text header es) (length es)
 
--- an input of at most 2^40 bytes has at most one answer
+-- an input has at most one answer
 abbrev pub OneAnswer : Type 0
-OneAnswer = (input : List ℕ) (c d : Checked) → length input ≤ 1099511627776 → IsChecked input c → IsChecked input d → c ≡ d
+OneAnswer = (input : List ℕ) (c d : Checked) → IsChecked input c → IsChecked input d → c ≡ d

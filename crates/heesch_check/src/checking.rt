@@ -8,7 +8,14 @@ ghost use Rattle.heesch_line.specs.Forms.{IsSubject};
 ghost use Rattle.heesch_stream.specs.Input.{IsAllOf};
 ghost use Rattle.heesch_check.specs.Answers.{IsChecked};
 ghost use Rattle.heesch_check.specs.Judging.{HasShapes};
-ghost use Rattle.heesch_check.specs.Reading.{IsReading, IsUnderway, BeginWith, IsOpened, IsAnswered};
+ghost use Rattle.heesch_check.specs.Reading.{
+  IsReading,
+  IsUnderway,
+  BeginWith,
+  IsOpened,
+  IsAnswered,
+  ReadsNoFurther,
+};
 
 use crate::answers::{CheckStop, Checked};
 use crate::judging::Judge;
@@ -25,8 +32,8 @@ use std::thread::Threads;
 
 /// Whether what the source has left is a valid catalogue, else its first invalid part.
 ///
-/// `TooLong` comes where the first 2^40 bytes decide no invalid part and more follow. Reading stops at the first invalid
-/// part. The free list of a size is made once, by so many workers; each entry is audited once, and no more than the
+/// `TooLong` comes where the first 2^40 bytes decide no invalid part and more follow. Reading stops with the piece that
+/// decides the answer. The free list of a size is made once, by so many workers; each entry is audited once, and no more than the
 /// entries of one piece of the input are held.
 ///
 /// Errors: `Failed` only where the source's count of faults rose; `NoMemory` where memory was refused.
@@ -39,6 +46,7 @@ pub fn check<T: Threads + Sync, R: Source, H: Gate + Sync>(
 ) -> Result<Checked, CheckStop>
     requires { (1 ≤ workers) × (workers ≤ 64) }
     ensures ok { IfOk result (λ c. (input : List ℕ) × IsAllOf (R.left source.old) input × IsChecked input c) }
+    ensures no_further { IfOk result (λ _. ReadsNoFurther (R.left source.old) (R.left source.new)) }
     ensures failed { result ≡ Err CheckStop.Failed → Rose (R.faults source.old) (R.faults source.new) }
     ensures later { R.faults source.old ≤ R.faults source.new }
 {
@@ -95,6 +103,7 @@ fn check_named<T: Threads + Sync, R: Source, H: Gate + Sync>(
     requires opened { IsOpened (R.left source.old) opening.header opening.items opening.stream opening.reading }
     requires workers { (1 ≤ workers) × (workers ≤ 64) }
     ensures ok { (first : Option (List ℕ)) → IsReading first (R.left source.old) opening.items opening.stream opening.reading → IsAnswered first result }
+    ensures no_further { (first : Option (List ℕ)) → IsReading first (R.left source.old) opening.items opening.stream opening.reading → ReadsNoFurther first (R.left source.old) → IfOk result (λ _. ReadsNoFurther first (R.left source.new)) }
     ensures failed { result ≡ Err CheckStop.Failed → Rose (R.faults source.old) (R.faults source.new) }
     ensures later { R.faults source.old ≤ R.faults source.new }
 {
@@ -122,6 +131,7 @@ fn check_under<G: Grid + Send + Sync, T: Threads + Sync, R: Source, H: Gate + Sy
     requires opened { IsOpened (R.left source.old) opening.header opening.items opening.stream opening.reading }
     requires workers { (1 ≤ workers) × (workers ≤ 64) }
     ensures ok { (first : Option (List ℕ)) → IsReading first (R.left source.old) opening.items opening.stream opening.reading → IsAnswered first result }
+    ensures no_further { (first : Option (List ℕ)) → IsReading first (R.left source.old) opening.items opening.stream opening.reading → ReadsNoFurther first (R.left source.old) → IfOk result (λ _. ReadsNoFurther first (R.left source.new)) }
     ensures failed { result ≡ Err CheckStop.Failed → Rose (R.faults source.old) (R.faults source.new) }
     ensures later { R.faults source.old ≤ R.faults source.new }
 {
@@ -180,6 +190,7 @@ fn check_behind<G: Grid, R: Source>(
     requires begins { BeginWith judge.header items.now }
     requires underway { IsUnderway (R.left source.old) items.now stream.old reading }
     ensures ok { (first : Option (List ℕ)) → IsReading first (R.left source.old) items.now stream.old reading → IsAnswered first result }
+    ensures no_further { (first : Option (List ℕ)) → IsReading first (R.left source.old) items.now stream.old reading → ReadsNoFurther first (R.left source.old) → IfOk result (λ _. ReadsNoFurther first (R.left source.new)) }
     ensures failed { result ≡ Err CheckStop.Failed → Rose (R.faults source.old) (R.faults source.new) }
     ensures later { R.faults source.old ≤ R.faults source.new }
 {

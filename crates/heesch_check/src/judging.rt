@@ -8,7 +8,7 @@ ghost use Rattle.heesch_line.specs.Forms.{IsLine};
 ghost use Rattle.heesch_text.specs.Catalogue.{entry_lines};
 ghost use Rattle.heesch_check.specs.Catalogues.{IsInPlace, AreAll};
 ghost use Rattle.heesch_check.specs.Judging.{HasShapes, IsFit, Judges, JudgesEntry, JudgesEnd, JudgesAll};
-ghost use Rattle.heesch_check.specs.Reading.{answer_of, JudgesBatch};
+ghost use Rattle.heesch_check.specs.Reading.{AnswersEarly, AnswersLong, IsAnswerOf, JudgesBatch};
 
 use crate::answers::Checked;
 use crate::reading::Reading;
@@ -16,7 +16,7 @@ use heesch_audit::{EntryAnswer, audit};
 use heesch_cert::{Entry, Header};
 use heesch_grid::{Cell, Grid};
 use heesch_io::{NoMemory, Seq};
-use heesch_reader::{Item, Part};
+use heesch_reader::{AtHand, Item, Part};
 use heesch_shape::Shape;
 use std::alloc::Global;
 
@@ -137,9 +137,34 @@ impl<G: Grid> Judge<G> {
         Ok(None)
     }
 
+    /// The answer where a line begins as the last one does in an input that is longer than is read. It comes too early, with
+    /// this answer, unless the entries so far are all.
+    fn answer_early(&self, line: u64, early: Checked) -> Checked
+        requires { HasShapes self.now.header self.now.header.subject self.now.shapes }
+        ensures { AnswersEarly self.now.header self.now.entries line early result }
+    {
+        if self.are_all() {
+            return Checked::TooLong { line };
+        }
+        early
+    }
+
+    /// The answer where the input is longer than is read, by how the line at hand begins.
+    fn answer_long(&self, line: u64, ending: AtHand) -> Checked
+        requires { HasShapes self.now.header self.now.header.subject self.now.shapes }
+        ensures { AnswersLong self.now.header self.now.entries line ending result }
+    {
+        match ending {
+            AtHand::Other => Checked::TooLong { line },
+            AtHand::Next => self.answer_early(line, Checked::InvalidEnd),
+            AtHand::Inside => self.answer_early(line, self.next_is_invalid()),
+        }
+    }
+
     /// The answer where reading stops behind items that were all judged good.
     pub fn answer(&self, reading: Reading) -> Option<Checked>
-        ensures { result ≡ answer_of self.now.entries reading }
+        requires { HasShapes self.now.header self.now.header.subject self.now.shapes }
+        ensures { IsAnswerOf self.now.header self.now.entries reading result }
     {
         let entries = self.entries;
         match reading {
@@ -148,7 +173,7 @@ impl<G: Grid> Judge<G> {
             Reading::Fault { part: Part::Header } => Some(Checked::InvalidHeader),
             Reading::Fault { part: Part::Entry } => Some(self.next_is_invalid()),
             Reading::Fault { part: Part::End } => Some(Checked::InvalidEnd),
-            Reading::TooLong { line } => Some(Checked::TooLong { line }),
+            Reading::TooLong { line, ending } => Some(self.answer_long(line, ending)),
         }
     }
 

@@ -6,7 +6,7 @@ pub fn catalogues_are_valid()
     ensures { CataloguesAreValid }
 {}
 
-/// An input of at most 2^40 bytes has at most one answer.
+/// An input has at most one answer.
 pub fn one_answer()
     ensures { OneAnswer }
 {}

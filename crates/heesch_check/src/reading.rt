@@ -1,11 +1,12 @@
 //! How far one step of reading came.
-ghost use Rattle.std.specs.Prelude.{◌≡◌, ◌≢◌, ◌≤◌, [], Err, IfOk};
+ghost use Rattle.std.specs.Prelude.{◌≡◌, ◌≢◌, ◌≤◌, ℕ, List, [], Option, Err, IfOk};
 ghost use Rattle.heesch_io.specs.Causes.{Rose};
-ghost use Rattle.heesch_check.specs.Reading.{Reads, FirstReads, MayRead};
+ghost use Rattle.heesch_check.specs.Reading.{Reads, FirstReads, MayRead, ReadsNoFurther};
+ghost use Rattle.heesch_stream.specs.Taking.{HasRead, TakesOnePiece};
 
 use crate::answers::CheckStop;
 use heesch_io::{Seq, Source};
-use heesch_reader::{Item, Part};
+use heesch_reader::{AtHand, Item, Part};
 use heesch_stream::{Stream, StreamStop, Taken};
 
 /// What one step of reading came to.
@@ -17,8 +18,8 @@ pub enum Reading {
     End,
     /// A line that can't stand in a catalogue, and the part that it is of.
     Fault { part: Part },
-    /// The input is longer than is read. The first byte too many is on this line.
-    TooLong { line: u64 },
+    /// The input is longer than is read. The first byte too many is on this line, which begins so.
+    TooLong { line: u64, ending: AtHand },
 }
 
 /// Reads one piece, and appends the items that are whole by now.
@@ -28,6 +29,7 @@ pub(crate) fn read<R: Source>(
     items: &mut Seq<Item>,
 ) -> Result<Reading, CheckStop>
     ensures ok { IfOk result (Reads (R.left source.old) (R.left source.new) stream.old stream.new items.old items.new) }
+    ensures one_piece { TakesOnePiece (R.left source.old) (R.left source.new) }
     ensures failed { result ≡ Err CheckStop.Failed → Rose (R.faults source.old) (R.faults source.new) }
     ensures later { R.faults source.old ≤ R.faults source.new }
 {
@@ -35,7 +37,10 @@ pub(crate) fn read<R: Source>(
         Ok(Taken::Piece) => Ok(Reading::More),
         Ok(Taken::End) => Ok(Reading::End),
         Err(StreamStop::NotText { line: _, part }) => Ok(Reading::Fault { part }),
-        Err(StreamStop::TooLong { line }) => Ok(Reading::TooLong { line }),
+        Err(StreamStop::TooLong { line }) => Ok(Reading::TooLong {
+            line,
+            ending: stream.at_hand(),
+        }),
         Err(StreamStop::Failed) => Err(CheckStop::Failed),
         Err(StreamStop::NoMemory) => Err(CheckStop::NoMemory),
     }
@@ -51,6 +56,7 @@ pub(crate) fn read_first<R: Source>(
     requires may { MayRead (R.left source.old) stream.old }
     ensures ok { IfOk result (FirstReads (R.left source.old) (R.left source.new) stream.old stream.new items.new) }
     ensures some { IfOk result (λ reading. reading ≡ Reading.More → items.new ≢ []) }
+    ensures no_further { IfOk result (λ _. (first : Option (List ℕ)) → HasRead first (R.left source.old) [] stream.old → ReadsNoFurther first (R.left source.new)) }
     ensures failed { result ≡ Err CheckStop.Failed → Rose (R.faults source.old) (R.faults source.new) }
     ensures later { R.faults source.old ≤ R.faults source.new }
 {

@@ -4,6 +4,7 @@ pub mod ClauseLists
 pub mod Implications
 pub mod Takings
 pub mod Rings
+pub mod MovedRings
 pub mod Numbered
 pub mod Pieces
 pub mod Whole

@@ -2,4 +2,5 @@ pub mod Families
 pub mod Literals
 pub mod Marks
 pub mod Meeting
+pub mod Rings
 pub mod Taking

@@ -1,14 +1,18 @@
 //! The four families of clauses.
-ghost use Rattle.std.specs.Prelude.{◌≡◌, ◌≤◌, ◌<◌, ◌^◌, ℕ, List, OnOk, length, flat_map};
+ghost use Rattle.std.specs.Prelude.{◌≡◌, true, ◌≤◌, ◌<◌, ◌^◌, ℕ, List, OnOk, length, flat_map};
 ghost use Rattle.std.specs.List.{enumerate_from};
 ghost use Rattle.heesch_grid.specs.declared.Cell.{Cell};
 ghost use Rattle.heesch_grid.specs.CoronaFormula.{Variable, GivesCellsAround, first_clauses, corona_clauses};
 ghost use Rattle.heesch_cert.specs.Literals.{literals};
 ghost use Rattle.heesch_place.specs.Universes.{IsUniverseOf, IsNumbered};
+ghost use Rattle.heesch_grid.specs.Cells.{has};
+ghost use Rattle.heesch_grid.specs.Vectors.{IsWithin};
 ghost use Rattle.heesch_encode.specs.Marks.{AreUnmarked};
+ghost use Rattle.heesch_encode.specs.Rings.{AreRings};
 ghost use Rattle.heesch_encode.specs.Taking.{IsTaken};
 ghost use Rattle.heesch_encode.specs.Families.{covering_at, support_at, apart_at, clauses_at};
 
+use crate::around::{TurnedRing, rings_of, write_moved};
 use crate::clauses::{minus, write_choice, write_implication};
 use crate::collector::Collector;
 use crate::desk::Desk;
@@ -57,6 +61,7 @@ fn take_first<G: Grid>(
 /// one level above it or below.
 fn take_covering<G: Grid>(
     universe: &Universe<G>,
+    rings: &[TurnedRing],
     shape: &Shape<G>,
     level: u32,
     var: u32,
@@ -64,6 +69,7 @@ fn take_covering<G: Grid>(
     clause: &mut Vec<PackedLit>,
     collector: &mut Collector,
 ) -> Result<(), EncodeStop>
+    requires rings { AreRings G.geometry universe.now.shape rings.now }
     requires few { length universe.now.vars < 2 ^ 31 }
     requires number { (1 ≤ var) × (var ≤ length universe.now.vars) }
     requires vars { collector.old.formula.vars ≡ length universe.now.vars }
@@ -74,7 +80,7 @@ fn take_covering<G: Grid>(
     if of >= level {
         return Ok(());
     }
-    write_ring(ring, universe.placement_of(var).shape())?;
+    write_moved(ring, rings, universe, var)?;
     for c in ring.as_slice() {
         if !shape.has(*c) {
             write_implication(clause, var, universe.covered_by(*c, of + 1))?;
@@ -87,11 +93,13 @@ fn take_covering<G: Grid>(
 /// Where the variable is true and of level 2 or more, one of the level below whose tile touches its own is.
 fn take_support<G: Grid>(
     universe: &Universe<G>,
+    rings: &[TurnedRing],
     var: u32,
     desk: &mut Desk,
     collector: &mut Collector,
 ) -> Result<(), EncodeStop>
     requires universe { IsUniverseOf G.geometry universe.now }
+    requires rings { AreRings G.geometry universe.now.shape rings.now }
     requires few { length universe.now.vars < 2 ^ 31 }
     requires unmarked { AreUnmarked (length universe.now.vars) desk.old.marks.words.items }
     requires number { (1 ≤ var) × (var ≤ length universe.now.vars) }
@@ -105,7 +113,7 @@ fn take_support<G: Grid>(
         return Ok(());
     }
     let tile = universe.placement_of(var).shape();
-    write_ring(&mut desk.ring, tile)?;
+    write_moved(&mut desk.ring, rings, universe, var)?;
     list_supporting(
         &mut desk.numbers,
         &mut desk.marks,
@@ -154,6 +162,7 @@ fn take_apart<G: Grid>(
 /// The clauses of a family for one variable.
 fn take_of<G: Grid>(
     universe: &Universe<G>,
+    rings: &[TurnedRing],
     shape: &Shape<G>,
     level: u32,
     family: Family,
@@ -163,6 +172,7 @@ fn take_of<G: Grid>(
 ) -> Result<(), EncodeStop>
     requires universe { IsUniverseOf G.geometry universe.now }
     requires level { universe.now.level ≡ level }
+    requires rings { AreRings G.geometry universe.now.shape rings.now }
     requires few { length universe.now.vars < 2 ^ 31 }
     requires number { (1 ≤ var) × (var ≤ length universe.now.vars) }
     requires vars { collector.old.formula.vars ≡ length universe.now.vars }
@@ -174,6 +184,7 @@ fn take_of<G: Grid>(
     match family {
         Family::Covering => take_covering(
             universe,
+            rings,
             shape,
             level,
             var,
@@ -181,7 +192,7 @@ fn take_of<G: Grid>(
             &mut desk.clause,
             collector,
         ),
-        Family::Support => take_support(universe, var, desk, collector),
+        Family::Support => take_support(universe, rings, var, desk, collector),
         Family::Apart => take_apart(universe, level, var, desk, collector),
     }
 }
@@ -189,6 +200,7 @@ fn take_of<G: Grid>(
 /// The clauses of a family, by variables.
 fn take_family<G: Grid>(
     universe: &Universe<G>,
+    rings: &[TurnedRing],
     shape: &Shape<G>,
     level: u32,
     family: Family,
@@ -197,6 +209,7 @@ fn take_family<G: Grid>(
 ) -> Result<(), EncodeStop>
     requires universe { IsUniverseOf G.geometry universe.now }
     requires level { universe.now.level ≡ level }
+    requires rings { AreRings G.geometry universe.now.shape rings.now }
     requires few { length universe.now.vars < 2 ^ 31 }
     requires vars { collector.old.formula.vars ≡ length universe.now.vars }
     requires unmarked { AreUnmarked (length universe.now.vars) desk.old.marks.words.items }
@@ -205,7 +218,16 @@ fn take_family<G: Grid>(
         → IsTaken result collector.old collector.new (flat_map (clauses_at family G.geometry around shape.now level universe.now.vars) (enumerate_from 1 universe.now.vars)) }
 {
     for i in 0..universe.count() {
-        take_of(universe, shape, level, family, i + 1, desk, collector)?;
+        take_of(
+            universe,
+            rings,
+            shape,
+            level,
+            family,
+            i + 1,
+            desk,
+            collector,
+        )?;
     }
     Ok(())
 }
@@ -220,15 +242,20 @@ pub(crate) fn take_formula<G: Grid>(
 ) -> Result<(), EncodeStop>
     requires universe { IsUniverseOf G.geometry universe.now }
     requires level { universe.now.level ≡ level }
+    requires shape { universe.now.shape ≡ shape.now }
+    requires near { (c : Cell) → has shape.now c ≡ true → IsWithin 200 c }
     requires few { length universe.now.vars < 2 ^ 31 }
     requires vars { collector.old.formula.vars ≡ length universe.now.vars }
     ensures { (around : List Cell → List Cell) → GivesCellsAround G.geometry around
         → IsTaken result collector.old collector.new (corona_clauses literals G.geometry around shape.now level universe.now.vars) }
 {
+    let rings = rings_of(alloc, shape)?;
+    let rings = rings.as_slice();
     let mut desk = Desk::new(alloc, universe)?;
     take_first(universe, shape, &mut desk.ring, &mut desk.clause, collector)?;
     take_family(
         universe,
+        rings,
         shape,
         level,
         Family::Covering,
@@ -237,11 +264,20 @@ pub(crate) fn take_formula<G: Grid>(
     )?;
     take_family(
         universe,
+        rings,
         shape,
         level,
         Family::Support,
         &mut desk,
         collector,
     )?;
-    take_family(universe, shape, level, Family::Apart, &mut desk, collector)
+    take_family(
+        universe,
+        rings,
+        shape,
+        level,
+        Family::Apart,
+        &mut desk,
+        collector,
+    )
 }

@@ -1,6 +1,7 @@
 //! The corona formula E(S, j) of a polyform and a level.
 #![tactic(auto)]
 
+mod around;
 mod clauses;
 mod collector;
 mod desk;

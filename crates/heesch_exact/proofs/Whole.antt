@@ -15,7 +15,8 @@ use Rattle.heesch_exact.proofs.Bits.{above, some_point}
 use Rattle.heesch_exact.proofs.Sums.{sum_zero, count_is_sum, two_counted}
 
 module _ (masks : List ℕ) (points : ℕ) (small : (i : ℕ) → slice_index masks i < 2 ^ 64) (fits : points < 2 ^ 64) where
-  counted : (chosen : List ℕ) (k : ℕ) → count_by (has_point masks k) chosen ≡ times masks chosen k
+  -- how many of the chosen sets have a point, as a sum of bits
+  pub counted : (chosen : List ℕ) (k : ℕ) → count_by (has_point masks k) chosen ≡ times masks chosen k
   counted chosen k = count_is_sum (has_point masks k) (λ i. bit_at (slice_index masks i) k) (λ i. bit (bit_at (slice_index masks i) k) (bit_at-lt (slice_index masks i) k)) chosen
     where
       bit : (b : ℕ) → b < 2 → cond (nat_eq b 1) 1 0 ≡ b

@@ -1,5 +1,5 @@
 -- One byte after the other, as the loop goes.
-use Rattle.std.proofs.Common.{◌≡◌, ◌≢◌, ℕ, ◌+◌, ◌<◌, ◌≤◌, ◌^◌, Bool, true, false, eqb, List, [], ◌∷◌, ◌++◌, length, get_or, take, drop, Result, Ok, Err, MatchBool, refl, sym, ap, subst, ◌∙◌, append_assoc, arith}
+use Rattle.std.proofs.Common.{◌≡◌, ◌≢◌, ℕ, ◌+◌, ◌<◌, ◌≤◌, ◌^◌, Bool, true, false, eqb, List, [], ◌∷◌, ◌++◌, length, get_or, take, drop, Result, Ok, Err, MatchBool, refl, sym, ap, subst, ◌∙◌, append_assoc, arith, inl, inr}
 use Rattle.std.proofs.lemmas.Bool.{eqb-true, false≢true}
 use Rattle.std.proofs.lemmas.List.{append-nil, length-append, take_more, take_all, length-take-le, drop_more, take-append-drop}
 use Rattle.heesch_reader.specs.declared.item.Item.{Item}
@@ -7,13 +7,14 @@ use Rattle.heesch_reader.specs.declared.item.Stop.{Stop}
 use Rattle.heesch_reader.specs.declared.item.Stop.TheVariants as stops
 use Rattle.heesch_reader.specs.declared.scan.Appended.{Appended}
 use Rattle.heesch_reader.specs.declared.scan.Scan.{Scan}
+use Rattle.heesch_reader.specs.Feeding.{RunsOut}
 use Rattle.heesch_reader.specs.Scanning.{MayGoOn, rest_of, Settles, EndsOrFaults, TakesByte, Pushes, EndsLine, Reaches, ReachesOrRefused, shows_whole}
-use Rattle.heesch_reader.proofs.Following.{Follows, starts, pushes, ends_line, reaches, refuses, room_so_far}
+use Rattle.heesch_reader.proofs.Following.{Follows, starts, pushes, ends_line, reaches, refuses, runs_out, runs_out_settled, room_so_far}
 
 pub byte_ended : (s mid t : Scan) (before between after : List Item) (r : Result (Unit {0}) Stop) → Settles (shows_whole s) s mid before between → EndsOrFaults mid t between after r → TakesByte s t before after 10 r
 byte_ended s mid t before between after (Ok u) g e = record { middle = mid; between = between; settled = g; ended = e }
 byte_ended s mid t before between after (Err (stops.NotText line part)) g e = (refl, record { middle = mid; settled = subst (λ (x : List Item). Settles (shows_whole s) s mid before x) (sym e.1) g; faults = e.0 })
-byte_ended s mid t before between after (Err stops.NoMemory) g e = tt
+byte_ended s mid t before between after (Err stops.NoMemory) g e = inr (mid, subst (λ (x : List Item). Settles (shows_whole s) s mid before x) (sym e) g)
 
 -- before a byte: what the bytes so far made
 abbrev pub Going : Scan → Scan → List Item → List Item → List ℕ → ℕ → Type 0
@@ -36,6 +37,9 @@ goes_on first s t before middle after piece i b u lt e g h =
     let more : (rest_of first ++ take i piece) ++ b ∷ [] ≡ rest_of first ++ take (i + 1) piece = append_assoc (rest_of first) (take i piece) (b ∷ []) ∙ ap (λ (x : ℕ). rest_of first ++ (take i piece ++ x ∷ [])) e ∙ ap (λ (x : List ℕ). rest_of first ++ x) (sym (take_more piece i 0 lt)) in
     subst (λ (bytes : List ℕ). Follows first.appended t before after bytes) more (by_kind first.appended s t before middle after (rest_of first ++ take i piece) b (eqb b 10) refl g h)
 
+front_of : (first : Scan) (piece : List ℕ) (i : ℕ) → (rest_of first ++ take i piece) ++ drop i piece ≡ rest_of first ++ piece
+front_of first piece i = append_assoc (rest_of first) (take i piece) (drop i piece) ∙ ap (λ (x : List ℕ). rest_of first ++ x) (take-append-drop i piece)
+
 pub stops_at : (first s t last : Scan) (before middle after : List Item) (piece : List ℕ) (i b : ℕ) (e : Stop) → i < length piece → b ≡ get_or piece i 0
     → Going first s before middle piece i → TakesByte s t middle after b (Err e) → ReachesOrRefused first last before after (rest_of first ++ piece) (Err e)
 stops_at first s t last before middle after piece i b (stops.NotText line part) lt eb g h =
@@ -43,7 +47,18 @@ stops_at first s t last before middle after piece i b (stops.NotText line part) 
     append_assoc (rest_of first) (take i piece) (10 ∷ drop (i + 1) piece) ∙ ap (λ (x : ℕ). rest_of first ++ (take i piece ++ x ∷ drop (i + 1) piece)) (sym h.0 ∙ eb)
     ∙ ap (λ (x : List ℕ). rest_of first ++ (take i piece ++ x)) (sym (drop_more piece i 0 lt)) ∙ ap (λ (x : List ℕ). rest_of first ++ x) (take-append-drop i piece) in
     subst (λ (bytes : List ℕ). ReachesOrRefused first last before after bytes (Err (stops.NotText line part))) whole (refuses first.appended s before middle after (rest_of first ++ take i piece) (drop (i + 1) piece) line part g h.1)
-stops_at first s t last before middle after piece i b stops.NoMemory lt eb g h = tt
+stops_at first s t last before middle after piece i b stops.NoMemory lt eb g h =
+    subst (λ (bytes : List ℕ). RunsOut first.appended before after bytes) (front_of first piece i)
+    (elim h [
+      | inl same ↦ subst (λ (x : List Item). RunsOut first.appended before x ((rest_of first ++ take i piece) ++ drop i piece)) (sym same) (runs_out first.appended s before middle (rest_of first ++ take i piece) (drop i piece) g)
+      | inr settled ↦ runs_out_settled first.appended s settled.0 before middle after (rest_of first ++ take i piece) (drop i piece) g settled.1
+    ])
+
+-- memory was refused where the whole piece was taken
+pub stops_behind : (first s : Scan) (before middle after : List Item) (piece : List ℕ) (i : ℕ) → length piece ≤ i → Going first s before middle piece i → after ≡ middle → RunsOut first.appended before after (rest_of first ++ piece)
+stops_behind first s before middle after piece i le g same =
+    subst (λ (bytes : List ℕ). RunsOut first.appended before after bytes) (front_of first piece i)
+    (subst (λ (x : List Item). RunsOut first.appended before x ((rest_of first ++ take i piece) ++ drop i piece)) (sym same) (runs_out first.appended s before middle (rest_of first ++ take i piece) (drop i piece) g))
 
 pub settled : (first s t : Scan) (before middle after : List Item) (piece : List ℕ) (i : ℕ) → length piece ≤ i → Going first s before middle piece i → Settles (shows_whole s) s t middle after → Reaches first.appended t before after (rest_of first ++ piece)
 settled first s t before middle after piece i le g h =

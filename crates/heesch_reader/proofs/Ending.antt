@@ -70,7 +70,7 @@ leaves_start stages.Start r line e = absurd cc
 leaves_start (stages.Behind brief spot) r line e = let m = behind_map brief (step brief spot line) r e in (brief, m.0, m.2)
 
 -- nothing was read where the start was reached
-at_start : (p : Progress) (ls : List Line) → walk p ls ≡ Some stages.Start → (ls ≡ []) × (p ≡ stages.Start)
+pub at_start : (p : Progress) (ls : List Line) → walk p ls ≡ Some stages.Start → (ls ≡ []) × (p ≡ stages.Start)
 at_start p [] e = (refl, cc)
 at_start p (line ∷ ls) e =
     let n = bind_some (next p line) (λ q. walk q ls) stages.Start e in
@@ -137,17 +137,17 @@ none_held s line settled words begins w =
 
 -- ---- an end
 
-record EndsAt (p r : Progress) : Type 0 where
-  brief : Bool
-  spot : Spot
-  p_is : p ≡ stages.Behind brief spot
-  whole : is_whole spot.place ≡ true
-  r_is : stages.Behind brief (record { shapes = spot.shapes; place = places.Ended }) ≡ r
+pub record EndsAt (p r : Progress) : Type 0 where
+  pub brief : Bool
+  pub spot : Spot
+  pub p_is : p ≡ stages.Behind brief spot
+  pub whole : is_whole spot.place ≡ true
+  pub r_is : stages.Behind brief (record { shapes = spot.shapes; place = places.Ended }) ≡ r
 
 ended_as : (brief : Bool) (spot u : Spot) (r : Progress) → u.shapes ≡ spot.shapes → u.place ≡ places.Ended → stages.Behind brief u ≡ r → stages.Behind brief (record { shapes = spot.shapes; place = places.Ended }) ≡ r
 ended_as brief spot u r f g e = rw (← f, ← g) e
 
-end_next : (p r : Progress) (count : ℕ) → next p (lines.End count) ≡ Some r → EndsAt p r
+pub end_next : (p r : Progress) (count : ℕ) → next p (lines.End count) ≡ Some r → EndsAt p r
 end_next stages.Start r count e = absurd cc
 end_next (stages.Behind brief spot) r count e =
     let m = behind_map brief (step brief spot (lines.End count)) r e in
@@ -224,14 +224,14 @@ kept_moves s t before after line reached i form may a given held one shapes room
       };
     }
 
-record ShapeAt (p r : Progress) : Type 0 where
-  brief : Bool
-  spot : Spot
-  p_is : p ≡ stages.Behind brief spot
-  whole : is_whole spot.place ≡ true
-  one_more : shapes_of r ≡ spot.shapes + 1
+pub record ShapeAt (p r : Progress) : Type 0 where
+  pub brief : Bool
+  pub spot : Spot
+  pub p_is : p ≡ stages.Behind brief spot
+  pub whole : is_whole spot.place ≡ true
+  pub one_more : shapes_of r ≡ spot.shapes + 1
 
-shape_next : (p r : Progress) (cells : List Cell) → next p (lines.Shape cells) ≡ Some r → ShapeAt p r
+pub shape_next : (p r : Progress) (cells : List Cell) → next p (lines.Shape cells) ≡ Some r → ShapeAt p r
 shape_next stages.Start r cells e = absurd cc
 shape_next (stages.Behind brief spot) r cells e =
     let m = behind_map brief (step brief spot (lines.Shape cells)) r e in
@@ -343,4 +343,4 @@ may_not p line words form e none other form_too f = subst (λ (x : Line). next p
 pub faulty : (s t : Scan) (items : List Item) (r : Result (Unit {0}) Stop) → IsFaultOf s r → MayNotStand s.progress s.line.items → EndsOrFaults s t items items r
 faulty s t items (Ok u) f n = absurd f
 faulty s t items (Err (stops.NotText line part)) f n = (record { may_not = n; number = f.0; part_is = f.1 }, refl)
-faulty s t items (Err stops.NoMemory) f n = tt
+faulty s t items (Err stops.NoMemory) f n = refl

@@ -1,6 +1,7 @@
 -- What so many bytes make of a scan.
 use Rattle.std.proofs.Common.{◌≡◌, ◌≢◌, ℕ, ◌+◌, ◌<◌, ◌≤◌, ◌^◌, Bool, true, false, ◌&&◌, ◌||◌, ◌==◌, List, [], ◌∷◌, ◌++◌, length, Option, Some, None, Ok, refl, sym, ap, subst, ◌∙◌, append_assoc, arith, ◌⊎◌, inl, inr}
 use Rattle.std.specs.Prelude.{not}
+use Rattle.std.specs.List.{AllByRecursion}
 use Rattle.std.proofs.lemmas.Bool.{eqb-true, false≢true}
 use Rattle.std.proofs.lemmas.List.{append-nil, length-append, nil_from_length}
 use Rattle.std.proofs.lemmas.List.Concat.{flat_map-append}
@@ -23,10 +24,10 @@ use Rattle.heesch_reader.specs.declared.scan.Scan.{Scan}
 use Rattle.heesch_reader.specs.Progress.{next, walk, may_end, between}
 use Rattle.heesch_reader.specs.Items.{Kept, item_lines, lines_of, with_item, with_items, AreItemsAt, progress_behind, progress_of}
 use Rattle.heesch_reader.specs.Faults.{begins_next, part_of}
-use Rattle.heesch_reader.specs.Feeding.{IsBehindEntry, ItemsLead, Stands, Takes, FeedFrom, FeedResult, BeginEntry, IsPrompt, IsPromptAtEnd, IsShown, IsShownAtEnd, Refuses, FallsShort}
+use Rattle.heesch_reader.specs.Feeding.{IsBehindEntry, ItemsLead, Stands, Takes, FeedFrom, FeedResult, BeginEntry, IsPrompt, IsPromptAtEnd, IsShown, IsShownAtEnd, Refuses, RunsOut, FallsShort}
 use Rattle.heesch_reader.specs.Scanning.{IsScan, MayGoOn, Moves, GivesEntry, Settles, EndsLine, FaultsLine, Pushes, Reaches, Completes, rest_of, shows_whole, shows_whole_at_end, is_complete}
 use Rattle.heesch_reader.proofs.Ending.{no_lines}
-use Rattle.heesch_reader.proofs.Walking.{all_append, walk_push, same_next, same_part, outer_words, shows_more, no_first_shape, no_shape_behind_end}
+use Rattle.heesch_reader.proofs.Walking.{all_append, all_front, walk_push, same_next, same_part, outer_words, shows_more, no_first_shape, no_shape_behind_end}
 
 -- ---- items
 
@@ -401,6 +402,41 @@ refuses first s before middle after bytes back line part f e =
       line_is = line_number first mid before after found line n e.faults.number;
       after_is = n.after_is;
     }
+
+-- the items so far, and any bytes behind them
+runs_out_of : (first : Appended) (before after found : List Item) (held : List Line) (bytes left more : List ℕ) (reached : Progress) → Stands first bytes found held left reached → IsShown (with_items first found) (text_of held ++ left)
+    → after ≡ before ++ found → RunsOut first before after (bytes ++ more)
+runs_out_of first before after found held bytes left more reached s shown a =
+    let alone : lines_of found ++ [] ≡ lines_of found = append-nil (lines_of found) in
+    record {
+      found = found;
+      behind = (text_of held ++ left) ++ more;
+      reached = s.items_lead.behind;
+      stands = record {
+        text = ap (λ (x : List ℕ). x ++ more) (s.text ∙ ap (λ (x : List ℕ). x ++ left) (text_append (lines_of found) held) ∙ append_assoc (text_of (lines_of found)) (text_of held) left) ∙ append_assoc (text_of (lines_of found)) (text_of held ++ left) more
+            ∙ ap (λ (x : List Line). text_of x ++ ((text_of held ++ left) ++ more)) (sym alone);
+        lead = record {
+          forms = subst (λ (x : List Line). AllByRecursion IsLine x) (sym alone) (all_front IsLine (lines_of found) held s.lead.forms);
+          reached = ap (walk (progress_of first)) alone ∙ s.items_lead.walked;
+        };
+        numbered = s.numbered;
+        one_entry = tt;
+        items_lead = s.items_lead;
+      };
+      shown = λ some unended. shows_more (text_of held ++ left) more (shown some unended);
+      after_is = a;
+    }
+
+-- memory was refused behind so many bytes
+pub runs_out : (first : Appended) (s : Scan) (before after : List Item) (bytes more : List ℕ) → Follows first s before after bytes → RunsOut first before after (bytes ++ more)
+runs_out first s before after bytes more f =
+    runs_out_of first before after f.found s.lines.items bytes s.line.items more s.progress f.stands (subst (λ (a : Appended). IsShown a (rest_of s)) f.stood.appended f.is.shown) f.stood.after_is
+
+-- and behind a settling
+pub runs_out_settled : (first : Appended) (s t : Scan) (before middle after : List Item) (bytes more : List ℕ) → Follows first s before middle bytes → Settles (shows_whole s) s t middle after → RunsOut first before after (bytes ++ more)
+runs_out_settled first s t before middle after bytes more f g =
+    let r = reaches first s t before middle after bytes f g in
+    runs_out_of first before after r.found t.lines.items bytes t.line.items more r.reached r.stands (subst (λ (a : Appended). IsShown a (rest_of t)) r.appended r.is.shown) r.after_is
 
 -- lines and bytes so far
 pub room_so_far : (first : Appended) (s : Scan) (before after : List Item) (bytes : List ℕ) → Follows first s before after bytes → s.appended.lines + length (rest_of s) ≤ first.lines + length bytes

@@ -1,9 +1,15 @@
 mod Bytes
-mod Ending
+pub mod Ending
+mod Endings
+pub mod EntryLines
+pub mod Finishing
+pub mod FirstWords
 pub mod Following
 mod Giving
 pub mod Inner
 pub mod NoFault
 mod PartNames
 pub mod Pieces
+pub mod SameLines
 pub mod Walking
+pub mod Whole

@@ -1,7 +1,7 @@
 -- A text whose lines may all stand has no line at fault.
-use Rattle.std.proofs.Common.{◌≡◌, ℕ, List, [], ◌∷◌, ◌++◌, Option, Some, None, refl, sym, ap, subst, ◌∙◌, append_assoc}
+use Rattle.std.proofs.Common.{◌≡◌, ℕ, List, [], ◌∷◌, ◌++◌, Option, Some, None, sym, ap, subst, ◌∙◌}
 use Rattle.heesch_text.specs.declared.line.Line.{Line}
-use Rattle.heesch_text.specs.Lines.{words_of, line_text, text_of}
+use Rattle.heesch_text.specs.Lines.{words_of, text_of}
 use Rattle.heesch_line.specs.Forms.{HasNoNewline}
 use Rattle.heesch_line.proofs.LinesAgain.{words_tell}
 use Rattle.heesch_line.proofs.Newlines.{no_newline}
@@ -10,25 +10,7 @@ use Rattle.heesch_reader.specs.declared.item.Part.{Part}
 use Rattle.heesch_reader.specs.declared.progress.Progress.{Progress}
 use Rattle.heesch_reader.specs.Progress.{next, walk, Lead}
 use Rattle.heesch_reader.specs.Faults.{FaultsAt}
-
--- bytes have one first line
-split_line : (w v xs ys : List ℕ) → HasNoNewline w → HasNoNewline v → w ++ 10 ∷ xs ≡ v ++ 10 ∷ ys → (w ≡ v) × (xs ≡ ys)
-split_line [] [] xs ys h k e = let t : xs ≡ ys = cc in (refl, t)
-split_line [] (c ∷ v) xs ys h k e = let t : 10 ≡ c = cc in absurd (k.0 (sym t))
-split_line (b ∷ w) [] xs ys h k e = let t : b ≡ 10 = cc in absurd (h.0 t)
-split_line (b ∷ w) (c ∷ v) xs ys h k e =
-    let t : b ≡ c = cc in
-    let r = split_line w v xs ys h.1 k.1 cc in
-    (rw (t, r.0) refl, r.1)
-
-no_split : (w xs left : List ℕ) → HasNoNewline left → left ≡ w ++ 10 ∷ xs → ⊥
-no_split [] xs [] h e = absurd cc
-no_split (c ∷ w) xs [] h e = absurd cc
-no_split [] xs (b ∷ left) h e = let t : b ≡ 10 = cc in h.0 t
-no_split (c ∷ w) xs (b ∷ left) h e = no_split w xs left h.1 cc
-
-line_front : (line : Line) (ls : List Line) (left : List ℕ) → text_of (line ∷ ls) ++ left ≡ words_of line ++ 10 ∷ (text_of ls ++ left)
-line_front line ls left = append_assoc (line_text line) (text_of ls) left ∙ append_assoc (words_of line) (10 ∷ []) (text_of ls ++ left)
+use Rattle.heesch_reader.proofs.SameLines.{line_front, one_first_line, no_first_line}
 
 some_none : {A : Type 0} (x : Option A) (a : A) → x ≡ Some a → x ≡ None → ⊥
 some_none x a e f = let bad = sym e ∙ f in absurd cc
@@ -40,14 +22,14 @@ same_start : (p r : Progress) → walk p [] ≡ Some r → p ≡ r
 same_start p r e = cc
 
 pub no_fault : (p q r : Progress) (ls front : List Line) (left bytes : List ℕ) (part : Part) → Lead p ls q → HasNoNewline left → Lead p front r → FaultsAt r bytes part → text_of ls ++ left ≡ text_of front ++ bytes → ⊥
-no_fault p q r [] [] left bytes part l h f fault e = no_split fault.words fault.back left h (e ∙ fault.split)
-no_fault p q r [] (a ∷ front) left bytes part l h f fault e = no_split (words_of a) (text_of front ++ bytes) left h (e ∙ line_front a front bytes)
+no_fault p q r [] [] left bytes part l h f fault e = no_first_line fault.words fault.back left h (e ∙ fault.split)
+no_fault p q r [] (a ∷ front) left bytes part l h f fault e = no_first_line (words_of a) (text_of front ++ bytes) left h (e ∙ line_front a front bytes)
 no_fault p q r (line ∷ ls) [] left bytes part l h f fault e =
-    let s = split_line (words_of line) fault.words (text_of ls ++ left) fault.back (no_newline line l.forms.0) fault.one_line (sym (line_front line ls left) ∙ e ∙ fault.split) in
+    let s = one_first_line (words_of line) fault.words (text_of ls ++ left) fault.back (no_newline line l.forms.0) fault.one_line (sym (line_front line ls left) ∙ e ∙ fault.split) in
     let b = bind_some (next p line) (λ x. walk x ls) q l.reached in
     some_none (next p line) b.0 b.1 (ap (λ (x : Progress). next x line) (same_start p r f.reached) ∙ fault.may_not line l.forms.0 s.0)
 no_fault p q r (line ∷ ls) (a ∷ front) left bytes part l h f fault e =
-    let s = split_line (words_of line) (words_of a) (text_of ls ++ left) (text_of front ++ bytes) (no_newline line l.forms.0) (no_newline a f.forms.0) (sym (line_front line ls left) ∙ e ∙ line_front a front bytes) in
+    let s = one_first_line (words_of line) (words_of a) (text_of ls ++ left) (text_of front ++ bytes) (no_newline line l.forms.0) (no_newline a f.forms.0) (sym (line_front line ls left) ∙ e ∙ line_front a front bytes) in
     let same = words_tell line a l.forms.0 f.forms.0 s.0 in
     let b = bind_some (next p line) (λ x. walk x ls) q l.reached in
     let c = bind_some (next p a) (λ x. walk x front) r f.reached in

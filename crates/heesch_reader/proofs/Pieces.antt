@@ -19,7 +19,7 @@ use Rattle.heesch_reader.specs.Items.{lines_of, AreItemsAt, with_items, progress
 use Rattle.heesch_reader.specs.Feeding.{IsBehindEntry, ItemsLead, Stands, BeginEntry}
 use Rattle.heesch_reader.proofs.Ending.{header_first}
 use Rattle.heesch_reader.proofs.Following.{with_items_append, lines_counted, items_append, lines_append, text_append}
-use Rattle.heesch_reader.proofs.Walking.{all_append, walk_append, same_next}
+use Rattle.heesch_reader.proofs.Walking.{all_append, all_front, walk_append, same_next}
 
 -- ---- what stands next
 
@@ -102,10 +102,6 @@ items_join old found more f m =
     }
 
 -- ---- two pieces
-
-all_front : {X : Type 0} (P : X → Type 0) (xs ys : List X) → AllByRecursion P (xs ++ ys) → AllByRecursion P xs
-all_front P [] ys h = tt
-all_front P (x ∷ xs) ys h = (h.0, all_front P xs ys h.1)
 
 text_joined : (bytes piece left later : List ℕ) (f h g k : List Line) → bytes ≡ text_of (f ++ h) ++ left → (text_of h ++ left) ++ piece ≡ text_of (g ++ k) ++ later → bytes ++ piece ≡ text_of ((f ++ g) ++ k) ++ later
 text_joined bytes piece left later f h g k e t =

@@ -82,11 +82,21 @@ pub record Refuses (old : Appended) (before after : List Item) (bytes : List ℕ
   pub line_is : line ≡ old.lines + length (lines_of found ++ held) + 1
   pub after_is : after ≡ before ++ found
 
+-- memory was refused: the items that were whole by then were appended. Their text stands at the front of the bytes, and those behind
+-- it show that they are whole
+pub record RunsOut (old : Appended) (before after : List Item) (bytes : List ℕ) : Type 0 where
+  pub found : List Item
+  pub behind : List ℕ
+  pub reached : Progress
+  pub stands : Stands old bytes found [] behind reached
+  pub shown : IsShown (with_items old found) behind
+  pub after_is : after ≡ before ++ found
+
 -- what a reader that hasn't refused makes of the bytes behind its last item
 abbrev pub FeedFresh : Kept → Kept → List Item → List Item → List ℕ → Result (Unit {0}) Stop → Type 0
 FeedFresh old new before after bytes (Ok _) = Takes old new before after bytes
 FeedFresh old new before after bytes (Err (stops.NotText line part)) = Refuses old.appended before after bytes line part × (new.refusal ≡ Some (stops.NotText line part))
-FeedFresh old new before after bytes (Err stops.NoMemory) = new.refusal ≡ Some stops.NoMemory
+FeedFresh old new before after bytes (Err stops.NoMemory) = RunsOut old.appended before after bytes × (new.refusal ≡ Some stops.NoMemory)
 
 -- a refusal stays, and nothing changes
 abbrev pub StaysRefused : Stop → Kept → Kept → List Item → List Item → Result (Unit {0}) Stop → Type 0
@@ -137,7 +147,7 @@ pub record FallsShort (old : Appended) (before after : List Item) (bytes : List 
 abbrev pub FinishFresh : Kept → Kept → List Item → List Item → List ℕ → Result (Unit {0}) Stop → Type 0
 FinishFresh old new before after bytes (Ok _) = Finishes old new before after bytes
 FinishFresh old new before after bytes (Err (stops.NotText line part)) = FallsShort old.appended before after bytes line part × (new.refusal ≡ Some (stops.NotText line part))
-FinishFresh old new before after bytes (Err stops.NoMemory) = new.refusal ≡ Some stops.NoMemory
+FinishFresh old new before after bytes (Err stops.NoMemory) = (after ≡ before) × (new.refusal ≡ Some stops.NoMemory)
 
 abbrev pub FinishFrom : Option Stop → Kept → Kept → List Item → List Item → List ℕ → Result (Unit {0}) Stop → Type 0
 FinishFrom (Some stop) old new before after bytes result = StaysRefused stop old new before after result
@@ -146,6 +156,10 @@ FinishFrom None old new before after bytes result = FinishFresh old new before a
 -- the answer to the end of the bytes
 abbrev pub FinishResult : Kept → Kept → List Item → List Item → Result (Unit {0}) Stop → Type 0
 FinishResult old new before after result = FinishFrom old.refusal old new before after old.rest result
+
+-- the two answers to the end of the bytes exclude each other: a whole catalogue doesn't fall short of one
+abbrev pub WholeTextsFallNotShort : Type 0
+WholeTextsFallNotShort = (old new : Kept) (before after other : List Item) (bytes : List ℕ) (line : ℕ) (part : Part) → Finishes old new before after bytes → FallsShort old.appended before other bytes line part → ⊥
 
 -- behind a piece that was taken, the lines appended and the rest are no more than the lines and the bytes before
 abbrev pub PiecesLeaveRoom : Type 0

@@ -17,7 +17,7 @@ use Rattle.heesch_reader.specs.declared.scan.Scan.{Scan}
 use Rattle.heesch_reader.specs.Progress.{Lead, next, may_end, between}
 use Rattle.heesch_reader.specs.Items.{Kept, lines_of, AreItemsAt, with_items, progress_of, none_appended}
 use Rattle.heesch_reader.specs.Faults.{begins_next, part_of, MayNotStand}
-use Rattle.heesch_reader.specs.Feeding.{BeginEntry, Stands, IsPrompt, IsShown, Refuses, FallsShort}
+use Rattle.heesch_reader.specs.Feeding.{BeginEntry, Stands, IsPrompt, IsShown, Refuses, RunsOut, FallsShort}
 
 -- the number of shapes so far
 abbrev pub shapes_of : Progress → ℕ
@@ -122,7 +122,7 @@ pub record Faults (s : Scan) (line : ℕ) (part : Part) : Type 0 where
 abbrev pub EndsOrFaults : Scan → Scan → List Item → List Item → Result (Unit {0}) Stop → Type 0
 EndsOrFaults s t before after (Ok _) = Ends s t before after
 EndsOrFaults s t before after (Err (stops.NotText line part)) = Faults s line part × (after ≡ before)
-EndsOrFaults s t before after (Err stops.NoMemory) = Unit {0}
+EndsOrFaults s t before after (Err stops.NoMemory) = after ≡ before
 
 -- the answer where the line at hand is at fault
 abbrev pub IsFaultOf : Scan → Result (Unit {0}) Stop → Type 0
@@ -166,7 +166,7 @@ pub record FaultsLine (s : Scan) (before after : List Item) (line : ℕ) (part :
 abbrev pub TakesByte : Scan → Scan → List Item → List Item → ℕ → Result (Unit {0}) Stop → Type 0
 TakesByte s t before after byte (Ok _) = MatchBool (byte == 10) (EndsLine s t before after) (Pushes s t byte × (after ≡ before))
 TakesByte s t before after byte (Err (stops.NotText line part)) = (byte ≡ 10) × FaultsLine s before after line part
-TakesByte s t before after byte (Err stops.NoMemory) = Unit {0}
+TakesByte s t before after byte (Err stops.NoMemory) = (after ≡ before) ⊎ ((middle : Scan) × Settles (shows_whole s) s middle before after)
 
 -- ---- many bytes
 
@@ -183,7 +183,7 @@ pub record Reaches (first : Appended) (t : Scan) (before after : List Item) (byt
 abbrev pub ReachesOrRefused : Scan → Scan → List Item → List Item → List ℕ → Result (Unit {0}) Stop → Type 0
 ReachesOrRefused first t before after bytes (Ok _) = Reaches first.appended t before after bytes
 ReachesOrRefused first t before after bytes (Err (stops.NotText line part)) = Refuses first.appended before after bytes line part
-ReachesOrRefused first t before after bytes (Err stops.NoMemory) = Unit {0}
+ReachesOrRefused first t before after bytes (Err stops.NoMemory) = RunsOut first.appended before after bytes
 
 -- the bytes end: they are a whole catalogue, and the second scan has nothing left
 pub record Completes (first : Appended) (t : Scan) (before after : List Item) (bytes : List ℕ) : Type 0 where
@@ -199,4 +199,4 @@ pub record Completes (first : Appended) (t : Scan) (before after : List Item) (b
 abbrev pub CompletesOrFallsShort : Scan → Scan → List Item → List Item → Result (Unit {0}) Stop → Type 0
 CompletesOrFallsShort first t before after (Ok _) = Completes first.appended t before after (rest_of first)
 CompletesOrFallsShort first t before after (Err (stops.NotText line part)) = FallsShort first.appended before after (rest_of first) line part
-CompletesOrFallsShort first t before after (Err stops.NoMemory) = Unit {0}
+CompletesOrFallsShort first t before after (Err stops.NoMemory) = after ≡ before

@@ -1,6 +1,6 @@
 //! What holds of the lines of catalogues, each the contract of a function that does nothing.
 ghost use Rattle.heesch_reader.specs.Faults.{StandingTextsHaveNoFault};
-ghost use Rattle.heesch_reader.specs.Feeding.{PiecesLeaveRoom};
+ghost use Rattle.heesch_reader.specs.Feeding.{PiecesLeaveRoom, WholeTextsFallNotShort};
 ghost use Rattle.heesch_reader.specs.Parts.{PartsAreTheFormats};
 
 /// A text whose lines may all stand one behind the other, with bytes behind them that have no newline, has no line at
@@ -18,4 +18,10 @@ pub fn parts_are_the_formats()
 /// fed meets the condition of `feed`.
 pub fn pieces_leave_room()
     ensures { PiecesLeaveRoom }
+{}
+
+/// The two answers of `finish` exclude each other: bytes that are a whole catalogue don't fall short of one. So Ok comes
+/// exactly where they are one.
+pub fn whole_texts_fall_not_short()
+    ensures { WholeTextsFallNotShort }
 {}

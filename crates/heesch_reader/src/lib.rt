@@ -11,6 +11,6 @@ mod scanning;
 mod tests;
 
 pub use item::{Item, Part, Stop};
-pub use progress::Progress;
+pub use progress::{AtHand, Progress};
 pub use reader::Reader;
 pub use scan::Appended;

@@ -107,6 +107,17 @@ fn part_after(shapes: u32, line: &[u8]) -> Part
     Part::Entry
 }
 
+/// How the line at hand begins, the one whose newline wasn't read.
+#[derive(Clone, Copy, Debug, PartialEq, Eq)]
+pub enum AtHand {
+    /// Not with `end ` and the space.
+    Other,
+    /// With that, and no line of an entry is at hand.
+    Next,
+    /// With that, behind lines of an entry.
+    Inside,
+}
+
 /// Whether the bytes show that the next line is that of a shape, or the last line.
 pub fn begins_next(line: &[u8]) -> bool
     ensures { result ≡ begins_next line.now }

@@ -1,12 +1,13 @@
 //! A reader that takes a catalogue in pieces.
 ghost use Rattle.std.specs.Prelude.{◌≡◌, ◌+◌, ◌<◌, ◌^◌, [], length, None};
 ghost use Rattle.heesch_reader.specs.Items.{none_appended};
+ghost use Rattle.heesch_reader.specs.Endings.{TellsEnding};
 ghost use Rattle.heesch_reader.specs.Feeding.{FeedResult, FinishResult};
 
 use crate::item::{Item, Stop};
-use crate::progress::Progress;
+use crate::progress::{AtHand, Progress};
 use crate::scan::{Appended, Scan};
-use crate::scanning::{take_bytes, take_end};
+use crate::scanning::{at_hand, take_bytes, take_end};
 use heesch_io::Seq;
 use std::alloc::Global;
 use std::collections::VecDeque;
@@ -60,7 +61,8 @@ impl Reader {
     ///
     /// `NotText` comes exactly where the lines whose newline was fed so far begin no catalogue, with the least line up to
     /// which they begin none and its part; the items that are whole before it are appended. `NoMemory` may come whenever
-    /// memory is refused. After either the reader answers the same for good. Condition: the number of lines appended, the
+    /// memory is refused; the first of the items that are whole by now may be appended then. After either the reader
+    /// answers the same for good. Condition: the number of lines appended, the
     /// length of the rest and that of the piece sum to less than 2^64. Each byte is looked at once.
     pub fn feed(&mut self, piece: &[u8], items: &mut Seq<Item>) -> Result<(), Stop>
         requires room { self.old.appended.lines + length self.old.rest + length piece.now < 2 ^ 64 }
@@ -78,8 +80,8 @@ impl Reader {
 
     /// Takes the end of the bytes: Ok exactly where the bytes fed are a whole catalogue, and then the items of all are
     /// appended. Else `NotText` with the first line that can't stand, which is a last line without its newline, or the line
-    /// behind the last where no end was read. `NoMemory` may come whenever memory is refused. After either the reader
-    /// answers the same for good.
+    /// behind the last where no end was read. `NoMemory` may come whenever memory is refused, and then nothing is appended.
+    /// After either the reader answers the same for good.
     pub fn finish(&mut self, items: &mut Seq<Item>) -> Result<(), Stop>
         ensures { FinishResult self.old self.new items.old items.new result }
     {
@@ -89,5 +91,11 @@ impl Reader {
         let result = take_end(&mut self.scan, items);
         self.refusal = result.err();
         result
+    }
+    /// Whether the line at hand begins as the last line of a catalogue does. It takes no memory.
+    pub fn at_hand(&self) -> AtHand
+        ensures { TellsEnding self.now result }
+    {
+        at_hand(&self.scan)
     }
 }

@@ -1,10 +1,11 @@
 //! What bytes do to a scan.
-ghost use Rattle.std.specs.Prelude.{◌≡◌, ◌≢◌, ℕ, ◌+◌, ◌<◌, ◌^◌, ◌++◌, ◌∷◌, [], length, true, false, IfOk, OnOk};
+ghost use Rattle.std.specs.Prelude.{◌≡◌, ◌≢◌, ℕ, ◌+◌, ◌<◌, ◌^◌, ◌++◌, ◌∷◌, [], length, true, false, IfOk, OnOk, OnErr};
 ghost use Rattle.heesch_line.specs.Forms.{IsLine};
 ghost use Rattle.heesch_text.specs.Lines.{words_of};
 ghost use Rattle.heesch_grammar.specs.Entries.{AreEntryLines};
 ghost use Rattle.heesch_reader.specs.Progress.{next, may_end};
 ghost use Rattle.heesch_reader.specs.Items.{item_lines, IsItemAt};
+ghost use Rattle.heesch_reader.specs.Endings.{ending_of};
 ghost use Rattle.heesch_reader.specs.Faults.{begins_next};
 ghost use Rattle.heesch_reader.specs.Scanning.{
   IsScan,
@@ -25,7 +26,7 @@ ghost use Rattle.heesch_reader.specs.Scanning.{
 };
 
 use crate::item::{Item, Stop};
-use crate::progress::{Progress, begins_next};
+use crate::progress::{AtHand, Progress, begins_next};
 use crate::scan::Scan;
 use heesch_grammar::{brief_of, entry_of};
 use heesch_io::{NoMemory, Seq};
@@ -73,7 +74,8 @@ fn give_entry(scan: &mut Scan, items: &mut Seq<Item>) -> Result<(), NoMemory>
     requires is { IsScan scan.old }
     requires some { scan.old.lines.items ≢ [] }
     requires whole { may_end scan.old.progress ≡ true }
-    ensures { OnOk result (GivesEntry scan.old scan.new items.old items.new) }
+    ensures ok { OnOk result (GivesEntry scan.old scan.new items.old items.new) }
+    ensures err { OnErr result (items.new ≡ items.old) }
 {
     let Progress::Behind { brief, spot } = scan.progress else {
         unreachable!();
@@ -92,7 +94,8 @@ fn give_entry(scan: &mut Scan, items: &mut Seq<Item>) -> Result<(), NoMemory>
 /// Appends the entry at hand where the line at hand shows that it is whole.
 pub fn settle(scan: &mut Scan, items: &mut Seq<Item>) -> Result<(), NoMemory>
     requires is { IsScan scan.old }
-    ensures { OnOk result (Settles (shows_whole scan.old) scan.old scan.new items.old items.new) }
+    ensures ok { OnOk result (Settles (shows_whole scan.old) scan.old scan.new items.old items.new) }
+    ensures err { OnErr result (items.new ≡ items.old) }
 {
     if !shows_whole(scan) {
         return Ok(());
@@ -103,7 +106,8 @@ pub fn settle(scan: &mut Scan, items: &mut Seq<Item>) -> Result<(), NoMemory>
 /// Appends the entry at hand where the bytes end behind it, or the line at hand shows that it is whole.
 pub fn settle_at_end(scan: &mut Scan, items: &mut Seq<Item>) -> Result<(), NoMemory>
     requires is { IsScan scan.old }
-    ensures { OnOk result (Settles (shows_whole_at_end scan.old) scan.old scan.new items.old items.new) }
+    ensures ok { OnOk result (Settles (shows_whole_at_end scan.old) scan.old scan.new items.old items.new) }
+    ensures err { OnErr result (items.new ≡ items.old) }
 {
     if !shows_whole_at_end(scan) {
         return Ok(());
@@ -150,7 +154,8 @@ fn advance(
     items: &mut Seq<Item>,
 ) -> Result<(), NoMemory>
     requires { scan.old.appended.lines + length scan.old.lines.items + 1 < 2 ^ 64 }
-    ensures { OnOk result (Advances scan.old scan.new items.old items.new line reached) }
+    ensures ok { OnOk result (Advances scan.old scan.new items.old items.new line reached) }
+    ensures err { OnErr result (items.new ≡ items.old) }
 {
     scan.progress = reached;
     scan.line.clear();
@@ -234,4 +239,17 @@ pub fn take_end(scan: &mut Scan, items: &mut Seq<Item>) -> Result<(), Stop>
     let part = scan.progress.part_of(scan.line.as_slice());
     let line = line_number(scan);
     Err(Stop::NotText { line, part })
+}
+
+/// How the line at hand begins.
+pub fn at_hand(scan: &Scan) -> AtHand
+    ensures { result ≡ ending_of scan.now.lines.items scan.now.line.items }
+{
+    if !scan.line.as_slice().starts_with(b"end ") {
+        return AtHand::Other;
+    }
+    if scan.lines.is_empty() {
+        return AtHand::Next;
+    }
+    AtHand::Inside
 }

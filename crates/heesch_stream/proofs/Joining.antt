@@ -15,7 +15,7 @@ use Rattle.heesch_reader.specs.Progress.{Lead, next}
 use Rattle.heesch_reader.specs.Items.{Kept, lines_of, with_items, none_appended, progress_of}
 use Rattle.heesch_reader.specs.Faults.{begins, begins_next, part_of, MayNotStand, FaultsAt}
 use Rattle.heesch_reader.specs.Feeding.{IsBehindEntry, Stands, Takes, Refuses, Finishes, FallsShort, IsPrompt, IsPromptAtEnd, IsShown, IsShownAtEnd}
-use Rattle.heesch_reader.proofs.Walking.{same_next, same_part, outer_words, shows_more}
+use Rattle.heesch_reader.proofs.Walking.{same_next, same_part, outer_words}
 use Rattle.heesch_reader.proofs.Following.{with_items_append, lines_counted, lines_append}
 use Rattle.heesch_reader.proofs.Pieces.{joins}
 use Rattle.heesch_stream.specs.Input.{IsWholeCatalogue}
@@ -98,18 +98,18 @@ refused_behind p r a words b e n m line form w =
 part_behind_entry : (p r : Progress) (a : Appended) (bytes : List ℕ) → IsBehindEntry p a → progress_of a ≡ r → part_of r bytes ≡ part_of p bytes
 part_behind_entry p r a bytes b e = ap (λ (x : Progress). part_of x bytes) (sym e ∙ sym b.between) ∙ sym (same_part p bytes b.whole)
 
--- the bytes behind a fault don't matter
+-- the same fault next to where a reader is that went on behind the items of the first piece
 pub record FaultsOn (reached : Progress) (left : List ℕ) (part : Part) (words : List ℕ) : Type 0 where
   pub fault : FaultsAt reached left part
   pub words_are : fault.words ≡ words
 
-fault_same : (r reached : Progress) (left unread : List ℕ) (part : Part) (f : FaultsAt r left part) → MayNotStand reached f.words → part_of r (f.words ++ 10 ∷ []) ≡ part_of reached (f.words ++ 10 ∷ [])
-    → FaultsOn reached (left ++ unread) part f.words
-fault_same r reached left unread part f m e = record {
+fault_same : (r reached : Progress) (left : List ℕ) (part : Part) (f : FaultsAt r left part) → MayNotStand reached f.words → part_of r (f.words ++ 10 ∷ []) ≡ part_of reached (f.words ++ 10 ∷ [])
+    → FaultsOn reached left part f.words
+fault_same r reached left part f m e = record {
   fault = record {
     words = f.words;
-    back = f.back ++ unread;
-    split = ap (λ (x : List ℕ). x ++ unread) f.split ∙ append_assoc f.words (10 ∷ f.back) unread;
+    back = f.back;
+    split = f.split;
     one_line = f.one_line;
     may_not = m;
     part_is = f.part_is ∙ e;
@@ -117,47 +117,39 @@ fault_same r reached left unread part f m e = record {
   words_are = refl;
 }
 
-fault_on : (r reached : Progress) (a : Appended) (more : List Item) (held : List Line) (left unread : List ℕ) (part : Part) → (f : FaultsAt r left part)
+fault_on : (r reached : Progress) (a : Appended) (more : List Item) (held : List Line) (left : List ℕ) (part : Part) → (f : FaultsAt r left part)
     → IsShown (with_items a more) (text_of held ++ left) → (reached ≡ r) ⊎ ((lines_of more ++ held ≡ []) × IsBehindEntry reached a × (progress_of a ≡ r))
-    → FaultsOn reached (left ++ unread) part f.words
-fault_on r reached a more held left unread part f s (inl e) =
-    fault_same r reached left unread part f (subst (λ (x : Progress). MayNotStand x f.words) (sym e) f.may_not) (ap (λ (x : Progress). part_of x (f.words ++ 10 ∷ [])) (sym e))
-fault_on r reached a more held left unread part f s (inr n) =
+    → FaultsOn reached left part f.words
+fault_on r reached a more held left part f s (inl e) =
+    fault_same r reached left part f (subst (λ (x : Progress). MayNotStand x f.words) (sym e) f.may_not) (ap (λ (x : Progress). part_of x (f.words ++ 10 ∷ [])) (sym e))
+fault_on r reached a more held left part f s (inr n) =
     let none = no_items more (nil_front (lines_of more) held n.0) in
     let no_lines = nil_back (lines_of more) held n.0 in
     let here : IsShown a left = subst (λ (x : List Line). IsShown a (text_of x ++ left)) no_lines (subst (λ (x : List Item). IsShown (with_items a x) (text_of held ++ left)) none s) in
     let next_begins : begins_next (f.words ++ 10 ∷ f.back) ≡ true = subst (λ (x : List ℕ). begins_next x ≡ true) f.split (here n.1.some n.1.unended) in
-    fault_same r reached left unread part f (refused_behind reached r a f.words n.1 n.2 (cut_next f.words f.back next_begins) f.may_not) (part_behind_entry reached r a (f.words ++ 10 ∷ []) n.1 n.2)
+    fault_same r reached left part f (refused_behind reached r a f.words n.1 n.2 (cut_next f.words f.back next_begins) f.may_not) (part_behind_entry reached r a (f.words ++ 10 ∷ []) n.1 n.2)
 
 number_on : (found more : List Item) (held : List Line) (line : ℕ) → line ≡ (with_items none_appended found).lines + length (lines_of more ++ held) + 1 → line ≡ 0 + length (lines_of (found ++ more) ++ held) + 1
 number_on found more held line e =
     omega (arith, e, lines_counted none_appended found, ap length (lines_append found more), length-append (lines_of (found ++ more)) held, length-append (lines_of found) (lines_of more), length-append (lines_of more) held)
 
-pub refuses_on : (bytes piece unread : List ℕ) (found : List Item) (b : Begins bytes found) (old : Kept) (items after : List Item) (line : ℕ) (part : Part) → old ≡ kept_behind bytes found b
-    → (t : Refuses old.appended items after (old.rest ++ piece) line part) → Refuses none_appended [] (found ++ t.found) ((bytes ++ piece) ++ unread) line part
-refuses_on bytes piece unread found b old items after line part e t =
+pub refuses_on : (bytes piece : List ℕ) (found : List Item) (b : Begins bytes found) (old : Kept) (items after : List Item) (line : ℕ) (part : Part) → old ≡ kept_behind bytes found b
+    → (t : Refuses old.appended items after (old.rest ++ piece) line part) → Refuses none_appended [] (found ++ t.found) (bytes ++ piece) line part
+refuses_on bytes piece found b old items after line part e t =
     let j = joins none_appended bytes piece found t.found b.held t.held b.left t.left b.reached t.reached b.stands (subst (λ (k : Kept). Stands k.appended (k.rest ++ piece) t.found t.held t.left t.reached) e t.stands) in
     let a = with_items none_appended found in
     let app = with_items_append none_appended found t.found in
     let shown : IsShown (with_items a t.found) (text_of t.held ++ t.left) = subst (λ (k : Kept). IsShown (with_items k.appended t.found) (text_of t.held ++ t.left)) e t.shown in
-    let f = fault_on t.reached j.reached a t.found t.held t.left unread part t.fault shown j.alike in
-    let s = j.stands in
-    let seen : IsShown (with_items none_appended (found ++ t.found)) ((text_of t.held ++ t.left) ++ unread) = λ some unended. shows_more (text_of t.held ++ t.left) unread (subst (λ (x : Appended). IsShown x (text_of t.held ++ t.left)) (sym app) shown some unended) in
+    let f = fault_on t.reached j.reached a t.found t.held t.left part t.fault shown j.alike in
     record {
       found = found ++ t.found;
       held = t.held;
-      left = t.left ++ unread;
+      left = t.left;
       reached = j.reached;
-      stands = record {
-        text = ap (λ (x : List ℕ). x ++ unread) s.text ∙ append_assoc (text_of (lines_of (found ++ t.found) ++ t.held)) t.left unread;
-        lead = s.lead;
-        numbered = s.numbered;
-        one_entry = s.one_entry;
-        items_lead = s.items_lead;
-      };
+      stands = j.stands;
       fault = f.fault;
       prompt = subst (λ (x : List ℕ). IsPrompt t.held x j.reached) (sym f.words_are) (prompt_on t.held t.fault.words t.reached j.reached t.found a t.prompt j.alike);
-      shown = subst (λ (x : List ℕ). IsShown (with_items none_appended (found ++ t.found)) x) (append_assoc (text_of t.held) t.left unread) seen;
+      shown = subst (λ (x : Appended). IsShown x (text_of t.held ++ t.left)) (sym app) shown;
       line_is = number_on found t.found t.held line (subst (λ (k : Kept). line ≡ k.appended.lines + length (lines_of t.found ++ t.held) + 1) e t.line_is);
       after_is = refl;
     }

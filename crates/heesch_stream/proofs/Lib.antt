@@ -1,2 +1,2 @@
 mod Joining
-mod Reading
+pub mod Reading

@@ -25,7 +25,7 @@ use Rattle.heesch_stream.proofs.Joining.{takes_on, refuses_on, falls_short_on, f
 -- ---- known bytes
 
 -- known bytes lose what two reads give
-consumes_both : (old between new : Option (List ℕ)) (xs ys : List ℕ) → Consumes old between xs → Consumes between new ys → Consumes old new (xs ++ ys)
+pub consumes_both : (old between new : Option (List ℕ)) (xs ys : List ℕ) → Consumes old between xs → Consumes between new ys → Consumes old new (xs ++ ys)
 consumes_both None between new xs ys first second = tt
 consumes_both (Some all) None new xs ys first second = absurd first
 consumes_both (Some all) (Some rest) None xs ys first second = absurd second
@@ -111,8 +111,8 @@ took_piece old new items after piece before now t count most line some c = recor
 }
 
 pub refused_piece : (old : Streamed) (new : Kept) (items after : List Item) (piece : List ℕ) (line : ℕ) (part : Part) (before now : Option (List ℕ)) → old.kept.refusal ≡ None
-    → FeedResult old.kept new items after piece (Err (reader_stops.NotText line part)) → Consumes before now piece → TellsFault before old items after line part
-refused_piece old new items after piece line part before now e f c =
+    → FeedResult old.kept new items after piece (Err (reader_stops.NotText line part)) → Consumes before now piece → old.count + length piece ≤ 1099511627776 → TellsFault before old items after line part
+refused_piece old new items after piece line part before now e f c few =
     let t = (none_again old.kept.refusal old.kept new items after (old.kept.rest ++ piece) (Err (reader_stops.NotText line part)) e f).0 in
     record {
       more = t.found;
@@ -121,7 +121,11 @@ refused_piece old new items after piece line part before now e f c =
           record {
             input = (h.bytes ++ piece) ++ unread now;
             all_of = all_of_both first before now h.bytes piece h.consumed c;
-            fault = inl (refuses_on h.bytes piece (unread now) found h.begins old.kept items after line part h.kept_is t);
+            front = h.bytes ++ piece;
+            behind = unread now;
+            split = refl;
+            few = omega (arith, few, h.count_is, length-append h.bytes piece);
+            fault = inl (refuses_on h.bytes piece found h.begins old.kept items after line part h.kept_is t);
           };
     }
 
@@ -140,6 +144,7 @@ took_end old new items after u before e f end =
           record {
             input = h.bytes ++ [];
             all_of = all_at_end first before h.bytes h.consumed end;
+            few = omega (arith, h.at_most, length-append h.bytes []);
             catalogue = finishes_on h.bytes found h.begins old.kept new items after h.kept_is t;
           };
     }
@@ -155,7 +160,11 @@ fell_short old new items after line part before e f end =
           record {
             input = h.bytes ++ [];
             all_of = all_at_end first before h.bytes h.consumed end;
-            fault = inr (falls_short_on h.bytes found h.begins old.kept items after line part h.kept_is t);
+            front = h.bytes ++ [];
+            behind = [];
+            split = sym (append-nil (h.bytes ++ []));
+            few = omega (arith, h.at_most, length-append h.bytes []);
+            fault = inr (falls_short_on h.bytes found h.begins old.kept items after line part h.kept_is t, refl);
           };
     }
 
@@ -194,9 +203,9 @@ feed_stops before now failed fails old new items after piece stops.Failed f c = 
 feed_stops before now failed fails old new items after piece stops.NoMemory f c = tt
 
 -- the reader's refusal of a piece, as the stream tells it
-pub feed_refuses : (old new : Streamed) (items after : List Item) (piece : List ℕ) (stop : Stop) → old.kept.refusal ≡ None → FeedResult old.kept new.kept items after piece (Err stop) → FeedsPiece old new items after piece (Err (stop_of stop))
-feed_refuses old new items after piece (reader_stops.NotText line part) e f = λ before now c. refused_piece old new.kept items after piece line part before now e f c
-feed_refuses old new items after piece reader_stops.NoMemory e f = tt
+pub feed_refuses : (old new : Streamed) (items after : List Item) (piece : List ℕ) (stop : Stop) → old.kept.refusal ≡ None → FeedResult old.kept new.kept items after piece (Err stop) → old.count + length piece ≤ 1099511627776 → FeedsPiece old new items after piece (Err (stop_of stop))
+feed_refuses old new items after piece (reader_stops.NotText line part) e f few = λ before now c. refused_piece old new.kept items after piece line part before now e f c few
+feed_refuses old new items after piece reader_stops.NoMemory e f few = tt
 
 -- and of the end
 pub finish_refuses : (old : Streamed) (new : Kept) (items after : List Item) (stop : Stop) → old.kept.refusal ≡ None → FinishResult old.kept new items after (Err stop) → FinishesAll old items after (Err (stop_of stop))
@@ -204,21 +213,23 @@ finish_refuses old new items after (reader_stops.NotText line part) e f = λ bef
 finish_refuses old new items after reader_stops.NoMemory e f = tt
 
 -- one byte more than may be read
-pub too_long : (before now : Option (List ℕ)) (old : Streamed) (items : List Item) (byte : ℕ) → Consumes before now (byte ∷ []) → old.count ≡ 1099511627776 → TellsTooLong before old items items old.line
-too_long before now old items byte c count = record {
+pub too_long : (before now : Option (List ℕ)) (old new : Streamed) (items : List Item) (byte : ℕ) → new.kept ≡ old.kept → Consumes before now (byte ∷ []) → old.count ≡ 1099511627776 → TellsTooLong before old new items items old.line
+too_long before now old new items byte same c count = record {
   after_is = refl;
-  too_many = λ first found h.
-      record {
-        input = (h.bytes ++ byte ∷ []) ++ unread now;
-        all_of = all_of_both first before now h.bytes (byte ∷ []) h.consumed c;
-        front = h.bytes;
-        byte = byte;
-        behind = unread now;
-        split = append_assoc h.bytes (byte ∷ []) (unread now);
-        most = sym h.count_is ∙ count;
-        begins = h.begins;
-        line_is = h.line_is;
-      };
+  too_many = λ first found h. (
+    record {
+      input = (h.bytes ++ byte ∷ []) ++ unread now;
+      all_of = all_of_both first before now h.bytes (byte ∷ []) h.consumed c;
+      front = h.bytes;
+      byte = byte;
+      behind = unread now;
+      split = append_assoc h.bytes (byte ∷ []) (unread now);
+      most = sym h.count_is ∙ count;
+      begins = h.begins;
+      line_is = h.line_is;
+    },
+    same ∙ h.kept_is,
+  );
 }
 
 -- ---- the room that a reader has
@@ -253,11 +264,11 @@ finished_room old new items after u count e f room =
 -- a refusal is kept
 pub fed_refusal : (old new : Kept) (items after : List Item) (piece : List ℕ) (stop : Stop) → old.refusal ≡ None → FeedResult old new items after piece (Err stop) → new.refusal ≡ Some stop
 fed_refusal old new items after piece (reader_stops.NotText line part) e f = (none_again old.refusal old new items after (old.rest ++ piece) (Err (reader_stops.NotText line part)) e f).1
-fed_refusal old new items after piece reader_stops.NoMemory e f = none_again old.refusal old new items after (old.rest ++ piece) (Err reader_stops.NoMemory) e f
+fed_refusal old new items after piece reader_stops.NoMemory e f = (none_again old.refusal old new items after (old.rest ++ piece) (Err reader_stops.NoMemory) e f).1
 
 pub finished_refusal : (old new : Kept) (items after : List Item) (stop : Stop) → old.refusal ≡ None → FinishResult old new items after (Err stop) → new.refusal ≡ Some stop
 finished_refusal old new items after (reader_stops.NotText line part) e f = (finish_again old.refusal old new items after old.rest (Err (reader_stops.NotText line part)) e f).1
-finished_refusal old new items after reader_stops.NoMemory e f = finish_again old.refusal old new items after old.rest (Err reader_stops.NoMemory) e f
+finished_refusal old new items after reader_stops.NoMemory e f = (finish_again old.refusal old new items after old.rest (Err reader_stops.NoMemory) e f).1
 
 -- one byte was read into room for one
 pub one_byte : (before now : Option (List ℕ)) (count : ℕ) (room : List ℕ) → length room ≡ 1 → count ≤ 1 → 0 < count → Consumes before now (take count room) → (byte : ℕ) × Consumes before now (byte ∷ [])

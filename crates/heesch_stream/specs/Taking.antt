@@ -21,6 +21,10 @@ use Rattle.heesch_stream.specs.Input.{IsAllOf, newlines, IsWholeCatalogue}
 abbrev pub input_max : ℕ
 input_max = 1099511627776
 
+-- the most bytes of one read
+abbrev pub piece_max : ℕ
+piece_max = 4096
+
 -- what a stream is known by: what its reader keeps, the number of bytes that were read, and the line that the next byte is on
 pub record Streamed : Type 0 where
   pub kept : Kept
@@ -71,10 +75,11 @@ pub record TakesPiece (before now : Option (List ℕ)) (old new : Streamed) (ite
   pub grows : old.count < new.count
   pub has_read : (first : Option (List ℕ)) (found : List Item) → HasRead first before found old → HasRead first now (found ++ more) new
 
--- the whole input is a whole catalogue with these items
+-- the whole input, no longer than is read, is a whole catalogue with these items
 pub record IsCatalogue (first : Option (List ℕ)) (all : List Item) : Type 0 where
   pub input : List ℕ
   pub all_of : IsAllOf first input
+  pub few : length input ≤ input_max
   pub catalogue : IsWholeCatalogue input all
 
 -- the input ended, and is a whole catalogue
@@ -83,11 +88,16 @@ pub record TakesEnd (before : Option (List ℕ)) (old : Streamed) (items after :
   pub after_is : after ≡ items ++ more
   pub catalogue : (first : Option (List ℕ)) (found : List Item) → HasRead first before found old → IsCatalogue first (found ++ more)
 
--- this line of the whole input is the first that can't stand in a catalogue, and these items are whole before it
+-- this line is the first that can't stand in a catalogue, and these items are whole before it; the bytes at the front of the input
+-- show it, as many as are read, or all of them
 pub record HasFault (first : Option (List ℕ)) (all : List Item) (line : ℕ) (part : Part) : Type 0 where
   pub input : List ℕ
   pub all_of : IsAllOf first input
-  pub fault : Refuses none_appended [] all input line part ⊎ FallsShort none_appended [] all input line part
+  pub front : List ℕ
+  pub behind : List ℕ
+  pub split : input ≡ front ++ behind
+  pub few : length front ≤ input_max
+  pub fault : Refuses none_appended [] all front line part ⊎ (FallsShort none_appended [] all front line part × (behind ≡ []))
 
 -- the input is no catalogue from this line on, and the items that are whole before it were appended
 pub record TellsFault (before : Option (List ℕ)) (old : Streamed) (items after : List Item) (line : ℕ) (part : Part) : Type 0 where
@@ -107,19 +117,23 @@ pub record HasTooMany (first : Option (List ℕ)) (all : List Item) (line : ℕ)
   pub begins : Begins front all
   pub line_is : line ≡ newlines front + 1
 
--- the input is too long, and nothing was appended
-pub record TellsTooLong (before : Option (List ℕ)) (old : Streamed) (items after : List Item) (line : ℕ) : Type 0 where
+-- the input is too long, nothing was appended, and the stream keeps what it did
+pub record TellsTooLong (before : Option (List ℕ)) (old new : Streamed) (items after : List Item) (line : ℕ) : Type 0 where
   pub after_is : after ≡ items
-  pub too_many : (first : Option (List ℕ)) (found : List Item) → HasRead first before found old → HasTooMany first found line
+  pub too_many : (first : Option (List ℕ)) (found : List Item) → HasRead first before found old → (t : HasTooMany first found line) × (new.kept ≡ kept_behind t.front found t.begins)
 
 -- the answer to one step, by what the source had left and has, and how often it had failed and has
 abbrev pub TakeResult : (before now : Option (List ℕ)) (failed fails : ℕ) (old new : Streamed) (items after : List Item) → Result Taken StreamStop → Type 0
 TakeResult before now failed fails old new items after (Ok takens.Piece) = TakesPiece before now old new items after
 TakeResult before now failed fails old new items after (Ok takens.End) = TakesEnd before old items after
 TakeResult before now failed fails old new items after (Err (stops.NotText line part)) = TellsFault before old items after line part
-TakeResult before now failed fails old new items after (Err (stops.TooLong line)) = TellsTooLong before old items after line
+TakeResult before now failed fails old new items after (Err (stops.TooLong line)) = TellsTooLong before old new items after line
 TakeResult before now failed fails old new items after (Err stops.Failed) = Rose failed fails
 TakeResult before now failed fails old new items after (Err stops.NoMemory) = ⊤
+
+-- a step consumes one piece
+abbrev pub TakesOnePiece : (before now : Option (List ℕ)) → Type 0
+TakesOnePiece before now = (piece : List ℕ) × Consumes before now piece × (length piece ≤ piece_max)
 
 -- ---- the steps inside
 

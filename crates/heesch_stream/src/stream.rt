@@ -1,11 +1,13 @@
 //! A stream of the items of a catalogue.
-ghost use Rattle.std.specs.Prelude.{◌≡◌, ℕ, ◌+◌, ◌≤◌, List, [], length, None, Option};
-ghost use Rattle.heesch_stream.specs.Taking.{HasRead, TakeResult, FeedsPiece, FinishesAll};
+ghost use Rattle.std.specs.Prelude.{◌≡◌, ℕ, ◌+◌, ◌≤◌, List, [], length, None, Option, Ok};
+ghost use Rattle.std.specs.Io.KnownBytes.{IsAtEnd};
+ghost use Rattle.heesch_reader.specs.Endings.{TellsEnding};
+ghost use Rattle.heesch_stream.specs.Taking.{HasRead, TakeResult, TakesOnePiece, FeedsPiece, FinishesAll};
 
 use crate::answers::{StreamStop, Taken};
 use crate::newlines::newlines;
 use heesch_io::{Seq, Source};
-use heesch_reader::{Item, Reader, Stop};
+use heesch_reader::{AtHand, Item, Reader, Stop};
 use std::alloc::Global;
 use std::marker::Model;
 
@@ -54,13 +56,16 @@ impl Stream {
     /// `End` comes where the bytes ended and are a whole catalogue. Errors: `NotText` with the first line that can't stand in
     /// a catalogue; the items that are whole before it are appended. `TooLong` where the first `INPUT_MAX` bytes begin a
     /// catalogue and one more byte follows. `Failed` only where the source's count of faults rose. `NoMemory` where memory was
-    /// refused. After an error nothing is promised of another call. Each byte is looked at twice.
+    /// refused. After an error nothing is promised of another call,
+    /// but that behind `TooLong` the stream keeps what it did. Each byte is looked at twice.
     pub fn take<R: Source>(
         &mut self,
         source: &mut R,
         items: &mut Seq<Item>,
     ) -> Result<Taken, StreamStop>
         ensures taken { TakeResult (R.left source.old) (R.left source.new) (R.faults source.old) (R.faults source.new) self.old self.new items.old items.new result }
+        ensures consumed { TakesOnePiece (R.left source.old) (R.left source.new) }
+        ensures ended { result ≡ Ok Taken.End → IsAtEnd (R.left source.new) }
         ensures later { R.faults source.old ≤ R.faults source.new }
     {
         if let Some(stop) = self.refusal {
@@ -79,6 +84,13 @@ impl Stream {
         Ok(Taken::Piece)
     }
 
+    /// Whether the line that the next byte is on begins as the last line of a catalogue does. It takes no memory.
+    pub fn at_hand(&self) -> AtHand
+        ensures { TellsEnding self.now.kept result }
+    {
+        self.reader.at_hand()
+    }
+
     /// The end of the input where as many bytes as may be were read.
     fn take_last<R: Source>(
         &mut self,
@@ -88,6 +100,8 @@ impl Stream {
         requires going { self.old.kept.refusal ≡ None }
         requires all { self.old.count ≡ INPUT_MAX }
         ensures taken { TakeResult (R.left source.old) (R.left source.new) (R.faults source.old) (R.faults source.new) self.old self.new items.old items.new result }
+        ensures consumed { TakesOnePiece (R.left source.old) (R.left source.new) }
+        ensures ended { result ≡ Ok Taken.End → IsAtEnd (R.left source.new) }
         ensures later { R.faults source.old ≤ R.faults source.new }
     {
         let mut byte = [0; 1];

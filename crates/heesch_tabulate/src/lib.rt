@@ -3,6 +3,7 @@
 
 mod answers;
 mod counting;
+pub mod laws;
 mod table;
 mod tabulation;
 #[cfg(test)]

@@ -9,14 +9,13 @@ use Rattle.std.proofs.lemmas.List.Elements.{filter-append}
 use Rattle.std.proofs.lemmas.List.Folds.{list_any_more}
 use Rattle.std.proofs.lemmas.Grind.{flat_map-append}
 use Rattle.heesch_cnf.specs.declared.literal.Lit.{Lit}
-use Rattle.heesch_cnf.specs.Clauses.{IsClause}
 use Rattle.heesch_grid.specs.declared.Cell.{Cell}
 use Rattle.heesch_grid.specs.Cells.{has, meet}
 use Rattle.heesch_grid.specs.Clauses.{clause_of, no_variable, is_numbered}
 use Rattle.heesch_grid.specs.CoronaFormula.{exclusion_clauses}
 use Rattle.heesch_grid.specs.Geometry.{Geometry}
 use Rattle.heesch_grid.specs.Lattice.{Triple}
-use Rattle.heesch_grid.proofs.ListFacts.{member_cases, member_here, member_there, no_member, All-from_members, filter_member}
+use Rattle.heesch_grid.proofs.ListFacts.{member_here, member_there, filter_member}
 use Rattle.heesch_grid.proofs.ClauseFacts.{entry_at}
 use Rattle.heesch_tiling.specs.Counting.{window_size, in_window}
 use Rattle.heesch_cert.specs.Literals.{literals}

@@ -1,7 +1,7 @@
 -- Covers as masks of tiles: each cover has one of which a tile of its least turn stands at (0, 0), and its masks have each point once.
-use Rattle.std.proofs.Common.{◌≡◌, refl, sym, ap, subst, ◌∙◌, ℕ, zero, suc, ◌+◌, ◌-◌, ◌*◌, ◌%◌, ◌^◌, ◌<◌, ◌≤◌, List, [], ◌∷◌, ◌++◌, map, filter, length, take, get_or, Bool, true, false, cond, ◌⊎◌, inl, inr, arith, bit_or, All, Contains, eq-eqb}
+use Rattle.std.proofs.Common.{◌≡◌, refl, sym, ap, subst, ◌∙◌, ℕ, zero, suc, ◌+◌, ◌*◌, ◌%◌, ◌^◌, ◌<◌, ◌≤◌, List, [], ◌∷◌, ◌++◌, map, length, take, get_or, cond, ◌⊎◌, inl, inr, arith, bit_or, All, Contains}
 use Rattle.std.specs.Prelude.{ℤ, pos, neg_ℤ, ◌+ℤ◌, ◌*ℤ◌, ◌≤ℤ◌, ◌<ℤ◌, ◌==◌, Some, None, nat_lt, unwrap_or}
-use Rattle.std.specs.List.{count_by, slice_get}
+use Rattle.std.specs.List.{slice_get}
 use Rattle.std.specs.Int.{bit_at}
 use Rattle.std.proofs.lemmas.Int.{ints}
 use Rattle.std.proofs.lemmas.Nat.Bits.{bit_at-zero, bit_at-lt}
@@ -11,7 +11,7 @@ use Rattle.std.proofs.lemmas.List.Sums.{sum_by-cons, sum_by_push}
 use Rattle.std.proofs.lemmas.List.Elements.{All-contains}
 use Rattle.heesch_grid.specs.declared.Cell.{Cell}
 use Rattle.heesch_grid.specs.declared.isometries.Iso.{Iso}
-use Rattle.heesch_grid.specs.Listing.{ListsExactly, HoldsOnce}
+use Rattle.heesch_grid.specs.Listing.{HoldsOnce}
 use Rattle.heesch_grid.specs.Geometry.{Geometry, IsGrid, IsCell, IsIsometry, moved, apply, image}
 use Rattle.heesch_grid.specs.Lattice.{Triple, IsTriple, IsReduced, translated}
 use Rattle.heesch_grid.specs.Polyform.{IsPolyform}
@@ -25,11 +25,11 @@ use Rattle.heesch_tiling.proofs.Covers.{covers, covers_once}
 use Rattle.heesch_tiling.proofs.Tallies.{times_append}
 use Rattle.heesch_torus.specs.Formula.{reduced_cells}
 use Rattle.heesch_torus.specs.Beside.{with_bit, FillBeside}
-use Rattle.heesch_torus.specs.Masks.{IsMaskOf, HasDouble, AddsMasks, HasMasksFrom}
-use Rattle.heesch_torus.specs.Covers.{HasAllPoints, AreFewNodes, unmoved, IsTileMask, AreExactMasks, HasNoCoverAt}
-use Rattle.heesch_torus.proofs.Beside.{bit_cases, power_more, index_of}
+use Rattle.heesch_torus.specs.Masks.{IsMaskOf, HasDouble, HasMasksFrom}
+use Rattle.heesch_torus.specs.Covers.{HasAllPoints, unmoved, IsTileMask, AreExactMasks, HasNoCoverAt}
+use Rattle.heesch_torus.proofs.Beside.{bit_cases, index_of}
 use Rattle.heesch_torus.proofs.Numbering.{reduced_listed}
-use Rattle.heesch_torus.proofs.Masking.{one_mask, no_mask, mask_more, mask_double, masks_of_turn}
+use Rattle.heesch_torus.proofs.Masking.{one_mask, no_mask, mask_more, mask_double}
 
 -- ---- bits of one mask more
 
@@ -357,8 +357,8 @@ module _ (g : Geometry) (law : IsGrid g) (shape : List Cell) (form : IsPolyform 
         member = apply g x.0 m.0;
         in_tile = member_map (apply g x.0) shape m.0 m.1;
         is = sym (back da db c)
-        ∙ ap (moved g (neg_ℤ da) (neg_ℤ db)) (h.is ∙ ap (translated g t k.1 k.2) member ∙ translated_moved da db k.1 k.2 (apply g x.0 m.0))
-        ∙ back da db (translated g t k.1 k.2 (apply g x.0 m.0));
+            ∙ ap (moved g (neg_ℤ da) (neg_ℤ db)) (h.is ∙ ap (translated g t k.1 k.2) member ∙ translated_moved da db k.1 k.2 (apply g x.0 m.0))
+            ∙ back da db (translated g t k.1 k.2 (apply g x.0 m.0));
       }
 
   shifted_cover : (da db : ℤ) (places : List Iso) → IsPeriodicCover g shape t places → IsPeriodicCover g shape t (map (shifted da db) places)
@@ -400,51 +400,3 @@ module _ (g : Geometry) (law : IsGrid g) (shape : List Cell) (form : IsPolyform 
     where
       gone : (z : ℤ) → z +ℤ neg_ℤ z ≡ pos 0
       gone z = omega (arith, ints)
-
--- ---- the nodes
-
--- so many were used before, and these are too few for one turn more
-pub few_nodes : (nodes left done turns most n : ℕ) → n ≤ most → done < turns → nodes ≤ left + done * 2 ^ most → left < 2 ^ n → nodes < turns * 2 ^ most
-few_nodes nodes left done turns most n few below used short =
-    let power = power_more n most few in
-    let product : suc done * 2 ^ most ≤ turns * 2 ^ most = times_more (suc done) turns (2 ^ most) below in
-    let next : suc done * 2 ^ most ≡ 2 ^ most + done * 2 ^ most = suc_times done (2 ^ most) in
-    omega arith
-  where
-    times_more : (a b c : ℕ) → a ≤ b → a * c ≤ b * c
-    times_more a b c l = grind arith
-
-    suc_times : (a c : ℕ) → suc a * c ≡ c + a * c
-    suc_times a c = grind arith
-
-pub used_more : (nodes old new done most n : ℕ) → n ≤ most → nodes ≤ old + done * 2 ^ most → old ≤ new + 2 ^ n → nodes ≤ new + (done + 1) * 2 ^ most
-used_more nodes old new done most n few used more =
-    let power = power_more n most few in
-    let next : (done + 1) * 2 ^ most ≡ 2 ^ most + done * 2 ^ most = suc_times done (2 ^ most) in
-    omega arith
-  where
-    suc_times : (a c : ℕ) → (a + 1) * c ≡ c + a * c
-    suc_times a c = grind arith
-
--- one turn more, counted from the last
-pub masks_now : (g : Geometry) → IsGrid g → (shape : List Cell) (t : Triple) → IsTriple t → IsPolyform g shape → (turns done : ℕ) → turns ≡ g.turns → done < turns → (old new masks : List ℕ) → masks ≡ new → HasMasksFrom g shape t (g.turns - done) old → AddsMasks g shape t (turns - 1 - done) (t.p * t.q) old new → HasMasksFrom g shape t (turns - 1 - done) masks
-masks_now g law shape t triple form turns done all less old new masks e have adds =
-    let before : g.turns - done ≡ turns - 1 - done + 1 = omega arith in
-    subst (HasMasksFrom g shape t (turns - 1 - done)) (sym e)
-    (masks_of_turn g shape t law triple (λ d m. All-contains (IsCell g) shape d form.is_set.in_grid m) (turns - 1 - done) old new (omega arith) (subst (λ n. HasMasksFrom g shape t n old) before have) adds)
-
-module _ (g : Geometry) (law : IsGrid g) (shape : List Cell) (form : IsPolyform g shape) (t : Triple) (triple : IsTriple t) (full : ℕ) (points : HasAllPoints g t full) (small : length (reduced_cells g t) ≤ 64) (turns done : ℕ) (all : turns ≡ g.turns) (less : done < turns) where
-  pub next_masks : (masks : List ℕ) → HasMasksFrom g shape t (turns - 1 - done) masks → HasMasksFrom g shape t (g.turns - (done + 1)) masks
-  next_masks masks have = let e : turns - 1 - done ≡ g.turns - (done + 1) = omega arith in subst (λ n. HasMasksFrom g shape t n masks) e have
-
-  pub next_none : (masks : List ℕ) → HasMasksFrom g shape t (turns - 1 - done) masks → ((first : ℕ) → IsMaskOf g shape t (unmoved (turns - 1 - done)) first → (found : List ℕ) → All (Contains masks) found → ¬ FillBeside first full found) → ((turn : ℕ) → g.turns - done ≤ turn → turn < g.turns → HasNoCoverAt g shape t turn) → (turn : ℕ) → g.turns - (done + 1) ≤ turn → turn < g.turns → HasNoCoverAt g shape t turn
-  next_none masks have none before turn low below = elim (cases_order turn (turns - 1 - done)) [
-    | inl e ↦ subst (HasNoCoverAt g shape t) (sym e) (no_cover_at g law shape form t triple (turns - 1 - done) masks full (omega arith) small have points none)
-    | inr o ↦ elim o [ inl early ↦ absurd (omega arith) | inr late ↦ before turn (omega arith) below ]
-  ]
-
-  pub masks_few : (masks : List ℕ) → HasMasksFrom g shape t (turns - 1 - done) masks → length masks ≤ g.turns * (t.p * t.q)
-  masks_few masks have = let few = have.few in let more = times_more (g.turns - (turns - 1 - done)) g.turns (t.p * t.q) (omega arith) in omega arith
-    where
-      times_more : (a b c : ℕ) → a ≤ b → a * c ≤ b * c
-      times_more a b c l = grind arith

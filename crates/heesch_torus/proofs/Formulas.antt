@@ -1,11 +1,11 @@
 -- The torus formula over variables, and how many units a triple has.
-use Rattle.std.proofs.Common.{◌≡◌, sym, subst, ◌∙◌, ℕ, ◌*◌, ◌≤◌, List, length, arith}
+use Rattle.std.proofs.Common.{◌≡◌, sym, subst, ◌∙◌, ℕ, ◌*◌, ◌^◌, ◌≤◌, List, length, arith}
 use Rattle.std.proofs.Math.Nat.{mul-le-mul_right}
 use Rattle.std.proofs.lemmas.List.{length-map}
 use Rattle.std.proofs.lemmas.List.Elements.{All-contains}
 use Rattle.heesch_cnf.specs.declared.literal.Lit.{Lit}
 use Rattle.heesch_cnf.specs.declared.log.Log.{Log}
-use Rattle.heesch_cnf.specs.Lines.{LinesAreNew, Refutes, IsSpent}
+use Rattle.heesch_cnf.specs.Lines.{clauses_with, FinalHolds, LinesAreNew, Refutes, IsSpent}
 use Rattle.heesch_cnf.specs.Meaning.{LearnsAlone}
 use Rattle.heesch_grid.specs.declared.Cell.{Cell}
 use Rattle.heesch_grid.specs.declared.isometries.Iso.{Iso}
@@ -15,11 +15,12 @@ use Rattle.heesch_grid.specs.TorusFormula.{IsReducedFrom, GivesResidues, torus_c
 use Rattle.heesch_grid.proofs.TorusFacts.{satisfiable_where_cover}
 use Rattle.heesch_grid.proofs.ListFacts.{All-from_members}
 use Rattle.heesch_grid.specs.Polyform.{IsPolyform}
+use Rattle.heesch_cdcl.proofs.Counting.{few_lines}
 use Rattle.heesch_cert.specs.Literals.{literals}
-use Rattle.heesch_cert.specs.Proofs.{HasNoGiven, RefutesTorus, IsSpentOnTorus}
+use Rattle.heesch_cert.specs.Proofs.{RefutesTorus}
 use Rattle.heesch_cert.proofs.Bridge.{satisfied_log, log_satisfied}
 use Rattle.heesch_cert.proofs.TorusSound.{refuted_torus_means_no_cover}
-use Rattle.heesch_torus.specs.Answer.{IsRefutation}
+use Rattle.heesch_torus.specs.Answer.{IsRefutation, IsSpentSearch}
 use Rattle.heesch_torus.specs.Domain.{HasDomain}
 use Rattle.heesch_torus.specs.Formula.{reduced_cells, IsFormulaOf, HasModelWhereCover}
 use Rattle.heesch_torus.specs.Variables.{TorusVariable, sets_of, AreVariables, IsReducedSet, AreReducedSets}
@@ -67,10 +68,21 @@ module _ (g : Geometry) (law : IsGrid g) (shape : List Cell) where
         none = refuted_torus_means_no_cover g shape t log law form triple none refutes;
       }
 
-  pub spent_answer : (t : Triple) → IsTriple t → (vars : List TorusVariable) → AreVariables g shape t vars → (count : ℕ) (clauses : List (List Lit)) → count ≡ length vars → clauses ≡ torus_clauses literals (reduced_cells g t) (sets_of vars) → (turns : ℕ) (log : Log) → LearnsAlone log.lines × IsSpent count clauses turns log → HasNoGiven log × IsSpentOnTorus g shape turns t log
+  pub spent_answer : (t : Triple) → IsTriple t → (vars : List TorusVariable) → AreVariables g shape t vars → (count : ℕ) (clauses : List (List Lit)) → count ≡ length vars → clauses ≡ torus_clauses literals (reduced_cells g t) (sets_of vars) → (turns : ℕ) (log : Log) → LearnsAlone log.lines × IsSpent count clauses turns log × ((hints : List ℕ) → ¬ FinalHolds (clauses_with clauses log.lines) hints) → IsSpentSearch g shape t turns log
   spent_answer t triple vars are count clauses e is turns log outcome =
       let f : IsFormulaOf g shape t count clauses = formula_over g law shape t triple vars are count clauses e is in
-      (none_given log outcome.0, record { vars = f.sets; clauses = clauses; is_formula = f.is_formula; is_spent = subst (λ n. IsSpent n clauses turns log) f.count outcome.1 })
+      let spent : IsSpent (length f.sets) clauses turns log = subst (λ n. IsSpent n clauses turns log) f.count outcome.1 in
+      record {
+        alone = none_given log outcome.0;
+        spent = record { vars = f.sets; clauses = clauses; is_formula = f.is_formula; is_spent = spent };
+        unfinished = record {
+          sets = f.sets;
+          clauses = clauses;
+          is_formula = f.is_formula;
+          no_final = outcome.2;
+          few = subst (λ n. n ≤ 3 ^ length f.sets) spent.used (few_lines (length f.sets) clauses log.lines spent.lines spent.new_lines);
+        };
+      }
 
 -- the torus formula has a model exactly where the triple has a cover
 pub model_where_cover : (g : Geometry) → IsGrid g → (shape : List Cell) → IsPolyform g shape → (t : Triple) → IsTriple t → (count : ℕ) (clauses : List (List Lit)) → IsFormulaOf g shape t count clauses → HasModelWhereCover g shape t clauses

@@ -13,3 +13,4 @@ pub mod Beside
 pub mod Masking
 pub mod Filled
 pub mod Valued
+pub mod Turning

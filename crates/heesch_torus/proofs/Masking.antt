@@ -12,9 +12,9 @@ use Rattle.std.proofs.Math.Seq.{get_or-append_seam}
 use Rattle.heesch_grid.specs.declared.Cell.{Cell}
 use Rattle.heesch_grid.specs.declared.isometries.Iso.{Iso}
 use Rattle.heesch_grid.specs.Cells.{same_cell, cell_before}
-use Rattle.heesch_grid.specs.Geometry.{Geometry, IsGrid, IsCell, IsIsometry, apply, image}
+use Rattle.heesch_grid.specs.Geometry.{Geometry, IsGrid, IsCell, IsIsometry, apply}
 use Rattle.heesch_grid.specs.Lattice.{Triple, IsTriple, IsReduced, translated}
-use Rattle.heesch_grid.specs.Listing.{IsRising, ListsExactly}
+use Rattle.heesch_grid.specs.Listing.{IsRising}
 use Rattle.heesch_grid.specs.Pairs.{same_cell-true, same_cell-is}
 use Rattle.heesch_grid.proofs.ListFacts.{member_cases, member_here, no_member, member_at}
 use Rattle.heesch_grid.proofs.CellFacts.{cell_before-irreflexive}

@@ -1,9 +1,9 @@
 -- The lists of variables by the numbers of cells, and the clauses of these lists.
 use Rattle.std.proofs.Common.{◌≡◌, ◌≢◌, refl, sym, ap, subst, ◌∙◌, ℕ, zero, suc, ◌+◌, ◌*◌, ◌<◌, ◌≤◌, List, [], ◌∷◌, ◌++◌, map, filter, length, take, get_or, Bool, true, false, cond, ◌||◌, inl, inr, arith, All, Contains, true≢false, ltb-true}
-use Rattle.std.specs.Prelude.{IsTrue, Some, None, nat_lt, slice_index_or, slice_set, replicate, filter_map}
+use Rattle.std.specs.Prelude.{IsTrue, Some, None, nat_lt, slice_index_or, slice_set, filter_map}
 use Rattle.std.specs.List.{enumerate_from, range_with_len, AllAdjacentBelow, cons_option}
 use Rattle.std.proofs.lemmas.Bool.{cases_Bool, cases_order}
-use Rattle.std.proofs.lemmas.List.{append_assoc, map-append, length-set, length-append, get_or-set_same, get_or-set_other, get_or-replicate, length-replicate, map_more, length-map, length-take-le, get_or-map, get_or_default}
+use Rattle.std.proofs.lemmas.List.{append_assoc, map-append, length-set, length-append, get_or-set_same, get_or-set_other, map_more, length-map, length-take-le, get_or-map, get_or_default}
 use Rattle.std.proofs.lemmas.List.Elements.{All-map, filter-append}
 use Rattle.heesch_cnf.specs.declared.literal.Lit.{Lit}
 use Rattle.heesch_cnf.specs.Clauses.{IsClause}

@@ -7,7 +7,7 @@ use Rattle.heesch_cnf.specs.declared.log.Line.{Line}
 use Rattle.heesch_cnf.specs.declared.log.Line.TheVariants.{Learn, Given}
 use Rattle.heesch_cnf.specs.declared.log.Log.{Log}
 use Rattle.heesch_cnf.specs.Clauses.{IsSatisfied, Satisfies}
-use Rattle.heesch_cnf.specs.Lines.{clauses_of, LinesAreNew, Refutes, IsSpent}
+use Rattle.heesch_cnf.specs.Lines.{clauses_of, clauses_with, FinalHolds, LinesAreNew, Refutes, IsSpent}
 use Rattle.heesch_cnf.specs.Meaning.{IsLearn, LearnsAlone}
 use Rattle.heesch_cdcl.specs.Learning.{LearnsMore}
 use Rattle.heesch_cdcl.specs.Problem.{Problem, IsSolver, SameProblem}
@@ -46,11 +46,14 @@ module _ (vars : ℕ) (clauses : List (List Lit)) (turns : ℕ) (old new : Probl
       subst (λ (l : Log). LearnsAlone l.lines × Refutes vars clauses l × LinesAreNew clauses l.lines) (sym e)
       (alone learns, subst (λ n. Refutes n clauses new.log) vars_is (subst (λ cs. Refutes new.vars cs new.log) clauses_is found), subst (λ cs. LinesAreNew cs new.log.lines) clauses_is valid.fresh)
 
-  pub solved_spent : (log : Log) → log ≡ new.log → LearnsMore old.log.lines new.log.lines → IsSolver new → IsFound new Spent → LearnsAlone log.lines × IsSpent vars clauses turns log
+  pub solved_spent : (log : Log) → log ≡ new.log → LearnsMore old.log.lines new.log.lines → IsSolver new → IsFound new Spent → LearnsAlone log.lines × IsSpent vars clauses turns log × ((hints : List ℕ) → ¬ FinalHolds (clauses_with clauses log.lines) hints)
   solved_spent log e learns valid found =
       let spent : IsSpent new.vars new.clauses new.turns new.log = record { used = found.0; lines = valid.hold; new_lines = valid.fresh; unfinished = found.1.0 } in
-      subst (λ (l : Log). LearnsAlone l.lines × IsSpent vars clauses turns l) (sym e)
-      (alone learns, subst (λ n. IsSpent n clauses turns new.log) vars_is (subst (λ cs. IsSpent new.vars cs turns new.log) clauses_is (subst (λ k. IsSpent new.vars new.clauses k new.log) turns_is spent)))
+      subst (λ (l : Log). LearnsAlone l.lines × IsSpent vars clauses turns l × ((hints : List ℕ) → ¬ FinalHolds (clauses_with clauses l.lines) hints)) (sym e) (
+        alone learns,
+        subst (λ n. IsSpent n clauses turns new.log) vars_is (subst (λ cs. IsSpent new.vars cs turns new.log) clauses_is (subst (λ k. IsSpent new.vars new.clauses k new.log) turns_is spent)),
+        subst (λ (cs : List (List Lit)). (hints : List ℕ) → ¬ FinalHolds (clauses_with cs new.log.lines) hints) clauses_is found.1.1,
+      )
 
 learn_line : (line : Line) → IsLearn line → IsLearnLine line
 learn_line (Learn clause hints) h = h

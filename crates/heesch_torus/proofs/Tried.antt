@@ -1,5 +1,5 @@
 -- The residue sets of the isometries within the triple are all of them, and each has the first that was tried.
-use Rattle.std.proofs.Common.{◌≡◌, refl, sym, ap, subst, ◌∙◌, ℕ, ◌+◌, ◌*◌, ◌/◌, ◌%◌, ◌<◌, ◌≤◌, List, [], Bool, true, ◌⊎◌, inl, inr, arith, Contains, ◌&&◌}
+use Rattle.std.proofs.Common.{◌≡◌, refl, sym, ap, subst, ◌∙◌, ℕ, ◌+◌, ◌*◌, ◌/◌, ◌%◌, ◌<◌, ◌≤◌, List, Bool, true, ◌⊎◌, inl, inr, arith, Contains, ◌&&◌}
 use Rattle.std.specs.Prelude.{ℤ, pos, negsuc, neg_ℤ, ◌+ℤ◌, ◌*ℤ◌, ◌≤ℤ◌, ◌<ℤ◌, int_lt}
 use Rattle.std.specs.Ordering.{int_eq}
 use lib.IntN.{*ℤ_comm}
@@ -16,7 +16,7 @@ use Rattle.heesch_grid.specs.Lattice.{Triple, IsTriple, translated}
 use Rattle.heesch_grid.specs.Polyform.{floor_div}
 use Rattle.heesch_grid.specs.TorusFormula.{IsReducedFrom, GivesResidues, IsWithinTriple, IsometryBefore}
 use Rattle.heesch_grid.specs.Pairs.{or-left, or-right}
-use Rattle.heesch_grid.proofs.ListFacts.{no_member, All-from_members, same_listing}
+use Rattle.heesch_grid.proofs.ListFacts.{All-from_members, same_listing}
 use Rattle.heesch_grid.proofs.CellFacts.{cell_before-irreflexive, cell_before-asymmetric}
 use Rattle.heesch_grid.proofs.CanonicalFacts.{Rounds, floor_rounds}
 use Rattle.heesch_grid.proofs.IsometryFacts.{scale_neg, moved_twice}

@@ -1,6 +1,6 @@
 -- The variables whose masks are among exact ones are a periodic cover.
-use Rattle.std.proofs.Common.{◌≡◌, refl, sym, ap, subst, ◌∙◌, ℕ, suc, ◌+◌, ◌-◌, ◌*◌, ◌<◌, ◌≤◌, List, [], ◌∷◌, ◌++◌, map, filter, length, get_or, eqb, Bool, true, false, cond, ◌⊎◌, inl, inr, arith, All, Contains, true≢false, eqb-true, eq-eqb}
-use Rattle.std.specs.Prelude.{ℤ, pos, ◌≤ℤ◌, ◌<ℤ◌, ◌↔◌, ◌==◌, Some, None, nat_lt, slice_index_or}
+use Rattle.std.proofs.Common.{◌≡◌, refl, sym, ap, subst, ◌∙◌, ℕ, suc, ◌+◌, ◌-◌, ◌*◌, ◌<◌, ◌≤◌, List, [], ◌∷◌, ◌++◌, filter, length, get_or, eqb, Bool, true, false, cond, inl, inr, arith, Contains, true≢false, eqb-true, eq-eqb}
+use Rattle.std.specs.Prelude.{ℤ, pos, ◌↔◌, ◌==◌, Some, nat_lt, slice_index_or}
 use Rattle.std.specs.List.{enumerate_from, list_any, slice_get}
 use Rattle.std.proofs.Math.Seq.{get_or-append_seam}
 use Rattle.std.proofs.lemmas.List.{length-append, get_or_append_left}
@@ -12,7 +12,7 @@ use Rattle.std.proofs.lemmas.List.Elements.{All-contains}
 use Rattle.std.proofs.lemmas.Option.{slice_get_within, get_or_from_slice_get}
 use Rattle.heesch_grid.specs.declared.Cell.{Cell}
 use Rattle.heesch_grid.specs.declared.isometries.Iso.{Iso}
-use Rattle.heesch_grid.specs.Listing.{IsRising, ListsExactly}
+use Rattle.heesch_grid.specs.Listing.{IsRising}
 use Rattle.heesch_grid.specs.Cells.{cell, same_cell, cell_before, cells_before, has}
 use Rattle.heesch_grid.specs.Geometry.{Geometry, IsGrid, IsIsometry, image}
 use Rattle.heesch_grid.specs.Vectors.{IsWithin}
@@ -21,7 +21,7 @@ use Rattle.heesch_grid.specs.Pairs.{has-true, same_cell-refl}
 use Rattle.heesch_grid.specs.Polyform.{IsPolyform}
 use Rattle.heesch_grid.specs.Tiling.{IsPeriodicCover}
 use Rattle.heesch_grid.specs.TorusFormula.{IsReducedFrom, GivesResidues, IsWithinTriple}
-use Rattle.heesch_grid.proofs.ListFacts.{member_here, member_there, no_member, All-from_members, filter_member, member_filter, rising_filter, same_rising, any_member, member_any}
+use Rattle.heesch_grid.proofs.ListFacts.{member_here, member_there, All-from_members, filter_member, member_filter, rising_filter, same_rising, any_member, member_any}
 use Rattle.heesch_grid.proofs.CellFacts.{has-is, cell_before-irreflexive, cell_before-asymmetric, cells_before-irreflexive}
 use Rattle.heesch_grid.proofs.ClauseFacts.{entry_at, entry_of, entries_rising, entries_ordered}
 use Rattle.heesch_grid.proofs.SortFacts.{sorted, sorted_list, sorted_has, has_sorted}
@@ -31,7 +31,6 @@ use Rattle.heesch_grid.proofs.WindowFacts.{map_member, member_map}
 use Rattle.heesch_tiling.proofs.Areas.{fills}
 use Rattle.heesch_tiling.proofs.Distinct.{OnePasses, one_passes}
 use Rattle.heesch_torus.specs.Answer.{IsChosenCover, AreChosenPlaces}
-use Rattle.heesch_torus.specs.Beside.{with_bit, FillBeside}
 use Rattle.heesch_torus.specs.Chosen.{chosen, chosen_places}
 use Rattle.heesch_torus.specs.Covers.{HasAllPoints, HasMaskAmong, IsTileMask, AreExactMasks, AreValuesOf}
 use Rattle.heesch_torus.specs.Formula.{reduced_cells}
@@ -40,7 +39,7 @@ use Rattle.heesch_torus.specs.Variables.{TorusVariable, sets_of, HasIsometry, Ar
 use Rattle.heesch_torus.proofs.Beside.{index_of, bit_cases, with_bit_filter}
 use Rattle.heesch_torus.proofs.Images.{from_tile, in_tile, tile_count}
 use Rattle.heesch_torus.proofs.Masking.{one_mask, double_unmasked}
-use Rattle.heesch_torus.proofs.Modelled.{Numbered, Entry, TwoOf, two_of, of_variable, member_some, times_some, times_member, tile_times, with_cell, once_covers, are_chosen}
+use Rattle.heesch_torus.proofs.Modelled.{Numbered, TwoOf, two_of, of_variable, member_some, times_some, tile_times, with_cell, once_covers, are_chosen}
 use Rattle.heesch_torus.proofs.Numbering.{reduced_listed}
 use Rattle.heesch_torus.proofs.Tried.{natural_below}
 
@@ -78,9 +77,9 @@ module _ (g : Geometry) (law : IsGrid g) (shape : List Cell) (form : IsPolyform 
   set_of_mask by p m is =
       let xs : List Cell = tile_residues g shape t by in
       let few : (c : Cell) → Contains (tile_residues g shape t by) c → times_in (tile_residues g shape t by) c ≤ 1 = λ c i.
-          let k = point_of c (from_tile g law shape form t triple by p c i).reduced in
-          let e = is.cells k.0 c k.1 in
-          elim (bit_cases m k.0) [ inl z ↦ omega arith | inr o ↦ omega arith ]
+      let k = point_of c (from_tile g law shape form t triple by p c i).reduced in
+      let e = is.cells k.0 c k.1 in
+      elim (bit_cases m k.0) [ inl z ↦ omega arith | inr o ↦ omega arith ]
       in
       record {
         is_isometry = p;
@@ -111,9 +110,9 @@ module _ (g : Geometry) (law : IsGrid g) (shape : List Cell) (form : IsPolyform 
   -- masks that are one are of one residue set
   one_set : (a b : Iso) (m : ℕ) (r s : List Cell) → IsMaskOf g shape t a m → IsMaskOf g shape t b m → GivesResidues g shape t r a → GivesResidues g shape t s b → r ≡ s
   one_set a b m r s p q gr gs =
-    same_rising cell_before cell_before-irreflexive cell_before-asymmetric r s gr.lists.rising gs.lists.rising
-    (λ c i. let k = point_of c (reduced_member r a gr c i) in has-true s c (bit_set s c (sym (bit_is b m s q gs k.0 c k.1) ∙ bit_is a m r p gr k.0 c k.1 ∙ set_bit r c (has-is r c i))))
-    (λ c i. let k = point_of c (reduced_member s b gs c i) in has-true r c (bit_set r c (sym (bit_is a m r p gr k.0 c k.1) ∙ bit_is b m s q gs k.0 c k.1 ∙ set_bit s c (has-is s c i))))
+      same_rising cell_before cell_before-irreflexive cell_before-asymmetric r s gr.lists.rising gs.lists.rising
+      (λ c i. let k = point_of c (reduced_member r a gr c i) in has-true s c (bit_set s c (sym (bit_is b m s q gs k.0 c k.1) ∙ bit_is a m r p gr k.0 c k.1 ∙ set_bit r c (has-is r c i))))
+      (λ c i. let k = point_of c (reduced_member s b gs c i) in has-true r c (bit_set r c (sym (bit_is a m r p gr k.0 c k.1) ∙ bit_is b m s q gs k.0 c k.1 ∙ set_bit s c (has-is s c i))))
 
   -- a mask of one tile is that of each other with its residue set
   mask_of_set : (a b : Iso) (m : ℕ) (r : List Cell) → IsMaskOf g shape t a m → GivesResidues g shape t r a → GivesResidues g shape t r b → IsMaskOf g shape t b m

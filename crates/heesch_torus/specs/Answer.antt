@@ -1,5 +1,5 @@
 -- What the search answers.
-use Rattle.std.specs.Prelude.{◌≡◌, ℕ, ◌*◌, List, length, All}
+use Rattle.std.specs.Prelude.{◌≡◌, ℕ, ◌*◌, ◌^◌, ◌≤◌, List, length, All}
 use Rattle.std.specs.List.{AllZip}
 use Rattle.heesch_grid.specs.declared.Cell.{Cell}
 use Rattle.heesch_grid.specs.declared.isometries.Iso.{Iso}
@@ -11,7 +11,7 @@ use Rattle.heesch_grid.specs.Tiling.{IsPeriodicCover}
 use Rattle.heesch_grid.specs.TorusFormula.{IsWithinTriple, IsIsometryOf, IsTorusFormula}
 use Rattle.heesch_cnf.specs.declared.literal.Lit.{Lit}
 use Rattle.heesch_cnf.specs.declared.log.Log.{Log}
-use Rattle.heesch_cnf.specs.Lines.{LinesAreNew}
+use Rattle.heesch_cnf.specs.Lines.{clauses_with, FinalHolds, LinesAreNew}
 use Rattle.heesch_cert.specs.Literals.{literals}
 use Rattle.heesch_cert.specs.declared.tiling.Tiling.{Tiling}
 use Rattle.heesch_cert.specs.Proofs.{RefutesTorus, IsSpentOnTorus, HasNoGiven}
@@ -46,8 +46,22 @@ pub record IsRefutation (g : Geometry) (shape : List Cell) (t : Triple) (log : L
   pub new_lines : HasNewLines g shape t log
   pub none : (places : List Iso) → ¬ IsPeriodicCover g shape t places
 
--- Tiles: such a cover; None: such a log; Spent: a log of Learn lines alone that is spent on the torus formula for these turns
+-- over the torus formula and the lines of the log no final line holds, whatever its hints; and the turns are at most 3 to the power of the number of its variables
+pub record IsUnfinished (g : Geometry) (shape : List Cell) (t : Triple) (turns : ℕ) (log : Log) : Type 0 where
+  pub sets : List (List Cell)
+  pub clauses : List (List Lit)
+  pub is_formula : IsTorusFormula literals g shape t sets clauses
+  pub no_final : (hints : List ℕ) → ¬ FinalHolds (clauses_with clauses log.lines) hints
+  pub few : turns ≤ 3 ^ length sets
+
+-- the log has Learn lines alone, is spent on the torus formula for these turns, and is unfinished
+pub record IsSpentSearch (g : Geometry) (shape : List Cell) (t : Triple) (turns : ℕ) (log : Log) : Type 0 where
+  pub alone : HasNoGiven log
+  pub spent : IsSpentOnTorus g shape turns t log
+  pub unfinished : IsUnfinished g shape t turns log
+
+-- Tiles: such a cover; None: such a log; Spent: a log that is spent, over which no final line holds
 abbrev pub IsTorusAnswer : Geometry → List Cell → Triple → ℕ → TorusAnswer → Type 0
 IsTorusAnswer g shape t turns (Tiles tiling) = IsChosenCover g shape t tiling
 IsTorusAnswer g shape t turns (None log) = IsRefutation g shape t log
-IsTorusAnswer g shape t turns (Spent log) = HasNoGiven log × IsSpentOnTorus g shape turns t log
+IsTorusAnswer g shape t turns (Spent log) = IsSpentSearch g shape t turns log

@@ -1,5 +1,5 @@
 -- What the search for a cover that keeps no log answers.
-use Rattle.std.specs.Prelude.{◌≡◌, ◌<◌, ◌≤◌, ◌*◌, ◌^◌, ◌⊎◌, ◌↔◌, ℕ, pos, true, false, Bool, Some, List, [], ◌∷◌, length, slice_index_or, cond, nat_lt, All, Contains}
+use Rattle.std.specs.Prelude.{◌≡◌, ◌<◌, ◌≤◌, ◌*◌, ◌^◌, ◌⊎◌, ◌↔◌, ℕ, pos, true, false, Bool, Some, List, ◌∷◌, length, slice_index_or, cond, nat_lt, All, Contains}
 use Rattle.std.specs.List.{slice_get}
 use Rattle.std.specs.Int.{bit_at}
 use Rattle.heesch_grid.specs.declared.Cell.{Cell}
@@ -52,6 +52,7 @@ pub record AreExactMasks (g : Geometry) (shape : List Cell) (t : Triple) (full :
   pub tiles : (m : ℕ) → Contains masks m → IsTileMask g shape t m
   pub fill : FillBeside 0 full masks
 
+-- the masks are exact for the word of all reduced cells
 abbrev pub HasExactMasks : Geometry → List Cell → Triple → List ℕ → Type 0
 HasExactMasks g shape t masks = (full : ℕ) × HasAllPoints g t full × AreExactMasks g shape t full masks
 

@@ -1,5 +1,5 @@
 -- Masks of tiles: bit k is that of the k-th reduced cell, in cell order.
-use Rattle.std.specs.Prelude.{◌≡◌, ◌≤◌, ◌<◌, ◌+◌, ◌-◌, ◌*◌, ◌⊎◌, ℕ, Some, List, length, slice_index, All, Contains}
+use Rattle.std.specs.Prelude.{◌≡◌, ◌≤◌, ◌<◌, ◌+◌, ◌-◌, ◌*◌, ◌⊎◌, ℕ, Some, List, length, slice_index, Contains}
 use Rattle.std.specs.List.{slice_get}
 use Rattle.std.specs.Int.{bit_at}
 use Rattle.heesch_grid.specs.declared.Cell.{Cell}

@@ -25,7 +25,7 @@ pub enum TorusAnswer {
     Tiles { tiling: Tiling },
     /// There is none: the log refutes the torus formula.
     None { log: Log },
-    /// The turns are used up: the log has as many lines, each of them new.
+    /// The turns are used up: the log has as many lines, each of them new, and no final line holds.
     Spent { log: Log },
 }
 
@@ -34,8 +34,10 @@ pub enum TorusAnswer {
 /// Tiles has a periodic cover: its places are the isometries of residue sets in number order, each
 /// the first within the triple by turn, db and da that gives its set. None comes only where the
 /// triple has no cover, with a log of Learn lines that refutes the torus formula. Spent comes only
-/// with a log of as many Learn lines as turns. No line contains a clause before it. Condition: the cells lie within 100,000 of 0, and the triple is one of a domain of 1 to 12
-/// tiles.
+/// with a log of as many Learn lines as turns over which no final line holds, whatever its hints, and
+/// so never where the turns are more than 3 to the power of the number of the formula's variables. No
+/// line contains a clause before it. Condition: the cells lie within 100,000 of 0, and the triple is
+/// one of a domain of 1 to 12 tiles.
 ///
 /// Cost: that of the torus formula, and of the solver's search.
 pub fn search<G: Grid>(

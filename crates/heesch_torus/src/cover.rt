@@ -60,11 +60,7 @@ fn fill_at<G: Grid>(
     ensures answer { IfOk result (IsFillingAt G.geometry cells.now triple turn masks.now full nodes.old) }
     ensures used { IfOk result (λ _. nodes.old ≤ nodes.new + 2 ^ length masks.now) }
 {
-    let unmoved = Iso {
-        turn,
-        da: 0,
-        db: 0,
-    };
+    let unmoved = Iso { turn, da: 0, db: 0 };
     let Some(first) = mask_of::<G>(numbers, cells, triple, unmoved) else {
         return Ok(Filling::None);
     };
@@ -102,8 +98,7 @@ fn fill_torus<G: Grid>(
     for done in 0..G::TURNS {
         let turn = G::TURNS - 1 - done;
         add_masks::<G>(&mut masks, numbers, cells, triple, turn)?;
-        let filling =
-            fill_at::<G>(alloc, numbers, cells, triple, turn, &masks, full, &mut left)?;
+        let filling = fill_at::<G>(alloc, numbers, cells, triple, turn, &masks, full, &mut left)?;
         match filling {
             Filling::Filled { masks } => return Ok(Filling::Filled { masks }),
             Filling::Open => return Ok(Filling::Open),
@@ -214,8 +209,7 @@ pub fn find_cover<G: Grid>(
     let filling = fill_torus::<G>(alloc, &points.numbers, cells, triple, full, nodes)?;
     match filling {
         Filling::Filled { masks } => {
-            let tiling =
-                cover_of::<G>(alloc, &points.numbers, cells, triple, masks.as_slice())?;
+            let tiling = cover_of::<G>(alloc, &points.numbers, cells, triple, masks.as_slice())?;
             Ok(CoverAnswer::Tiles { tiling })
         }
         Filling::None => Ok(CoverAnswer::None),

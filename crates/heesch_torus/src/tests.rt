@@ -1,11 +1,11 @@
-//! Formulas of small shapes, counted by another program, and the answers on two of them.
+//! Formulas of small shapes, counted by another program, and the answers of both searches on two of them.
 ghost use Rattle.std.specs.Prelude.{◌≡◌, true, length, IfOk};
 ghost use Rattle.heesch_grid.specs.declared.Cell.{Cell};
 ghost use Rattle.heesch_grid.specs.Cells.{has};
 ghost use Rattle.heesch_grid.specs.Vectors.{IsWithin};
 ghost use Rattle.heesch_torus.specs.Domain.{HasDomain};
 
-use crate::{TorusAnswer, search, torus_formula};
+use crate::{CoverAnswer, TorusAnswer, find_cover, search, torus_formula};
 use heesch_grid::{Cell, Grid, Hex, Iamond, Iso, Square};
 use heesch_io::NoMemory;
 use heesch_lattice::Triple;
@@ -64,6 +64,20 @@ fn answer<G: Grid>(
     Ok(Some(search(alloc, shape, triple, 1)?))
 }
 
+/// The answer by masks for 100 nodes.
+fn answer_by_masks<G: Grid>(
+    alloc: Global,
+    shape: &Shape<G>,
+    triple: Triple,
+) -> Result<Option<CoverAnswer>, NoMemory>
+    requires { (c : Cell) → has shape.now c ≡ true → IsWithin 100000 c }
+{
+    if !is_searched(shape, triple) {
+        return Ok(None);
+    }
+    Ok(Some(find_cover(alloc, shape, triple, 100)?))
+}
+
 #[test]
 fn formulas_of_small_shapes(rt: HostRuntime) -> Result<(), Fail> {
     let bent = shape_of::<Square>(&[
@@ -106,6 +120,8 @@ fn three_squares_round_a_corner_have_no_cover(rt: HostRuntime) -> Result<(), Fai
     assert_eq!(rt; log.lines.len(), 0);
     let last = log.last.map(|hints| hints.into_vec());
     assert_eq!(rt; last, Some(vec![in rt.alloc(); 1]?));
+    let by_masks = answer_by_masks(rt.alloc(), &bent, triple)?;
+    assert!(rt; matches!(by_masks, Some(CoverAnswer::None)));
     Ok(())
 }
 
@@ -130,5 +146,11 @@ fn one_square_tiles_by_two_places(rt: HostRuntime) -> Result<(), Fail> {
         db: 0,
     };
     assert_eq!(rt; places, vec![in rt.alloc(); first, second]?);
+    let by_masks = answer_by_masks(rt.alloc(), &square, triple)?;
+    let Some(CoverAnswer::Tiles { tiling }) = by_masks else {
+        assert!(rt; false);
+        return Ok(());
+    };
+    assert_eq!(rt; tiling.places.into_vec(), places);
     Ok(())
 }

@@ -14,3 +14,6 @@ mod watches;
 
 pub use step::Step;
 pub use trail::Trail;
+
+#[cfg(test)]
+mod tests;

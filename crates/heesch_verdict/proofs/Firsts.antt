@@ -19,7 +19,7 @@ use Rattle.heesch_tiling.proofs.Searching.{exact_quotient}
 use Rattle.heesch_torus.specs.declared.answer.TorusAnswer.{TorusAnswer}
 use Rattle.heesch_torus.specs.declared.answer.TorusAnswer.TheVariants.{Tiles, None, Spent}
 use Rattle.heesch_torus.specs.Answer.{IsChosenCover, IsTorusAnswer}
-use Rattle.heesch_torus.specs.declared.masks.CoverAnswer.TheVariants.{Open}
+use Rattle.heesch_torus.specs.declared.cover.CoverAnswer.TheVariants.{Open}
 use Rattle.heesch_torus.specs.Covers.{IsCoverAnswer}
 use Rattle.heesch_torus.specs.Domain.{HasDomain}
 use Rattle.heesch_verdict.specs.Domains.{AreLeftOpen, AreUpTo, IsFirstOf, IsTried, StandsBehind}

@@ -4,7 +4,7 @@ use Rattle.heesch_grid.specs.declared.Cell.{Cell}
 use Rattle.heesch_grid.specs.Geometry.{Geometry}
 use Rattle.heesch_grid.specs.Lattice.{Triple}
 use Rattle.heesch_grid.specs.Listing.{ListsExactly}
-use Rattle.heesch_torus.specs.declared.masks.CoverAnswer.TheVariants.{Open}
+use Rattle.heesch_torus.specs.declared.cover.CoverAnswer.TheVariants.{Open}
 use Rattle.heesch_torus.specs.Covers.{IsCoverAnswer}
 use Rattle.heesch_cert.specs.declared.limits.Limits.{Limits}
 use Rattle.heesch_cert.specs.declared.tiling.Tiling.{Tiling}

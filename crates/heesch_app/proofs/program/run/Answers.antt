@@ -5,7 +5,7 @@ use Rattle.heesch_app.specs.Outputs.{IsOutput}
 use Rattle.heesch_app.proofs.Beginnings.{begins_itself}
 use Rattle.heesch_app.proofs.Headline.{catalogued}
 use Rattle.heesch_app.proofs.Ranges.{asked_in_range}
-use Rattle.heesch_app.proofs.ValidOutputs.{valid_is_done, writes_valid}
+use Rattle.heesch_app.proofs.ValidOutputs.{valid_is_done, writes_valid, tallied_is_done, bad_is_long}
 use Rattle.heesch_app.proofs.program.run.Goals as goal
 
 pub reply-requires-after_bounds : goal.reply-requires-after_bounds
@@ -54,3 +54,24 @@ returns-in-Ok-put-clause-passes g c = λ input workers count told short asks val
     let of_input : IsOutput request (Some input) status text = subst (λ l. IsOutput request l status text) told output in
     let is_done : status ≡ Done = valid_is_done (map string_bytes c.args.words.now) input status text workers count asks short valid (request, c.in-Ok.ensures.ok, of_input) in
     ((λ e. let bad = sym is_done ∙ e in cc), λ e. let bad = sym is_done ∙ e in cc)
+
+pub returns-in-Ok-put-clause-tables : goal.returns-in-Ok-put-clause-tables
+returns-in-Ok-put-clause-tables g c = λ input tally told asks tallied bad.
+    let request = c.in-Ok.request in
+    let status = c.in-Ok-reply.reply.status in
+    let text = c.deref.result.now in
+    let left = g.R.Source.left c.args.source.now in
+    let output : IsOutput request left status text = subst (λ t. IsOutput request left status t) (sym c.deref.ensures.value) c.in-Ok-reply.ensures.ok in
+    let of_input : IsOutput request (Some input) status text = subst (λ l. IsOutput request l status text) told output in
+    let is_done : status ≡ Done = tallied_is_done (map string_bytes c.args.words.now) input tally status text asks tallied (request, c.in-Ok.ensures.ok, of_input) in
+    let no = sym is_done ∙ bad in cc
+
+pub returns-in-Ok-put-clause-too_long : goal.returns-in-Ok-put-clause-too_long
+returns-in-Ok-put-clause-too_long g c = λ input workers told asks bad.
+    let request = c.in-Ok.request in
+    let status = c.in-Ok-reply.reply.status in
+    let text = c.deref.result.now in
+    let left = g.R.Source.left c.args.source.now in
+    let output : IsOutput request left status text = subst (λ t. IsOutput request left status t) (sym c.deref.ensures.value) c.in-Ok-reply.ensures.ok in
+    let of_input : IsOutput request (Some input) status text = subst (λ l. IsOutput request l status text) told output in
+    bad_is_long (map string_bytes c.args.words.now) input status text workers asks (request, c.in-Ok.ensures.ok, of_input) bad

@@ -1,7 +1,6 @@
 use Rattle.std.proofs.Common.{◌≡◌, ◌+◌, [], ◌∷◌, ◌++◌, get_or, Vec, Global, sym, ap, ◌∙◌, subst, refl, arith, rules}
 use Rattle.heesch_cnf.specs.declared.literal.Lit.{Lit}
 use Rattle.heesch_cdcl.specs.Marked.{IsClauseOfMarked}
-use Rattle.heesch_cdcl.specs.Marked.{falsified}
 use Rattle.heesch_cdcl.proofs.Assembled.{AreSorted-read, IsAssembled, Assembled-none, Assembled-push, Assembled-skip, Assembled-whole}
 use Rattle.heesch_cdcl.proofs.assembly.clause_of_marks.Goals as goal
 use Rattle.heesch_cdcl.proofs.assembly.clause_of_marks.Goals.{then-last-var+in_ok-map_err, else-last-var}

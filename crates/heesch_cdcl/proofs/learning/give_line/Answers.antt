@@ -1,6 +1,5 @@
 use Rattle.std.proofs.Common.{◌≡◌, [], ◌∷◌, ◌++◌, sym, ap, ◌∙◌, refl, subst, rules}
 use Rattle.heesch_cnf.specs.Clauses.{IsNew}
-use Rattle.heesch_cnf.specs.declared.log.Line.{Line}
 use Rattle.heesch_cnf.specs.declared.log.Line.TheVariants.{Given}
 use Rattle.heesch_trail.specs.State.{State}
 use Rattle.heesch_cdcl.specs.Searching.{IsSearching, Searches, SameFormula, formula_in}

@@ -26,3 +26,18 @@ pub returns-clause-ok : goal.returns-clause-ok
 returns-clause-ok g c =
     let first = g.R.Source.left c.args.source.now in
     c.check_named.ensures.ok first (c.in_ok-reading.ensures.ok first (c.new-stream.ensures first))
+
+pub returns-in_default-clause-no_further : goal.returns-in_default-clause-no_further
+returns-in_default-clause-no_further g c =
+    let first = g.R.Source.left c.args.source.now in
+    c.in_ok-reading.ensures.no_further first (c.new-stream.ensures first)
+
+pub returns-then-header-clause-no_further : goal.returns-then-header-clause-no_further
+returns-then-header-clause-no_further g c =
+    let first = g.R.Source.left c.args.source.now in
+    c.in_ok-reading.ensures.no_further first (c.new-stream.ensures first)
+
+pub returns-clause-no_further : goal.returns-clause-no_further
+returns-clause-no_further g c =
+    let first = g.R.Source.left c.args.source.now in
+    c.check_named.ensures.no_further first (c.in_ok-reading.ensures.ok first (c.new-stream.ensures first)) (c.in_ok-reading.ensures.no_further first (c.new-stream.ensures first))

@@ -1,7 +1,7 @@
 use Rattle.std.proofs.Common.{rules, ap, subst, arith}
 use Rattle.heesch_check.specs.Reading.{Reads}
 use Rattle.heesch_check.proofs.Leading.{bounded}
-use Rattle.heesch_check.proofs.Behind.{start_fits, start_answers, start_goes_on, next_fits, next_answers, next_goes_on, next_smaller}
+use Rattle.heesch_check.proofs.Behind.{start_fits, start_answers, start_goes_on, next_fits, next_answers, next_goes_on, next_smaller, batch_no_further}
 use Rattle.heesch_check.proofs.checking.check_behind.Goals as goal
 
 pub judge_batch-requires-clause-fit : goal.judge_batch-requires-clause-fit
@@ -55,3 +55,10 @@ batches-preserved g c = record {
       (rw c.as_slice.ensures at c.in_ok-answer-2.ensures.judges) c.in_default-2.is;
   later = omega (arith, c.batches.invariant.later, c.read.ensures.later);
 }
+
+pub returns-in-Some-clause-no_further : goal.returns-in-Some-clause-no_further
+returns-in-Some-clause-no_further g c first h none = none
+
+pub returns-in-Some-2-clause-no_further : goal.returns-in-Some-2-clause-no_further
+returns-in-Some-2-clause-no_further g c first h none =
+    batch_no_further first (g.R.Source.left c.batches.source) (g.R.Source.left c.read.new.source) c.args.judge.header c.batches.stream c.batches.judge.entries (c.batches.invariant.goes_on first h) c.read.ensures.one_piece

@@ -3,6 +3,7 @@ use Rattle.std.proofs.lemmas.Result.{err_from_is_err_and}
 use Rattle.heesch_grid.specs.Clauses.{formula_size}
 use Rattle.heesch_grid.specs.CoronaFormula.{IsUniverse}
 use Rattle.heesch_grid.proofs.AroundFacts.{cells_around, around_given}
+use Rattle.heesch_shape.proofs.Near.{canonical_within}
 use Rattle.heesch_cert.specs.Formulas.{IsCountedFormula}
 use Rattle.heesch_cert.proofs.Models.{model_where_coronas, models_are_coronas}
 use Rattle.heesch_encode.specs.Taking.{Takes}
@@ -45,3 +46,9 @@ returns-in_err-take_formula-clause-too_large g c =
     let universe : IsUniverse geometry shape j vars = subst (λ s. IsUniverse geometry s j vars) u.shape (subst (λ l. IsUniverse geometry c.in_ok-universe.universe.shape l vars) u.level u.universe) in
     let p = err_from_is_err_and c.from_residual-in_err-take_formula.result c.from_residual-in_err-take_formula.ensures.1 in
     λ e. too_large_where geometry met.laws shape j vars c.args.size c.new-collector.result c.take_formula.new.collector c.in_err-take_formula.field-0.0 universe (c.in_err-take_formula.ensures (cells_around geometry) (around_given geometry met.laws)) c.new-collector.ensures.room (cc (e, p.1, p.2))
+
+pub take_formula-requires-clause-near : goal.take_formula-requires-clause-near
+take_formula-requires-clause-near g c =
+    let shape = c.args.shape.now in
+    let s = c.cells-cells.ensures.shape in
+    canonical_within g.G.Grid.geometry g.met.G.Grid.laws shape shape s.polyform c.requires.canonical s.few

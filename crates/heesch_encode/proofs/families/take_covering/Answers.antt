@@ -1,4 +1,4 @@
-use Rattle.std.proofs.Common.{All, ◌<◌, ◌≡◌, ◌+◌, ◌-◌, List, Err, true, not, length, get_or, take, pos, sym, ap, ◌∙◌, subst, arith}
+use Rattle.std.proofs.Common.{All, ◌<◌, refl, ◌≡◌, ◌+◌, ◌-◌, List, Err, true, not, length, get_or, take, pos, sym, ap, ◌∙◌, subst, arith}
 use Rattle.std.specs.Prelude.{flat_map}
 use Rattle.std.proofs.lemmas.List.{take_all}
 use Rattle.std.proofs.lemmas.Result.{err_from_is_err_and}
@@ -39,8 +39,7 @@ write_implication-requires-clause-absent g c =
     let at : Cell = get_or c.as_slice-c-items.result.now c.loop-c.c-index zero_cell in
     let v = get_or vars (n - 1) no_entry.1 in
     let number = some_at vars n c.requires.number.0 c.requires.number.1 in
-    let tile = c.shape.ensures ∙ c.placement_of.ensures.tile v number in
-    let outside = around_outside g.G.Grid.geometry c.shape.result.now v.tile c.write_ring.new.ring.items c.as_slice-c-items.result.now c.loop-c.c-index zero_cell c.in_ok-write_ring.ensures.listed c.as_slice-c-items.ensures.value tile c.loop-c-test.true in
+    let outside = around_outside g.G.Grid.geometry v.tile v.tile c.write_moved.new.ring.items c.as_slice-c-items.result.now c.loop-c.c-index zero_cell (c.in_ok-write_moved.ensures.listed v number) c.as_slice-c-items.ensures.value refl c.loop-c-test.true in
     λ m. not_covering vars (c.level_of-of.result + 1) n v at number outside (subst (λ ns. Contains ns n) c.covered_by.ensures m)
 
 pub take-requires : goal.take-requires
@@ -50,8 +49,7 @@ take-requires g c =
     let at : Cell = get_or c.as_slice-c-items.result.now c.loop-c.c-index zero_cell in
     let v = get_or vars (n - 1) no_entry.1 in
     let number = some_at vars n c.requires.number.0 c.requires.number.1 in
-    let tile = c.shape.ensures ∙ c.placement_of.ensures.tile v number in
-    let outside = around_outside g.G.Grid.geometry c.shape.result.now v.tile c.write_ring.new.ring.items c.as_slice-c-items.result.now c.loop-c.c-index zero_cell c.in_ok-write_ring.ensures.listed c.as_slice-c-items.ensures.value tile c.loop-c-test.true in
+    let outside = around_outside g.G.Grid.geometry v.tile v.tile c.write_moved.new.ring.items c.as_slice-c-items.result.now c.loop-c.c-index zero_cell (c.in_ok-write_moved.ensures.listed v number) c.as_slice-c-items.ensures.value refl c.loop-c-test.true in
     let is = implication_clause vars (c.level_of-of.result + 1) n v at c.covered_by.result.now c.write_implication.new.clause.items c.as_slice.result.now number outside c.covered_by.ensures c.in_ok-write_implication.ensures c.as_slice.ensures.value in
     subst (λ m. IsClause m c.as_slice.result.now) (sym (c.loop-c.invariant.vars ∙ c.requires.vars)) (subst (IsClause (length vars)) (sym is) (clause_form vars (is_numbered n) (covers (c.level_of-of.result + 1) at)))
 
@@ -67,8 +65,7 @@ returns-in_err-take g c =
     let p = err_from_is_err_and c.from_residual-in_err-take.result c.from_residual-in_err-take.ensures.1 in
     let e = c.in_err-take.field-0.0 in
     λ around v gives number.
-    let tile = c.shape.ensures ∙ c.placement_of.ensures.tile v number in
-    let outside = around_outside g.G.Grid.geometry c.shape.result.now v.tile c.write_ring.new.ring.items items i zero_cell c.in_ok-write_ring.ensures.listed c.as_slice-c-items.ensures.value tile c.loop-c-test.true in
+    let outside = around_outside g.G.Grid.geometry v.tile v.tile c.write_moved.new.ring.items items i zero_cell (c.in_ok-write_moved.ensures.listed v number) c.as_slice-c-items.ensures.value refl c.loop-c-test.true in
     let clause : List Lit = clause_of literals (is_numbered n) (covers (of + 1) at) vars in
     let is : c.as_slice.result.now ≡ clause = implication_clause vars (of + 1) n v at c.covered_by.result.now c.write_implication.new.clause.items c.as_slice.result.now number outside c.covered_by.ensures c.in_ok-write_implication.ensures c.as_slice.ensures.value in
     let free : not (has shape at) ≡ true = ap not (sym c.has.ensures ∙ c.if-not-has.true) in
@@ -76,7 +73,7 @@ returns-in_err-take g c =
     piece_stopped (covering_piece shape vars n of) items e c.args.collector.now c.loop-c.collector c.take.new.self i zero_cell c.loop-c-test.true c.loop-c.invariant
     (with_clause (not (has shape at)) clause c.as_slice.result.now (IsTaken (Err e) c.loop-c.collector c.take.new.self) free is c.in_err-take.ensures)
     in
-    rw (p.1, p.2) (subst (IsTaken (Err e) c.args.collector.now c.take.new.self) (covering_is around shape c.args.level vars n of v items (c.level_of-of.ensures v number) c.if-of-level.false (c.as_slice-c-items.ensures.value ∙ c.in_ok-write_ring.ensures.given around gives ∙ ap around tile)) stopped)
+    rw (p.1, p.2) (subst (IsTaken (Err e) c.args.collector.now c.take.new.self) (covering_is around shape c.args.level vars n of v items (c.level_of-of.ensures v number) c.if-of-level.false (c.as_slice-c-items.ensures.value ∙ c.in_ok-write_moved.ensures.given v around number gives)) stopped)
 
 pub loop-c-preserved : goal.loop-c-preserved
 loop-c-preserved g c =
@@ -89,8 +86,7 @@ loop-c-preserved g c =
     let at : Cell = get_or items i zero_cell in
     let v = get_or vars (n - 1) no_entry.1 in
     let number = some_at vars n c.requires.number.0 c.requires.number.1 in
-    let tile = c.shape.ensures ∙ c.placement_of.ensures.tile v number in
-    let outside = around_outside g.G.Grid.geometry c.shape.result.now v.tile c.write_ring.new.ring.items items i zero_cell c.in_ok-write_ring.ensures.listed c.as_slice-c-items.ensures.value tile c.loop-c-test.true in
+    let outside = around_outside g.G.Grid.geometry v.tile v.tile c.write_moved.new.ring.items items i zero_cell (c.in_ok-write_moved.ensures.listed v number) c.as_slice-c-items.ensures.value refl c.loop-c-test.true in
     let clause : List Lit = clause_of literals (is_numbered n) (covers (of + 1) at) vars in
     piece_taken (covering_piece shape vars n of) items c.args.collector.now c.loop-c.collector c.if-not-has.collector i zero_cell c.loop-c-test.true c.loop-c.invariant
     (elim c.if-not-has.branch [
@@ -111,8 +107,7 @@ returns g c =
     let i = c.loop-c.c-index in
     let whole : take i items ≡ items = take_all i items (omega (arith, c.loop-c-test.false)) in
     λ around v gives number.
-    let tile = c.shape.ensures ∙ c.placement_of.ensures.tile v number in
-    subst (Takes c.args.collector.now c.loop-c.collector) (ap (flat_map (covering_piece shape vars n of)) whole ∙ covering_is around shape c.args.level vars n of v items (c.level_of-of.ensures v number) c.if-of-level.false (c.as_slice-c-items.ensures.value ∙ c.in_ok-write_ring.ensures.given around gives ∙ ap around tile)) c.loop-c.invariant
+    subst (Takes c.args.collector.now c.loop-c.collector) (ap (flat_map (covering_piece shape vars n of)) whole ∙ covering_is around shape c.args.level vars n of v items (c.level_of-of.ensures v number) c.if-of-level.false (c.as_slice-c-items.ensures.value ∙ c.in_ok-write_moved.ensures.given v around number gives)) c.loop-c.invariant
 
 pub write_implication-requires-clause-others : goal.write_implication-requires-clause-others
 write_implication-requires-clause-others g c =

@@ -1,12 +1,19 @@
-use Rattle.std.proofs.Common.{◌++◌, Err, ◌∙◌, subst}
+use Rattle.std.proofs.Common.{◌≡◌, List, sym, ◌++◌, Err, ◌∙◌, subst}
 use Rattle.std.proofs.lemmas.Result.{err_from_is_err_and}
+use Rattle.heesch_grid.specs.declared.Cell.{Cell}
+use Rattle.heesch_grid.specs.Geometry.{Geometry}
 use Rattle.heesch_grid.specs.CoronaFormula.{first_clauses, covering_clauses, support_clauses, apart_clauses}
 use Rattle.heesch_grid.proofs.AroundFacts.{cells_around, around_given}
 use Rattle.heesch_cert.specs.Literals.{literals}
+use Rattle.heesch_encode.specs.declared.around.TurnedRing.{TurnedRing}
+use Rattle.heesch_encode.specs.Rings.{AreRings}
 use Rattle.heesch_encode.specs.Taking.{Takes, IsTaken}
 use Rattle.heesch_encode.proofs.Takings.{Clauses, takes_more, taken_after, stopped_before}
 use Rattle.heesch_encode.proofs.Pieces.{covering_family, support_family}
 use Rattle.heesch_encode.proofs.families.take_formula.Goals as goal
+
+same_rings : (g : Geometry) (shape other : List Cell) (rings now : List TurnedRing) → other ≡ shape → now ≡ rings → AreRings g shape rings → AreRings g other now
+same_rings g shape other rings now s e r = subst (AreRings g other) (sym e) (subst (λ zs. AreRings g zs rings) (sym s) r)
 
 pub take_family-requires-clause-vars : goal.take_family-requires-clause-vars
 take_family-requires-clause-vars g c =
@@ -87,3 +94,12 @@ returns g c =
     let third : Takes d f support = subst (Takes d f) (support_family geometry around shape j vars) (c.in_ok-take_family-2.ensures.taken around gives) in
     let before : Takes a f ((first ++ covering) ++ support) = takes_more a d f (first ++ covering) support (takes_more a b d first covering (c.in_ok-take_first.ensures around gives) second) third in
     taken_after c.take_family-3.result a f c.take_family-3.new.collector ((first ++ covering) ++ support) (apart_clauses literals vars) before (c.take_family-3.ensures.taken around gives)
+
+pub take_family-requires-clause-rings : goal.take_family-requires-clause-rings
+take_family-requires-clause-rings g c = same_rings g.G.Grid.geometry c.args.shape.now c.args.universe.now.shape c.in_ok-rings.rings.items c.as_slice-rings.result.now c.requires.shape c.as_slice-rings.ensures.value c.in_ok-rings.ensures
+
+pub take_family-requires-2-clause-rings : goal.take_family-requires-2-clause-rings
+take_family-requires-2-clause-rings g c = same_rings g.G.Grid.geometry c.args.shape.now c.args.universe.now.shape c.in_ok-rings.rings.items c.as_slice-rings.result.now c.requires.shape c.as_slice-rings.ensures.value c.in_ok-rings.ensures
+
+pub take_family-requires-3-clause-rings : goal.take_family-requires-3-clause-rings
+take_family-requires-3-clause-rings g c = same_rings g.G.Grid.geometry c.args.shape.now c.args.universe.now.shape c.in_ok-rings.rings.items c.as_slice-rings.result.now c.requires.shape c.as_slice-rings.ensures.value c.in_ok-rings.ensures

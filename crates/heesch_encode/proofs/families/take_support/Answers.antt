@@ -1,6 +1,9 @@
-use Rattle.std.proofs.Common.{All, ◌<◌, ◌≡◌, ◌+◌, ◌-◌, ◌∷◌, [], ℕ, length, get_or, sym, ap, ◌∙◌, subst, arith}
+use Rattle.std.proofs.Common.{All, ◌<◌, ◌≡◌, ◌+◌, ◌-◌, ◌∷◌, [], List, ℕ, length, get_or, sym, ap, ◌∙◌, subst, arith}
 use Rattle.heesch_cnf.specs.Clauses.{IsClause}
-use Rattle.heesch_grid.specs.Listing.{IsRising}
+use Rattle.heesch_grid.specs.Listing.{IsRising, ListsExactly}
+use Rattle.heesch_grid.specs.declared.Cell.{Cell}
+use Rattle.heesch_grid.specs.Cells.{cell_before}
+use Rattle.heesch_grid.specs.Geometry.{IsAround}
 use Rattle.heesch_grid.specs.Clauses.{is_numbered}
 use Rattle.heesch_grid.specs.CoronaFormula.{Variable}
 use Rattle.heesch_encode.specs.Taking.{IsTaken}
@@ -52,3 +55,13 @@ returns-clause-taken g c =
 pub write_implication-requires-clause-others : goal.write_implication-requires-clause-others
 write_implication-requires-clause-others g c =
     subst (All (λ n. n < 2147483648)) (sym (c.deref-2.ensures.value ∙ c.in_ok-list_supporting.ensures.listed)) (supporting_small g.G.Grid.geometry c.args.universe.now.vars (c.level_of-of.result - 1) c.shape-tile.result.now 2147483648 c.requires.few)
+
+pub list_supporting-requires-clause-ring : goal.list_supporting-requires-clause-ring
+list_supporting-requires-clause-ring g c =
+    let geometry = g.G.Grid.geometry in
+    let n = c.args.var in
+    let v = get_or c.args.universe.now.vars (n - 1) no_entry.1 in
+    let number = some_at c.args.universe.now.vars n c.requires.number.0 c.requires.number.1 in
+    let tile = c.shape-tile.ensures ∙ c.placement_of.ensures.tile v number in
+    subst (ListsExactly cell_before (IsAround geometry c.shape-tile.result.now)) (sym c.deref.ensures.value)
+    (subst (λ (zs : List Cell). ListsExactly cell_before (IsAround geometry zs) c.write_moved.new.ring.items) (sym tile) (c.in_ok-write_moved.ensures.listed v number))

@@ -1,6 +1,6 @@
 use Rattle.std.proofs.Common.{refl}
 use Rattle.std.proofs.lemmas.Result.{err_from_is_err_and}
-use Rattle.heesch_reader.proofs.Bytes.{sets_out, goes_on, stops_at, settled, room_on}
+use Rattle.heesch_reader.proofs.Bytes.{sets_out, goes_on, stops_at, stops_behind, settled, room_on}
 use Rattle.heesch_reader.proofs.scanning.take_bytes.Goals as goal
 
 pub loop-byte-init : goal.loop-byte-init
@@ -26,4 +26,9 @@ returns-in_err-take_byte c =
 
 pub returns : goal.returns
 returns c =
-    settled c.args.scan.now c.loop-byte.scan c.settle.new.scan c.args.items.now c.loop-byte.items c.settle.new.items c.args.piece.now c.loop-byte.byte-index c.loop-byte-test.false c.loop-byte.invariant c.in_ok-settle.ensures
+    settled c.args.scan.now c.loop-byte.scan c.settle.new.scan c.args.items.now c.loop-byte.items c.settle.new.items c.args.piece.now c.loop-byte.byte-index c.loop-byte-test.false c.loop-byte.invariant c.in_ok-settle.ensures.ok
+
+pub returns-in_err-settle : goal.returns-in_err-settle
+returns-in_err-settle c =
+    let p = err_from_is_err_and c.from_residual-in_err-settle.result c.from_residual-in_err-settle.ensures.1 in
+    rw (p.1, p.2) (stops_behind c.args.scan.now c.loop-byte.scan c.args.items.now c.loop-byte.items c.settle.new.items c.args.piece.now c.loop-byte.byte-index c.loop-byte-test.false c.loop-byte.invariant c.in_err-settle.ensures.err)

@@ -1,4 +1,4 @@
-use Rattle.std.proofs.Common.{◌≡◌, List, Bool, sym, ap, subst, ◌∙◌}
+use Rattle.std.proofs.Common.{◌≡◌, List, sym, subst, ◌∙◌}
 use Rattle.heesch_torus.specs.Covers.{AreValuesOf}
 use Rattle.heesch_torus.specs.Chosen.{chosen_places}
 use Rattle.heesch_torus.specs.Variables.{TorusVariable, AreVariables}

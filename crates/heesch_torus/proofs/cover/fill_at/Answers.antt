@@ -1,5 +1,4 @@
 use Rattle.std.proofs.Common.{ℕ, List, All, Contains, subst}
-use Rattle.heesch_torus.specs.declared.filling.Filling.TheVariants.{Filled, None}
 use Rattle.heesch_torus.specs.Beside.{FillBeside, IsFilling}
 use Rattle.heesch_torus.specs.Covers.{unmoved}
 use Rattle.heesch_torus.proofs.Masking.{double_unmasked}

@@ -1,16 +1,10 @@
-use Rattle.std.proofs.Common.{◌≡◌, ℕ, List, length, ◌+◌, ◌-◌, ◌*◌, ◌^◌, ◌<◌, ◌≤◌, All, Contains, inl, inr, sym, ap, subst, ◌∙◌, arith}
-use Rattle.std.proofs.lemmas.Bool.{cases_order}
-use Rattle.heesch_grid.specs.declared.Cell.{Cell}
-use Rattle.heesch_grid.specs.Geometry.{IsCell}
-use Rattle.heesch_grid.proofs.CellFacts.{has-is}
-use Rattle.std.proofs.lemmas.List.Elements.{All-contains}
+use Rattle.std.proofs.Common.{◌≡◌, ℕ, List, length, ◌-◌, ◌*◌, ◌^◌, ◌<◌, All, Contains, subst, arith}
 use Rattle.heesch_tiling.proofs.Steps.{cells_near}
-use Rattle.heesch_torus.specs.declared.filling.Filling.TheVariants.{Filled, None, Open}
 use Rattle.heesch_torus.specs.Beside.{FillBeside}
-use Rattle.heesch_torus.specs.Masks.{IsMaskOf, AddsMasks, HasMasksFrom}
-use Rattle.heesch_torus.specs.Covers.{unmoved, HasNoCoverAt, IsFillingAt}
-use Rattle.heesch_torus.proofs.Masking.{masks_of_turn, no_masks_from}
-use Rattle.heesch_torus.proofs.Filled.{masks_now, next_masks, next_none, masks_few, no_cover, few_nodes, used_more}
+use Rattle.heesch_torus.specs.Masks.{IsMaskOf, HasMasksFrom}
+use Rattle.heesch_torus.specs.Covers.{unmoved, IsFillingAt}
+use Rattle.heesch_torus.proofs.Filled.{no_cover}
+use Rattle.heesch_torus.proofs.Turning.{masks_now, next_masks, next_none, masks_few, few_nodes, used_more}
 use Rattle.heesch_torus.proofs.cover.fill_torus.Goals as goal
 
 pub add_masks-requires-clause-cells : goal.add_masks-requires-clause-cells
@@ -44,7 +38,7 @@ loop-done-preserved g c =
       masks = next_masks g.G.Grid.geometry g.met.G.Grid.laws c.args.cells.now c.requires.form c.args.triple c.requires.triple c.args.full c.requires.full c.requires.few c.TURNS.result c.loop-done.done turns less c.add_masks.new.masks.items (subst (HasMasksFrom g.G.Grid.geometry c.args.cells.now c.args.triple (c.TURNS.result - 1 - c.loop-done.done)) c.deref.ensures.value have);
       none = next_none g.G.Grid.geometry g.met.G.Grid.laws c.args.cells.now c.requires.form c.args.triple c.requires.triple c.args.full c.requires.full c.requires.few c.TURNS.result c.loop-done.done turns less c.deref.result.now have none c.loop-done.invariant.none;
       used = used_more c.args.nodes c.loop-done.left c.fill_at.new.nodes c.loop-done.done (g.G.Grid.geometry.turns * (c.args.triple.p * c.args.triple.q)) (length c.deref.result.now)
-      (masks_few g.G.Grid.geometry g.met.G.Grid.laws c.args.cells.now c.requires.form c.args.triple c.requires.triple c.args.full c.requires.full c.requires.few c.TURNS.result c.loop-done.done turns less c.deref.result.now have) c.loop-done.invariant.used c.in_ok-filling.ensures.used;
+          (masks_few g.G.Grid.geometry g.met.G.Grid.laws c.args.cells.now c.requires.form c.args.triple c.requires.triple c.args.full c.requires.full c.requires.few c.TURNS.result c.loop-done.done turns less c.deref.result.now have) c.loop-done.invariant.used c.in_ok-filling.ensures.used;
     }
 
 pub returns : goal.returns

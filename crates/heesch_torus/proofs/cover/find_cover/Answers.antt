@@ -1,15 +1,9 @@
-use Rattle.std.proofs.Common.{◌≡◌, ◌≤◌, ◌<◌, ℕ, List, Bool, cond, length, inl, inr, sym, ap, subst, ◌∙◌, arith}
-use Rattle.std.specs.Prelude.{nat_lt}
-use Rattle.std.specs.Int.{bit_at}
+use Rattle.std.proofs.Common.{List, length, inl, subst, arith}
 use Rattle.heesch_grid.specs.declared.Cell.{Cell}
 use Rattle.heesch_grid.specs.declared.isometries.Iso.{Iso}
 use Rattle.heesch_grid.specs.Tiling.{IsPeriodicCover}
-use Rattle.heesch_cert.specs.declared.tiling.Tiling.{Tiling}
-use Rattle.heesch_torus.specs.declared.filling.Filling.TheVariants.{Filled, None, Open}
-use Rattle.heesch_torus.specs.Answer.{IsChosenCover}
 use Rattle.heesch_torus.specs.Formula.{reduced_cells}
-use Rattle.heesch_torus.specs.Masks.{ArePoints}
-use Rattle.heesch_torus.specs.Covers.{HasAllPoints, AreExactMasks, AreFewNodes, IsTorusFilling}
+use Rattle.heesch_torus.specs.Covers.{IsTorusFilling}
 use Rattle.heesch_torus.proofs.Formulas.{domain_small}
 use Rattle.heesch_torus.proofs.Numbering.{reduced_listed}
 use Rattle.heesch_torus.proofs.Filled.{some_points}

@@ -1,4 +1,4 @@
-use Rattle.std.proofs.Common.{◌≡◌, ◌≤◌, List, ℕ, filter, length, eqb, sym, ap, subst, ◌∙◌, arith, IsPermutation}
+use Rattle.std.proofs.Common.{List, ℕ, filter, eqb, subst, arith, IsPermutation}
 use Rattle.std.specs.Prelude.{◌==◌}
 use Rattle.std.specs.Int.Bits.{bit_and}
 use Rattle.std.proofs.lemmas.List.Filters.{dedup_is}

@@ -1,9 +1,8 @@
-use Rattle.std.proofs.Common.{◌≡◌, ◌≤◌, ◌<◌, ◌+◌, ◌^◌, List, ℕ, All, length, map, sym, ap, subst, ◌∙◌, arith, w64}
+use Rattle.std.proofs.Common.{◌≤◌, ◌<◌, ◌+◌, ◌^◌, List, ℕ, All, length, map, sym, subst, ◌∙◌, arith, w64}
 use Rattle.std.specs.Prelude.{slice_index}
 use Rattle.std.specs.Int.{bit_not}
 use Rattle.std.specs.Int.Bits.{bit_and}
 use Rattle.heesch_exact.specs.Covers.{IsExactCover, IsAnswer}
-use Rattle.heesch_exact.specs.declared.CoverAnswer.TheVariants.{Cover, None, Open}
 use Rattle.heesch_torus.proofs.Beside.{cover_fills, none_fills, power_more}
 use Rattle.heesch_torus.proofs.filling.fill_beside.Goals as goal
 

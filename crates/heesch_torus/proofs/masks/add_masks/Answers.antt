@@ -1,5 +1,4 @@
-use Rattle.std.proofs.Common.{◌≡◌, ℕ, ◌*◌, ◌+◌, List, sym, ap, subst, ◌∙◌, arith, IfSome, IfNone}
-use Rattle.std.specs.Prelude.{Some, None, Option}
+use Rattle.std.proofs.Common.{◌≡◌, ℕ, ◌*◌, ◌+◌, List, sym, subst, arith}
 use Rattle.heesch_grid.specs.declared.isometries.Iso.{Iso}
 use Rattle.heesch_torus.specs.Trying.{tried}
 use Rattle.heesch_torus.specs.Masks.{IsMaskOf, HasDouble, AddsMasks}

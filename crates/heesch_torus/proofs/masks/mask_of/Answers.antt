@@ -1,4 +1,4 @@
-use Rattle.std.proofs.Common.{◌≡◌, pos, inl, inr, sym, ap, ◌∙◌, arith}
+use Rattle.std.proofs.Common.{◌≡◌, pos, inl, inr, sym, ◌∙◌}
 use Rattle.std.specs.Int.{bit_at}
 use Rattle.std.proofs.lemmas.Nat.Bits.{shr_and_one}
 use Rattle.heesch_grid.specs.Cells.{cell}

@@ -1,12 +1,10 @@
-use Rattle.std.proofs.Common.{◌≡◌, sym, ap, subst, ◌∙◌}
-use Rattle.std.specs.Prelude.{Some, slice_index}
-use Rattle.std.specs.List.{slice_get}
+use Rattle.std.proofs.Common.{sym, ap, subst, ◌∙◌}
+use Rattle.std.specs.Prelude.{Some}
 use Rattle.heesch_grid.specs.declared.Cell.{Cell}
 use Rattle.heesch_grid.specs.Geometry.{IsCell, apply}
 use Rattle.heesch_grid.specs.Lattice.{IsReduced}
 use Rattle.heesch_grid.proofs.ReductionFacts.{is_reduced}
 use Rattle.heesch_tiling.specs.Counting.{in_window}
-use Rattle.heesch_torus.specs.Formula.{reduced_cells}
 use Rattle.heesch_torus.proofs.points.point_of.Goals as goal
 
 pub number_of-requires-clause-reduced : goal.number_of-requires-clause-reduced

@@ -1,4 +1,4 @@
-use Rattle.std.proofs.Common.{◌≡◌, ◌+◌, ℕ, true, false, sym, ap, subst, ◌∙◌, arith}
+use Rattle.std.proofs.Common.{◌≡◌, ◌+◌, true, false, sym, ap, ◌∙◌, arith}
 use Rattle.heesch_tiling.specs.Counting.{in_window, window_size}
 use Rattle.heesch_torus.proofs.Masking.{numbered_more, numbered_points}
 use Rattle.heesch_torus.proofs.points.points_of.Goals as goal

@@ -12,8 +12,9 @@ returns-in_err-fed c =
     let p = err_from_is_err_and c.from_residual.result c.from_residual.ensures.1 in
     let going : c.self.inside.reader.refusal ≡ None = subst (λ (s : Streamed). s.kept.refusal ≡ None) (sym c.self.view_is) c.requires.going in
     let told = subst (λ r. FeedResult c.self.inside.reader c.feed-fed.new.self c.args.items.now c.feed-fed.new.items c.args.piece.now r) c.in_err-fed.was c.feed-fed.ensures in
+    let count : c.self.inside.count ≡ c.args.self.now.count = ap (λ (s : Streamed). s.count) c.self.view_is in
     rw (p.1, p.2) (subst (λ (s : Streamed). FeedsPiece s (record { kept = c.feed-fed.new.self; count = c.self.inside.count; line = c.self.inside.line }) c.args.items.now c.feed-fed.new.items c.args.piece.now (Err (stop_of c.in_err-fed.field-0.0))) c.self.view_is
-    (feed_refuses (record { kept = c.self.inside.reader; count = c.self.inside.count; line = c.self.inside.line }) (record { kept = c.feed-fed.new.self; count = c.self.inside.count; line = c.self.inside.line }) c.args.items.now c.feed-fed.new.items c.args.piece.now c.in_err-fed.field-0.0 going told))
+    (feed_refuses (record { kept = c.self.inside.reader; count = c.self.inside.count; line = c.self.inside.line }) (record { kept = c.feed-fed.new.self; count = c.self.inside.count; line = c.self.inside.line }) c.args.items.now c.feed-fed.new.items c.args.piece.now c.in_err-fed.field-0.0 going told (omega (arith, count, c.requires.room))))
 
 pub invariant_of-self-2 : goal.invariant_of-self-2
 invariant_of-self-2 c =

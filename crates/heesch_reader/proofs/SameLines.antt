@@ -1,13 +1,15 @@
 -- Lines in one text are the same lines, as far as both go.
-use Rattle.std.proofs.Common.{◌≡◌, ◌⊎◌, inl, inr, ℕ, List, [], ◌∷◌, ◌++◌, refl, sym, ap, ◌∙◌}
+use Rattle.std.proofs.Common.{◌≡◌, ◌⊎◌, inl, inr, ℕ, ◌≤◌, List, [], ◌∷◌, ◌++◌, length, refl, sym, ap, ◌∙◌, append_assoc, arith}
 use Rattle.std.specs.List.{AllByRecursion}
 use Rattle.std.proofs.lemmas.List.{append-nil}
 use Rattle.heesch_text.specs.declared.line.Line.{Line}
-use Rattle.heesch_text.specs.Lines.{words_of, text_of}
+use Rattle.heesch_text.specs.Lines.{words_of, line_text, text_of}
 use Rattle.heesch_line.specs.Forms.{IsLine, HasNoNewline}
 use Rattle.heesch_line.proofs.LinesAgain.{words_tell}
 use Rattle.heesch_line.proofs.Newlines.{no_newline}
-use Rattle.heesch_check.proofs.Blocks.{line_front}
+
+pub line_front : (line : Line) (ls : List Line) (more : List ℕ) → text_of (line ∷ ls) ++ more ≡ words_of line ++ 10 ∷ (text_of ls ++ more)
+line_front line ls more = append_assoc (line_text line) (text_of ls) more ∙ append_assoc (words_of line) (10 ∷ []) (text_of ls ++ more)
 
 -- bytes have one first line
 pub one_first_line : (w v xs ys : List ℕ) → HasNoNewline w → HasNoNewline v → w ++ 10 ∷ xs ≡ v ++ 10 ∷ ys → (w ≡ v) × (xs ≡ ys)
@@ -45,7 +47,21 @@ along (l ∷ ls) (m ∷ ms) a b f g e =
       | inr r ↦ inr (record { more = r.more; lines = rw same (ap (λ (x : List Line). m ∷ x) r.lines); bytes = r.bytes; forms = r.forms })
     ]
 
-nothing_left : (more : List Line) → AllByRecursion IsLine more → text_of more ++ [] ≡ [] → more ≡ []
+-- lines, and bytes of one more, are known by their text
+pub same_reading : (ls ms : List Line) (a b : List ℕ) → AllByRecursion IsLine ls → AllByRecursion IsLine ms → HasNoNewline a → HasNoNewline b → text_of ls ++ a ≡ text_of ms ++ b → (ls ≡ ms) × (a ≡ b)
+same_reading ls ms a b f g h k e = elim (along ls ms a b f g e) [
+  | inl r ↦ ended ls ms a b h r
+  | inr r ↦ let s = ended ms ls b a k r in (sym s.0, sym s.1)
+]
+  where
+    ended : (ls ms : List Line) (a b : List ℕ) → HasNoNewline a → GoesOn ls ms a b → (ls ≡ ms) × (a ≡ b)
+    ended ls ms a b h r = by_more r.more r.lines r.bytes
+      where
+        by_more : (more : List Line) → ms ≡ ls ++ more → a ≡ text_of more ++ b → (ls ≡ ms) × (a ≡ b)
+        by_more [] lines bytes = (sym (lines ∙ append-nil ls), bytes)
+        by_more (line ∷ more) lines bytes = absurd (no_first_line (words_of line) (text_of more ++ b) a h (bytes ∙ line_front line more b))
+
+pub nothing_left : (more : List Line) → AllByRecursion IsLine more → text_of more ++ [] ≡ [] → more ≡ []
 nothing_left [] f e = refl
 nothing_left (l ∷ more) f e = absurd (no_first_line (words_of l) (text_of more ++ []) [] tt (sym e ∙ line_front l more []))
 
@@ -56,3 +72,23 @@ same_lines ls ms f g e =
       | inl r ↦ sym (r.lines ∙ ap (λ (x : List Line). ls ++ x) (nothing_left r.more r.forms (sym r.bytes)) ∙ append-nil ls)
       | inr r ↦ r.lines ∙ ap (λ (x : List Line). ms ++ x) (nothing_left r.more r.forms (sym r.bytes)) ∙ append-nil ms
     ]
+
+-- ---- the bytes at the front
+
+-- the longer of two fronts goes on from the shorter
+pub front_on : (xs ys us vs : List ℕ) → xs ++ us ≡ ys ++ vs → length ys ≤ length xs → (more : List ℕ) × (xs ≡ ys ++ more)
+front_on xs [] us vs e le = (xs, refl)
+front_on [] (y ∷ ys) us vs e le = absurd (omega arith)
+front_on (x ∷ xs) (y ∷ ys) us vs e le =
+    let t : x ≡ y = cc in
+    let r = front_on xs ys us vs (cc) (omega arith) in
+    (r.0, ap (λ (u : ℕ). u ∷ xs) t ∙ ap (λ (u : List ℕ). y ∷ u) r.1)
+
+-- of one length, they are the same
+pub same_front : (xs ys us vs : List ℕ) → xs ++ us ≡ ys ++ vs → length xs ≡ length ys → xs ≡ ys
+same_front [] [] us vs e le = refl
+same_front [] (y ∷ ys) us vs e le = absurd (omega arith)
+same_front (x ∷ xs) [] us vs e le = absurd (omega arith)
+same_front (x ∷ xs) (y ∷ ys) us vs e le =
+    let t : x ≡ y = cc in
+    ap (λ (u : ℕ). u ∷ xs) t ∙ ap (λ (u : List ℕ). y ∷ u) (same_front xs ys us vs (cc) (omega arith))

@@ -22,20 +22,28 @@ use Rattle.heesch_text.specs.Catalogue.{step_line, last_line, proof_lines, layer
 use Rattle.heesch_reader.specs.Feeding.{IsInside}
 use Rattle.heesch_reader.proofs.Walking.{all_append}
 
+-- the line stands behind an entry's verdict
+abbrev pub IsEvidence : Line → Type 0
+IsEvidence (lines.Header header) = ⊥
+IsEvidence (lines.Shape cells) = ⊥
+IsEvidence (lines.Verdict verdict) = ⊥
+IsEvidence (lines.End count) = ⊥
+IsEvidence line = Unit {0}
+
 abbrev Inside : List Line → Type 0
-Inside ls = AllByRecursion IsInside ls
+Inside ls = AllByRecursion IsEvidence ls
 
 steps_inside : (done : List Step) → Inside (map step_line done)
 steps_inside [] = tt
 steps_inside (steps.Learn clause hints ∷ done) = (tt, steps_inside done)
 steps_inside (steps.Cut cut ∷ done) = (tt, steps_inside done)
 
-last_inside : (last : Option (List ℕ)) → IsInside (last_line last)
+last_inside : (last : Option (List ℕ)) → IsEvidence (last_line last)
 last_inside None = tt
 last_inside (Some hints) = tt
 
 proof_inside : (p : Proof) → Inside (proof_lines p)
-proof_inside p = all_append IsInside (map step_line p.steps) (last_line p.last ∷ []) (steps_inside p.steps) (last_inside p.last, tt)
+proof_inside p = all_append IsEvidence (map step_line p.steps) (last_line p.last ∷ []) (steps_inside p.steps) (last_inside p.last, tt)
 
 layers_inside : (layers : List (List Iso)) → Inside (layer_lines layers)
 layers_inside [] = tt
@@ -61,7 +69,7 @@ wider_inside (Some wider) = (tt, layers_inside wider.layers)
 
 triples_inside : (triples : List TripleProof) → Inside (flat_map triple_lines triples)
 triples_inside [] = tt
-triples_inside (t ∷ triples) = all_append IsInside (triple_lines t) (flat_map triple_lines triples) (tt, proof_inside t.proof) (triples_inside triples)
+triples_inside (t ∷ triples) = all_append IsEvidence (triple_lines t) (flat_map triple_lines triples) (tt, proof_inside t.proof) (triples_inside triples)
 
 tiles_inside : (places : List Iso) (members : List Member) → Inside (tile_lines places members)
 tiles_inside [] members = tt
@@ -76,10 +84,10 @@ evidence_inside verdict (evidences.Search free wall bare wider triples) =
     let b = bare_inside level (wider_count wider) (last_number verdict) bare in
     let c = wider_inside wider in
     let d = triples_inside triples in
-    let ab = all_append IsInside (wall_lines level wall) (bare_lines level (wider_count wider) (last_number verdict) bare) a b in
-    let abc = all_append IsInside (wall_lines level wall ++ bare_lines level (wider_count wider) (last_number verdict) bare) (wider_lines wider) ab c in
-    let abcd = all_append IsInside ((wall_lines level wall ++ bare_lines level (wider_count wider) (last_number verdict) bare) ++ wider_lines wider) (flat_map triple_lines triples) abc d in
-    (tt, all_append IsInside (layer_lines free.layers) _ (layers_inside free.layers) abcd)
+    let ab = all_append IsEvidence (wall_lines level wall) (bare_lines level (wider_count wider) (last_number verdict) bare) a b in
+    let abc = all_append IsEvidence (wall_lines level wall ++ bare_lines level (wider_count wider) (last_number verdict) bare) (wider_lines wider) ab c in
+    let abcd = all_append IsEvidence ((wall_lines level wall ++ bare_lines level (wider_count wider) (last_number verdict) bare) ++ wider_lines wider) (flat_map triple_lines triples) abc d in
+    (tt, all_append IsEvidence (layer_lines free.layers) _ (layers_inside free.layers) abcd)
 
 -- the lines behind an entry's shape
 abbrev pub body_lines : Entry → List Line
@@ -88,8 +96,19 @@ body_lines e = lines.Verdict e.verdict ∷ evidence_lines e.verdict e.evidence
 pub entry_shape : (e : Entry) → entry_lines e ≡ lines.Shape e.cells ∷ body_lines e
 entry_shape e = refl
 
+one_inside : (line : Line) → IsEvidence line → IsInside line
+one_inside (lines.Header header) e = e
+one_inside (lines.Shape cells) e = e
+one_inside (lines.Verdict verdict) e = tt
+one_inside (lines.End count) e = e
+one_inside line e = tt
+
+all_inside : (ls : List Line) → AllByRecursion IsEvidence ls → AllByRecursion IsInside ls
+all_inside [] h = tt
+all_inside (line ∷ ls) h = (one_inside line h.0, all_inside ls h.1)
+
 pub body_inside : (e : Entry) → AllByRecursion IsInside (body_lines e)
-body_inside e = (tt, evidence_inside e.verdict e.evidence)
+body_inside e = (tt, all_inside (evidence_lines e.verdict e.evidence) (evidence_inside e.verdict e.evidence))
 
 -- an entry has more lines than its shape and its verdict
 pub not_brief : (verdict : Verdict) (evidence : Evidence) → evidence_lines verdict evidence ≡ [] → ⊥
