@@ -8,7 +8,7 @@ use Rattle.heesch_grid.specs.Lattice.{Triple}
 use Rattle.heesch_grid.specs.Polyform.{IsPolyform}
 use Rattle.heesch_cnf.specs.declared.literal.Lit.{Lit}
 use Rattle.heesch_cnf.specs.declared.log.Log.{Log}
-use Rattle.heesch_cnf.specs.declared.formula.Formula.{Formula}
+use Rattle.heesch_cnf.specs.Flat.{Clauses}
 use Rattle.heesch_cnf.specs.Lines.{Refutes, IsSpent, LinesHold, LinesAreNew, HasFinal, clauses_with}
 use Rattle.heesch_cnf.specs.declared.log.Line.TheVariants.{Given}
 use Rattle.heesch_rup.specs.Answer.{FailsAtLine, FinalFails, IsFirstBad}
@@ -85,7 +85,7 @@ module _ (g : Geometry) (law : IsGrid g) (shape : List Cell) (form : IsPolyform 
       let fits = r.fits in
       omega (arith, above, fits)
 
-  module _ (u : Levels) (f : Formula) (at : IsFormulaAt g shape j size u f) where
+  module _ (u : Levels) (f : Clauses) (at : IsFormulaAt g shape j size u f) where
     pub not_too_large : ¬ IsTooLarge g shape j size
     not_too_large large =
         let above = (too_large_exactly g law shape form j u.vars f.vars f.clauses at.counted size).0 large in
@@ -127,7 +127,7 @@ module _ (g : Geometry) (law : IsGrid g) (shape : List Cell) (form : IsPolyform 
 
 -- ---- proofs over a torus formula
 
-module _ (g : Geometry) (shape : List Cell) (turns : ℕ) (t : Triple) (proof : Proof) (f : Formula) (of : IsFormulaOf g shape t f.vars f.clauses) (log : Log) (no_cut : HasNoCut proof) (is : log ≡ log_of [] proof) where
+module _ (g : Geometry) (shape : List Cell) (turns : ℕ) (t : Triple) (proof : Proof) (f : Clauses) (of : IsFormulaOf g shape t f.vars f.clauses) (log : Log) (no_cut : HasNoCut proof) (is : log ≡ log_of [] proof) where
   refutes : Refutes f.vars f.clauses log ↔ RefutesTorus g shape t (log_of [] proof)
   refutes =
       let exactly = refutes_torus_exactly g shape t of.sets f.clauses of.is_formula (log_of [] proof) in (

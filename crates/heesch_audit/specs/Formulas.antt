@@ -3,14 +3,14 @@ use Rattle.std.specs.Prelude.{◌≡◌, ◌≤◌, ℕ, List, ⊤}
 use Rattle.heesch_grid.specs.declared.Cell.{Cell}
 use Rattle.heesch_grid.specs.Clauses.{formula_size}
 use Rattle.heesch_grid.specs.Geometry.{Geometry}
-use Rattle.heesch_cnf.specs.declared.formula.Formula.{Formula}
+use Rattle.heesch_cnf.specs.Flat.{Clauses}
 use Rattle.heesch_cert.specs.Formulas.{IsCountedFormula}
 use Rattle.heesch_cert.specs.declared.entry.Bare.{Bare}
 use Rattle.heesch_cert.specs.declared.entry.Bare.TheVariants.{Absent as NoBare, Same as BareSame, Open as BareOpen}
 use Rattle.heesch_place.specs.Universes.{Levels, IsUniverseOf}
 
 -- the formula is E(S, j) over this universe, and has at most `size` literals
-pub record IsFormulaAt (g : Geometry) (shape : List Cell) (j size : ℕ) (universe : Levels) (formula : Formula) : Type 0 where
+pub record IsFormulaAt (g : Geometry) (shape : List Cell) (j size : ℕ) (universe : Levels) (formula : Clauses) : Type 0 where
   pub is_universe : IsUniverseOf g universe
   pub same_shape : universe.shape ≡ shape
   pub same_level : universe.level ≡ j

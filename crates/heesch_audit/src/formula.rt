@@ -8,7 +8,7 @@ ghost use Rattle.heesch_audit.specs.Shapes.{IsCanonicalShape};
 
 use crate::logs::{is_refuted, is_spent, lawful_log};
 use heesch_cert::{Limits, Proof};
-use heesch_encode::{EncodeStop, Encoded, encode};
+use heesch_encode::{EncodeStop, FlatEncoded, encode_flat};
 use heesch_grid::Grid;
 use heesch_io::NoMemory;
 use heesch_shape::Shape;
@@ -19,7 +19,7 @@ use std::alloc::Global;
 pub(crate) struct LevelFormula<G: Grid> {
     pub limits: Limits,
     pub level: u32,
-    pub encoded: Option<Encoded<G>>,
+    pub encoded: Option<FlatEncoded<G>>,
 }
 
 /// The formula of a level. It is the one at hand where that is of this level; else that one is let go before this is made.
@@ -44,7 +44,7 @@ pub(crate) fn level_formula<G: Grid>(
             return Ok(formula);
         }
     }
-    let encoded = match encode(alloc, shape, level, limits.size) {
+    let encoded = match encode_flat(alloc, shape, level, limits.size) {
         Ok(encoded) => Some(encoded),
         Err(EncodeStop::TooLarge) => None,
         Err(EncodeStop::NoMemory) => return Err(NoMemory),

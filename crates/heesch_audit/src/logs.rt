@@ -7,12 +7,12 @@ ghost use Rattle.heesch_audit.specs.Logs.{IsLineOf, IsLogOf};
 ghost use Rattle.heesch_audit.specs.Near.{IsNearProof, IsNearStep};
 
 use heesch_cert::{Proof, Step};
-use heesch_cnf::{Formula, Hints, Line, Lits, Log};
+use heesch_cnf::{FlatFormula, Hints, Line, Lits, Log};
 use heesch_cuts::{clause_of, lawful};
 use heesch_grid::Grid;
 use heesch_io::{NoMemory, Seq};
 use heesch_place::Universe;
-use heesch_rup::{LogAnswer, all_new, check_log};
+use heesch_rup::{LogAnswer, all_new_flat, check_log_flat};
 use heesch_shape::Shape;
 use std::alloc::Global;
 
@@ -120,10 +120,10 @@ pub(crate) fn lawful_log<G: Grid>(
 }
 
 /// Whether the log refutes the formula.
-pub(crate) fn is_refuted(alloc: Global, formula: &Formula, log: &Log) -> Result<bool, NoMemory>
+pub(crate) fn is_refuted(alloc: Global, formula: &FlatFormula, log: &Log) -> Result<bool, NoMemory>
     ensures { IfOk result (λ yes. IsTrue yes ↔ Refutes formula.now.vars formula.now.clauses log.now) }
 {
-    match check_log(alloc, formula, log)? {
+    match check_log_flat(alloc, formula, log)? {
         LogAnswer::Refuted => Ok(true),
         LogAnswer::Open => Ok(false),
         LogAnswer::BadLine { .. } => Ok(false),
@@ -134,7 +134,7 @@ pub(crate) fn is_refuted(alloc: Global, formula: &Formula, log: &Log) -> Result<
 /// and no final line.
 pub(crate) fn is_spent(
     alloc: Global,
-    formula: &Formula,
+    formula: &FlatFormula,
     log: &Log,
     turns: u32,
 ) -> Result<bool, NoMemory>
@@ -143,8 +143,8 @@ pub(crate) fn is_spent(
     if log.lines.len() != turns as usize {
         return Ok(false);
     }
-    match check_log(alloc, formula, log)? {
-        LogAnswer::Open => all_new(alloc, formula, log),
+    match check_log_flat(alloc, formula, log)? {
+        LogAnswer::Open => all_new_flat(alloc, formula, log),
         LogAnswer::Refuted => Ok(false),
         LogAnswer::BadLine { .. } => Ok(false),
     }
@@ -153,7 +153,7 @@ pub(crate) fn is_spent(
 /// Whether the log refutes the formula, or is spent for so many turns over it. It is checked once.
 pub(crate) fn is_ended(
     alloc: Global,
-    formula: &Formula,
+    formula: &FlatFormula,
     log: &Log,
     turns: u32,
 ) -> Result<bool, NoMemory>

@@ -1,4 +1,4 @@
-use Rattle.std.proofs.Common.{◌≡◌, ◌≢◌, ℕ, ◌<◌, ◌≤◌, Bool, IsTrue, ◌↔◌, List, [], length, get_or, take, map, sym, subst, arith, get_or-take, length-take-le}
+use Rattle.std.proofs.Common.{◌≡◌, ◌≢◌, ℕ, ◌<◌, ◌≤◌, Bool, IsTrue, ◌↔◌, List, [], length, get_or, take, map, All, sym, subst, arith, get_or-take, length-take-le}
 use Rattle.std.proofs.lemmas.List.Elements.{All-append, All-map}
 use Rattle.std.proofs.lemmas.List.{take_all as take_whole}
 use Rattle.heesch_cnf.specs.declared.literal.Lit.{Lit}
@@ -11,6 +11,10 @@ use Rattle.heesch_cnf.specs.Lines.{IsShown, LineHolds, HoldsAtLine, LinesHold, c
 pub line-form : (vars : ℕ) (clauses : List (List Lit)) (line : Line) → LineHolds vars clauses line → IsClause vars (clause_of line)
 line-form vars clauses (Learn clause hints) holds = holds.1.0
 line-form vars clauses (Given clause) holds = holds
+
+-- each line's clause is one over the variables, where all lines hold
+pub lines-form : (vars : ℕ) (clauses : List (List Lit)) (lines : List Line) → LinesHold vars clauses lines → All (λ line. IsClause vars (clause_of line)) lines
+lines-form vars clauses lines hold k d lt = line-form vars _ (get_or lines k d) (hold k lt d)
 
 pub AreClauses-with : (vars : ℕ) (clauses : List (List Lit)) (lines : List Line) (n : ℕ) → n ≤ length lines → AreClauses vars clauses →
     ((k : ℕ) → k < n → HoldsAtLine vars clauses lines k) → AreClauses vars (clauses_with clauses (take n lines))

@@ -1,13 +1,13 @@
-ghost use Rattle.std.specs.Prelude.{◌≡◌, ◌<◌, length, All, IfOk, OnOk, vec_len};
+ghost use Rattle.std.specs.Prelude.{◌≡◌, ◌++◌, ◌<◌, length, All, IfOk, OnOk, vec_len};
 ghost use Rattle.heesch_cnf.specs.Literals.{held};
 ghost use Rattle.heesch_cnf.specs.Clauses.{AreClauses};
-ghost use Rattle.heesch_cnf.specs.Lines.{clauses_with, reaches_conflict, refuting, AreNumbers};
+ghost use Rattle.heesch_cnf.specs.Lines.{reaches_conflict, refuting, AreNumbers};
 ghost use Rattle.heesch_rup.specs.Assigned.{all_open};
 
 use crate::assignment::Assignment;
 use crate::numbers::clause_at;
 use crate::status::{Status, status_of};
-use heesch_cnf::{Formula, Line, Lit};
+use heesch_cnf::{FlatFormula, Lit};
 use heesch_io::NoMemory;
 
 /// Makes every literal of the clause false.
@@ -30,19 +30,19 @@ pub fn refute(assignment: &mut Assignment, clause: &[Lit]) -> Result<(), NoMemor
 /// Whether the hints, taken in order, end in a conflict. It reads the hinted clauses up to the first that settles it.
 pub fn reaches_conflict(
     assignment: &mut Assignment,
-    formula: &Formula,
-    lines: &[Line],
+    formula: &FlatFormula,
+    added: &FlatFormula,
     hints: &[u32],
 ) -> Result<bool, NoMemory>
     requires room { formula.now.vars < vec_len assignment.old.values }
-    requires form { AreClauses formula.now.vars (clauses_with formula.now.clauses lines.now) }
-    requires numbers { AreNumbers (clauses_with formula.now.clauses lines.now) hints.now }
+    requires form { AreClauses formula.now.vars (formula.now.clauses ++ added.now.clauses) }
+    requires numbers { AreNumbers (formula.now.clauses ++ added.now.clauses) hints.now }
     ensures room { vec_len assignment.new.values ≡ vec_len assignment.old.values }
-    ensures ok { let clauses = clauses_with formula.now.clauses lines.now in
+    ensures ok { let clauses = formula.now.clauses ++ added.now.clauses in
         IfOk result (λ yes. yes ≡ reaches_conflict clauses (held assignment.old.values.items) hints.now) }
 {
     for (i, hint) in hints.iter().enumerate() {
-        match status_of(assignment, clause_at(formula, lines, *hint as usize - 1)) {
+        match status_of(assignment, clause_at(formula, added, *hint as usize - 1)) {
             Status::Falsified => return Ok(i + 1 == hints.len()),
             Status::Unit(lit) => assignment.assign(lit)?,
             Status::Other => return Ok(false),

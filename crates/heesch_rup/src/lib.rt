@@ -1,6 +1,7 @@
-//! The check of a log, line by line, and whether its lines are new. It shares no code with the solver.
+//! The check of a log, line by line, and whether its lines are new. Of the solver it shares the types alone, and none of its code.
 #![tactic(auto)]
 
+mod added;
 mod assignment;
 mod check;
 mod hints;
@@ -11,5 +12,5 @@ mod status;
 #[cfg(test)]
 mod tests;
 
-pub use check::{LogAnswer, check_log};
-pub use newness::all_new;
+pub use check::{LogAnswer, check_log, check_log_flat};
+pub use newness::{all_new, all_new_flat};

@@ -1,7 +1,7 @@
-ghost use Rattle.std.specs.Prelude.{◌≡◌, ◌-◌, ◌<◌, [], length, All, IsTrue, ◌↔◌, slice_index_or};
-ghost use Rattle.heesch_cnf.specs.Lines.{clause_of, clauses_with, IsNumber, AreNumbers};
+ghost use Rattle.std.specs.Prelude.{◌≡◌, ◌++◌, ◌<◌, [], length, All, IsTrue, ◌↔◌, slice_index_or};
+ghost use Rattle.heesch_cnf.specs.Lines.{clause_of, IsNumber, AreNumbers};
 
-use heesch_cnf::{Formula, Line, Lit};
+use heesch_cnf::{FlatFormula, Line, Lit, PackedLit};
 
 /// The clause of a line.
 pub fn clause_of(line: &Line) -> &[Lit]
@@ -12,30 +12,33 @@ pub fn clause_of(line: &Line) -> &[Lit]
     }
 }
 
-/// The clause at a place, from 0, among the clauses of the formula and then of the lines.
-pub fn clause_at<'a>(formula: &'a Formula, lines: &'a [Line], place: usize) -> &'a [Lit]
-    requires { place < length (clauses_with formula.now.clauses lines.now) }
-    ensures { result.now ≡ slice_index_or (clauses_with formula.now.clauses lines.now) place [] }
+/// The clause at a place, from 0, among the clauses of the formula and then those that lines added. Nothing is copied.
+pub fn clause_at<'a>(
+    formula: &'a FlatFormula,
+    added: &'a FlatFormula,
+    place: usize,
+) -> &'a [PackedLit]
+    requires { place < length (formula.now.clauses ++ added.now.clauses) }
+    ensures { result.now ≡ slice_index_or (formula.now.clauses ++ added.now.clauses) place [] }
 {
-    let clauses = formula.clauses.as_slice();
-    if place < clauses.len() {
-        clauses[place].as_slice()
+    let count = formula.len();
+    if place < count {
+        formula.clause(place)
     } else {
-        clause_of(&lines[place - clauses.len()])
+        added.clause(place - count)
     }
 }
 
-fn is_number(formula: &Formula, lines: &[Line], number: u32) -> bool
-    ensures { IsTrue result ↔ IsNumber (clauses_with formula.now.clauses lines.now) number }
+fn is_number(formula: &FlatFormula, added: &FlatFormula, number: u32) -> bool
+    ensures { IsTrue result ↔ IsNumber (formula.now.clauses ++ added.now.clauses) number }
 {
-    let count = formula.clauses.len();
     let number = number as usize;
-    1 <= number && (number <= count || number - count <= lines.len())
+    1 <= number && number <= formula.len() + added.len()
 }
 
-/// Whether the hints are numbers, from 1, of clauses of the formula and then of the lines.
-pub fn are_numbers(formula: &Formula, lines: &[Line], hints: &[u32]) -> bool
-    ensures { IsTrue result ↔ AreNumbers (clauses_with formula.now.clauses lines.now) hints.now }
+/// Whether the hints are numbers, from 1, of clauses of the formula and then of those that lines added.
+pub fn are_numbers(formula: &FlatFormula, added: &FlatFormula, hints: &[u32]) -> bool
+    ensures { IsTrue result ↔ AreNumbers (formula.now.clauses ++ added.now.clauses) hints.now }
 {
-    hints.iter().all(|hint| is_number(formula, lines, *hint))
+    hints.iter().all(|hint| is_number(formula, added, *hint))
 }

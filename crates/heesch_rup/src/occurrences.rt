@@ -1,14 +1,13 @@
-ghost use Rattle.std.specs.Prelude.{◌≡◌, ◌+◌, ◌*◌, ◌<◌, ◌≤◌, List, length, IfOk, OnOk, MatchBool, vec_len};
+ghost use Rattle.std.specs.Prelude.{◌≡◌, ◌+◌, ◌++◌, ◌*◌, ◌<◌, ◌≤◌, List, length, IfOk, OnOk, MatchBool, vec_len};
 ghost use Rattle.heesch_cnf.specs.declared.literal.Lit.{Lit};
 ghost use Rattle.heesch_cnf.specs.Literals.{held};
 ghost use Rattle.heesch_cnf.specs.Clauses.{AreClauses};
-ghost use Rattle.heesch_cnf.specs.Lines.{clauses_with};
 ghost use Rattle.heesch_rup.specs.Listed.{lit_slot, slot_of, ListsFirst, SomeFalsified, NoneFalsifiedAt};
 
 use crate::assignment::Assignment;
 use crate::numbers::clause_at;
 use crate::status::is_falsified;
-use heesch_cnf::{Formula, Line, Lit};
+use heesch_cnf::{FlatFormula, Lit, PackedLit};
 use heesch_io::NoMemory;
 use std::alloc::Global;
 
@@ -20,12 +19,12 @@ pub fn lit_slot(lit: Lit) -> usize
 }
 
 /// The slot at which a clause is listed: that of its first literal, or 0 for the empty clause.
-pub fn slot_of(clause: &[Lit]) -> usize
+pub fn slot_of(clause: &[PackedLit]) -> usize
     ensures { result ≡ slot_of clause.now }
 {
     match clause {
         [] => 0,
-        [lit, ..] => lit_slot(*lit),
+        [lit, ..] => lit.code(),
     }
 }
 
@@ -51,18 +50,18 @@ impl Occurrences {
         })
     }
 
-    /// Lists the next clause of the formula and the lines. It takes a step, and the cost of a `Vec::push`.
-    pub fn list_next(&mut self, formula: &Formula, lines: &[Line]) -> Result<(), NoMemory>
+    /// Lists the next clause of the formula, or of those that lines added. It takes a step, and the cost of a `Vec::push`.
+    pub fn list_next(&mut self, formula: &FlatFormula, added: &FlatFormula) -> Result<(), NoMemory>
         requires room { 2 * formula.now.vars + 1 < vec_len self.old.last }
-        requires form { AreClauses formula.now.vars (clauses_with formula.now.clauses lines.now) }
-        requires more { vec_len self.old.earlier < length (clauses_with formula.now.clauses lines.now) }
-        requires lists { ListsFirst (clauses_with formula.now.clauses lines.now) self.old }
+        requires form { AreClauses formula.now.vars (formula.now.clauses ++ added.now.clauses) }
+        requires more { vec_len self.old.earlier < length (formula.now.clauses ++ added.now.clauses) }
+        requires lists { ListsFirst (formula.now.clauses ++ added.now.clauses) self.old }
         ensures room { vec_len self.new.last ≡ vec_len self.old.last }
         ensures count { OnOk result (vec_len self.new.earlier ≡ vec_len self.old.earlier + 1) }
-        ensures lists { OnOk result (ListsFirst (clauses_with formula.now.clauses lines.now) self.new) }
+        ensures lists { OnOk result (ListsFirst (formula.now.clauses ++ added.now.clauses) self.new) }
     {
         let place = self.earlier.len();
-        let slot = slot_of(clause_at(formula, lines, place));
+        let slot = slot_of(clause_at(formula, added, place));
         self.earlier.push(self.last[slot])?;
         self.last[slot] = Some(place);
         Ok(())
@@ -72,22 +71,22 @@ impl Occurrences {
     pub fn any_falsified(
         &self,
         assignment: &Assignment,
-        formula: &Formula,
-        lines: &[Line],
+        formula: &FlatFormula,
+        added: &FlatFormula,
         slot: usize,
     ) -> bool
         requires slot { slot < vec_len self.now.last }
         requires room { formula.now.vars < vec_len assignment.now.values }
-        requires form { AreClauses formula.now.vars (clauses_with formula.now.clauses lines.now) }
-        requires lists { ListsFirst (clauses_with formula.now.clauses lines.now) self.now }
-        ensures { let clauses = clauses_with formula.now.clauses lines.now in
+        requires form { AreClauses formula.now.vars (formula.now.clauses ++ added.now.clauses) }
+        requires lists { ListsFirst (formula.now.clauses ++ added.now.clauses) self.now }
+        ensures { let clauses = formula.now.clauses ++ added.now.clauses in
             let values = held assignment.now.values.items in
             let count = vec_len self.now.earlier in
             MatchBool result (SomeFalsified values clauses count) (NoneFalsifiedAt values clauses count slot) }
     {
         let mut next = self.last[slot];
         while let Some(place) = next {
-            if is_falsified(assignment, clause_at(formula, lines, place)) {
+            if is_falsified(assignment, clause_at(formula, added, place)) {
                 return true;
             }
             next = self.earlier[place];

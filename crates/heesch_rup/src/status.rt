@@ -4,7 +4,7 @@ ghost use Rattle.heesch_rup.specs.Status.{IsStatus};
 ghost use Rattle.heesch_rup.specs.Listed.{IsFalsified};
 
 use crate::assignment::Assignment;
-use heesch_cnf::Lit;
+use heesch_cnf::{Lit, PackedLit};
 
 /// What a clause comes to under an assignment.
 #[derive(Debug, Clone, Copy)]
@@ -18,17 +18,18 @@ pub enum Status {
 }
 
 /// The status of a clause. It reads the literals up to the first that settles it.
-pub fn status_of(assignment: &Assignment, clause: &[Lit]) -> Status
+pub fn status_of(assignment: &Assignment, clause: &[PackedLit]) -> Status
     requires { All (λ l. l.var < vec_len assignment.now.values) clause.now }
     ensures { IsStatus (held assignment.now.values.items) clause.now result }
 {
     let mut unit = None;
-    for lit in clause {
-        match assignment.value(*lit) {
+    for packed in clause {
+        let lit = packed.lit();
+        match assignment.value(lit) {
             Some(false) => {}
             Some(true) => return Status::Other,
             None if unit.is_some() => return Status::Other,
-            None => unit = Some(*lit),
+            None => unit = Some(lit),
         }
     }
     match unit {
@@ -38,9 +39,11 @@ pub fn status_of(assignment: &Assignment, clause: &[Lit]) -> Status
 }
 
 /// Whether all literals of the clause are false. It reads the literals up to the first that isn't.
-pub fn is_falsified(assignment: &Assignment, clause: &[Lit]) -> bool
+pub fn is_falsified(assignment: &Assignment, clause: &[PackedLit]) -> bool
     requires { All (λ l. l.var < vec_len assignment.now.values) clause.now }
     ensures { IsTrue result ↔ IsFalsified (held assignment.now.values.items) clause.now }
 {
-    clause.iter().all(|lit| assignment.is_false(*lit))
+    clause
+        .iter()
+        .all(|packed| assignment.is_false(packed.lit()))
 }

@@ -1,14 +1,13 @@
-use Rattle.std.proofs.Common.{take, vec_len, arith}
+use Rattle.std.proofs.Common.{◌++◌, take, vec_len, arith}
 use Rattle.heesch_cnf.specs.Literals.{held}
 use Rattle.heesch_cnf.specs.Clauses.{IsNew}
-use Rattle.heesch_cnf.specs.Lines.{clauses_with}
 use Rattle.heesch_rup.specs.Listed.{SomeFalsified}
 use Rattle.heesch_rup.proofs.Containing.{new_by_cases, not_new_when_some}
 use Rattle.heesch_rup.proofs.newness.is_new.Goals as goal
 
 pub returns-clause-fresh : goal.returns-clause-fresh
 returns-clause-fresh c =
-    let clauses = clauses_with c.args.formula.now.clauses c.args.lines.now in
+    let clauses = c.args.formula.now.clauses ++ c.args.added.now.clauses in
     let values = held c.refute.new.assignment.values.items in
     let n = vec_len c.args.occurrences.now.earlier in
     new_by_cases c.contains_listed-contains.result (SomeFalsified values clauses n) (IsNew (take n clauses) c.args.clause.now) c.contains_listed-contains.ensures

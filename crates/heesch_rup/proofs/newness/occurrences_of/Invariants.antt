@@ -1,5 +1,4 @@
-use Rattle.std.proofs.Common.{◌≡◌, ◌+◌, ◌*◌, vec_len}
-use Rattle.heesch_cnf.specs.Lines.{clauses_with}
+use Rattle.std.proofs.Common.{◌++◌, ◌≡◌, ◌+◌, ◌*◌, vec_len}
 use Rattle.heesch_rup.specs.Listed.{ListsFirst}
 use Rattle.heesch_rup.proofs.newness.occurrences_of.Given as goal
 
@@ -7,5 +6,5 @@ abbrev pub invariant-loop-place : goal.invariant-loop-place
 invariant-loop-place l = record {
   room : vec_len l.listed.last ≡ 2 * l.formula.vars + 2;
   count : vec_len l.listed.earlier ≡ l._place;
-  lists : ListsFirst (clauses_with l.formula.clauses l.lines) l.listed;
+  lists : ListsFirst (l.formula.clauses ++ l.added.clauses) l.listed;
 }

@@ -1,8 +1,7 @@
-use Rattle.std.proofs.Common.{◌≡◌, ◌<◌, true, false, None, List, [], length, get_or, All, vec_len, sym, ◌∙◌, subst, arith}
+use Rattle.std.proofs.Common.{◌++◌, ◌≡◌, ◌<◌, true, false, None, List, [], length, get_or, All, vec_len, sym, ◌∙◌, subst, arith}
 use Rattle.std.proofs.lemmas.List.{get_or_default}
 use Rattle.heesch_cnf.specs.declared.literal.Lit.{Lit}
 use Rattle.heesch_cnf.specs.Literals.{held}
-use Rattle.heesch_cnf.specs.Lines.{clauses_with}
 use Rattle.heesch_rup.specs.Listed.{slot_at, IsFalsified, IsLastBelow}
 use Rattle.heesch_rup.proofs.Steps.{have_places}
 use Rattle.heesch_rup.proofs.Chains.{walk_at, walk_more}
@@ -10,7 +9,7 @@ use Rattle.heesch_rup.proofs.occurrences.Occurrences.any_falsified.Goals as goal
 
 pub is_falsified-requires : goal.is_falsified-requires
 is_falsified-requires c =
-    let clauses = clauses_with c.args.formula.now.clauses c.args.lines.now in
+    let clauses = c.args.formula.now.clauses ++ c.args.added.now.clauses in
     let n = vec_len c.args.assignment.now.values in
     let at = walk_at (held c.args.assignment.now.values.items) clauses (vec_len c.args.self.now.earlier) c.args.slot c.loop-next.next c.in-Some.place c.in-Some.is c.loop-next.invariant in
     subst (λ (ls : List Lit). All (λ l. l.var < n) ls) (sym c.clause_at.ensures)
@@ -18,7 +17,7 @@ is_falsified-requires c =
 
 pub loop-next-preserved : goal.loop-next-preserved
 loop-next-preserved c =
-    let clauses = clauses_with c.args.formula.now.clauses c.args.lines.now in
+    let clauses = c.args.formula.now.clauses ++ c.args.added.now.clauses in
     let values = held c.args.assignment.now.values.items in
     let place = c.in-Some.place in
     let o = c.index-next-in-Some.result.now in

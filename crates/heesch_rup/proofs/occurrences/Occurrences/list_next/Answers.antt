@@ -1,26 +1,25 @@
-use Rattle.std.proofs.Common.{◌≡◌, ℕ, ◌+◌, ◌<◌, [], ◌∷◌, length, length-append, get_or, None, vec_len, sym, ap, ◌∙◌, subst, arith}
-use Rattle.heesch_cnf.specs.Lines.{clauses_with}
+use Rattle.std.proofs.Common.{◌++◌, ◌≡◌, ℕ, ◌+◌, ◌<◌, [], ◌∷◌, length, length-append, get_or, None, vec_len, sym, ap, ◌∙◌, subst, arith}
 use Rattle.heesch_rup.specs.Listed.{slot_of, IsLastBelow}
 use Rattle.heesch_rup.proofs.Chains.{slot_of-lt, lists_last, lists_earlier}
 use Rattle.heesch_rup.proofs.occurrences.Occurrences.list_next.Goals as goal
 
 pub index-requires : goal.index-requires
 index-requires c =
-    let clauses = clauses_with c.args.formula.now.clauses c.args.lines.now in
+    let clauses = c.args.formula.now.clauses ++ c.args.added.now.clauses in
     let same = c.slot_of-slot.ensures ∙ ap slot_of c.clause_at.ensures in
     let fits = slot_of-lt c.args.formula.now.vars (vec_len c.args.self.now.last) (get_or clauses c.len-place.result []) (c.requires.form c.len-place.result [] (omega arith)) c.requires.room in
     omega (arith, same)
 
 pub index_mut-requires : goal.index_mut-requires
 index_mut-requires c =
-    let clauses = clauses_with c.args.formula.now.clauses c.args.lines.now in
+    let clauses = c.args.formula.now.clauses ++ c.args.added.now.clauses in
     let same = c.slot_of-slot.ensures ∙ ap slot_of c.clause_at.ensures in
     let fits = slot_of-lt c.args.formula.now.vars (vec_len c.args.self.now.last) (get_or clauses c.len-place.result []) (c.requires.form c.len-place.result [] (omega arith)) c.requires.room in
     omega (arith, same)
 
 pub returns-clause-lists : goal.returns-clause-lists
 returns-clause-lists c =
-    let clauses = clauses_with c.args.formula.now.clauses c.args.lines.now in
+    let clauses = c.args.formula.now.clauses ++ c.args.added.now.clauses in
     let last = c.args.self.now.last.items in
     let earlier = c.args.self.now.earlier.items in
     let n = c.len-place.result in
