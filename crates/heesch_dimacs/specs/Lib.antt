@@ -1,0 +1,5 @@
+pub mod Formulas
+pub mod Lines
+pub mod Models
+pub mod Stops
+pub mod Words

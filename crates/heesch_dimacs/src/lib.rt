@@ -1,0 +1,14 @@
+//! The clause text of a formula for other solvers, and their models read back.
+#![tactic(auto)]
+
+mod clauses;
+mod falsity;
+mod lines;
+mod model;
+mod named;
+#[cfg(test)]
+mod tests;
+
+pub use clauses::{write_cnf, write_flat_cnf};
+pub use falsity::first_false;
+pub use model::{ModelStop, read_model};
