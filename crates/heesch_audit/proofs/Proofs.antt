@@ -6,6 +6,7 @@ use Rattle.heesch_grid.specs.Clauses.{formula_size}
 use Rattle.heesch_grid.specs.Geometry.{Geometry, IsGrid}
 use Rattle.heesch_grid.specs.Lattice.{Triple}
 use Rattle.heesch_grid.specs.Polyform.{IsPolyform}
+use Rattle.heesch_cnf.specs.declared.version.Version.{Version}
 use Rattle.heesch_cnf.specs.declared.literal.Lit.{Lit}
 use Rattle.heesch_cnf.specs.declared.log.Log.{Log}
 use Rattle.heesch_cnf.specs.Flat.{Clauses}
@@ -72,55 +73,55 @@ if_ok_more P Q f (Err e) p = tt
 
 -- ---- proofs over a corona formula
 
-module _ (g : Geometry) (law : IsGrid g) (shape : List Cell) (form : IsPolyform g shape) (j size : ℕ) where
-  pub too_large_not_refuted : (proof : Proof) → IsTooLarge g shape j size → ¬ RefutesCoronas g shape j size proof
+module _ (version : Version) (g : Geometry) (law : IsGrid g) (shape : List Cell) (form : IsPolyform g shape) (j size : ℕ) where
+  pub too_large_not_refuted : (proof : Proof) → IsTooLarge version g shape j size → ¬ RefutesCoronas version g shape j size proof
   too_large_not_refuted proof large r =
-      let above = (too_large_exactly g law shape form j r.vars r.count r.clauses r.formula size).0 large in
+      let above = (too_large_exactly version g law shape form j r.vars r.count r.clauses r.formula size).0 large in
       let fits = r.fits in
       omega (arith, above, fits)
 
-  pub too_large_not_spent : (turns : ℕ) (proof : Proof) → IsTooLarge g shape j size → ¬ IsSpentOnCoronas g shape j turns size proof
+  pub too_large_not_spent : (turns : ℕ) (proof : Proof) → IsTooLarge version g shape j size → ¬ IsSpentOnCoronas version g shape j turns size proof
   too_large_not_spent turns proof large r =
-      let above = (too_large_exactly g law shape form j r.vars r.count r.clauses r.formula size).0 large in
+      let above = (too_large_exactly version g law shape form j r.vars r.count r.clauses r.formula size).0 large in
       let fits = r.fits in
       omega (arith, above, fits)
 
-  module _ (u : Levels) (f : Clauses) (at : IsFormulaAt g shape j size u f) where
-    pub not_too_large : ¬ IsTooLarge g shape j size
+  module _ (u : Levels) (f : Clauses) (at : IsFormulaAt version g shape j size u f) where
+    pub not_too_large : ¬ IsTooLarge version g shape j size
     not_too_large large =
-        let above = (too_large_exactly g law shape form j u.vars f.vars f.clauses at.counted size).0 large in
+        let above = (too_large_exactly version g law shape form j u.vars f.vars f.clauses at.counted size).0 large in
         let fits = at.fits in
         omega (arith, above, fits)
 
     module _ (proof : Proof) where
       abbrev Exactly : Type 0
-      Exactly = RefutesCoronas g shape j size proof ↔ ((formula_size f.clauses ≤ size) × All (IsLawfulStep g shape j u.vars) proof.steps × Refutes f.vars f.clauses (log_of u.vars proof))
+      Exactly = RefutesCoronas version g shape j size proof ↔ ((formula_size f.clauses ≤ size) × All (IsLawfulStep g shape j u.vars) proof.steps × Refutes f.vars f.clauses (log_of u.vars proof))
 
       both : Exactly
-      both = refutes_exactly g law shape form j u.vars f.vars f.clauses at.counted size proof
+      both = refutes_exactly version g law shape form j u.vars f.vars f.clauses at.counted size proof
 
       lawful_at : All (IsLawfulStep g shape j u.vars) proof.steps → All (IsLawfulStep g shape u.level u.vars) proof.steps
       lawful_at h = subst (λ k. All (IsLawfulStep g shape k u.vars) proof.steps) (sym at.same_level) h
 
-      pub unlawful_not_refuted : (¬ All (IsLawfulStep g shape u.level u.vars) proof.steps) → ¬ RefutesCoronas g shape j size proof
+      pub unlawful_not_refuted : (¬ All (IsLawfulStep g shape u.level u.vars) proof.steps) → ¬ RefutesCoronas version g shape j size proof
       unlawful_not_refuted fails r = fails (lawful_at (both.0 r).1)
 
-      pub unlawful_not_spent : (turns : ℕ) → (¬ All (IsLawfulStep g shape u.level u.vars) proof.steps) → ¬ IsSpentOnCoronas g shape j turns size proof
-      unlawful_not_spent turns fails r = fails (lawful_at ((spent_exactly g law shape form j u.vars f.vars f.clauses at.counted turns size proof).0 r).1)
+      pub unlawful_not_spent : (turns : ℕ) → (¬ All (IsLawfulStep g shape u.level u.vars) proof.steps) → ¬ IsSpentOnCoronas version g shape j turns size proof
+      unlawful_not_spent turns fails r = fails (lawful_at ((spent_exactly version g law shape form j u.vars f.vars f.clauses at.counted turns size proof).0 r).1)
 
       module _ (log : Log) (is : IsLogOf g shape u.level u.vars proof log) where
         lawful : All (IsLawfulStep g shape j u.vars) proof.steps
         lawful = subst (λ k. All (IsLawfulStep g shape k u.vars) proof.steps) at.same_level is.0
 
-        pub refutes_coronas : Refutes f.vars f.clauses log ↔ RefutesCoronas g shape j size proof
+        pub refutes_coronas : Refutes f.vars f.clauses log ↔ RefutesCoronas version g shape j size proof
         refutes_coronas = (
           (λ r. both.1 (at.fits, lawful, subst (Refutes f.vars f.clauses) is.1 r)),
           (λ r. subst (Refutes f.vars f.clauses) (sym is.1) (both.0 r).2),
         )
 
-        pub spent_on_coronas : (turns : ℕ) → IsSpent f.vars f.clauses turns log ↔ IsSpentOnCoronas g shape j turns size proof
+        pub spent_on_coronas : (turns : ℕ) → IsSpent f.vars f.clauses turns log ↔ IsSpentOnCoronas version g shape j turns size proof
         spent_on_coronas turns =
-            let exactly = spent_exactly g law shape form j u.vars f.vars f.clauses at.counted turns size proof in (
+            let exactly = spent_exactly version g law shape form j u.vars f.vars f.clauses at.counted turns size proof in (
               (λ r. exactly.1 (at.fits, lawful, subst (IsSpent f.vars f.clauses turns) is.1 r)),
               (λ r. subst (IsSpent f.vars f.clauses turns) (sym is.1) (exactly.0 r).2),
             )

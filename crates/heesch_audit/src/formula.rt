@@ -2,7 +2,7 @@
 ghost use Rattle.std.specs.Prelude.{◌≡◌, ◌≤◌, ◌↔◌, IsTrue, IfOk, IfSome, MatchOption};
 ghost use Rattle.heesch_cert.specs.Limits.{AreLimits};
 ghost use Rattle.heesch_cert.specs.Proofs.{RefutesCoronas, IsSpentOnCoronas, IsTooLarge};
-ghost use Rattle.heesch_audit.specs.Formulas.{IsFormulaAt};
+ghost use Rattle.heesch_audit.specs.Formulas.{IsLevelFormula};
 ghost use Rattle.heesch_audit.specs.Near.{IsNearProof};
 ghost use Rattle.heesch_audit.specs.Shapes.{IsCanonicalShape};
 
@@ -34,17 +34,17 @@ pub(crate) fn level_formula<G: Grid>(
     requires limits { AreLimits limits }
     requires level { (1 ≤ level) × (level ≤ 6) }
     requires same { IfSome at_hand (λ f. f.limits ≡ limits) }
-    requires at_hand { IfSome at_hand (λ f. MatchOption f.encoded (IsTooLarge G.geometry shape.now f.level f.limits.size) (λ e. IsFormulaAt G.geometry shape.now f.level f.limits.size e.universe e.formula)) }
+    requires at_hand { IfSome at_hand (λ f. IsLevelFormula G.geometry f.limits shape.now f.level f.encoded) }
     ensures limits { IfOk result (λ f. f.limits ≡ limits) }
     ensures level { IfOk result (λ f. f.level ≡ level) }
-    ensures formula { IfOk result (λ f. MatchOption f.encoded (IsTooLarge G.geometry shape.now level limits.size) (λ e. IsFormulaAt G.geometry shape.now level limits.size e.universe e.formula)) }
+    ensures formula { IfOk result (λ f. IsLevelFormula G.geometry limits shape.now level f.encoded) }
 {
     if let Some(formula) = at_hand {
         if formula.level == level {
             return Ok(formula);
         }
     }
-    let encoded = match encode_flat(alloc, shape, level, limits.size) {
+    let encoded = match encode_flat(alloc, shape, level, limits.size, limits.version) {
         Ok(encoded) => Some(encoded),
         Err(EncodeStop::TooLarge) => None,
         Err(EncodeStop::NoMemory) => return Err(NoMemory),
@@ -65,9 +65,9 @@ impl<G: Grid> LevelFormula<G> {
         proof: &Proof,
     ) -> Result<bool, NoMemory>
         requires shape { IsCanonicalShape G.geometry shape.now }
-        requires formula { MatchOption self.now.encoded (IsTooLarge G.geometry shape.now self.now.level self.now.limits.size) (λ e. IsFormulaAt G.geometry shape.now self.now.level self.now.limits.size e.universe e.formula) }
+        requires formula { IsLevelFormula G.geometry self.now.limits shape.now self.now.level self.now.encoded }
         requires near { IsNearProof proof.now }
-        ensures { IfOk result (λ yes. IsTrue yes ↔ RefutesCoronas G.geometry shape.now self.now.level self.now.limits.size proof.now) }
+        ensures { IfOk result (λ yes. IsTrue yes ↔ RefutesCoronas self.now.limits.version G.geometry shape.now self.now.level self.now.limits.size proof.now) }
     {
         let Some(encoded) = &self.encoded else {
             return Ok(false);
@@ -86,9 +86,9 @@ impl<G: Grid> LevelFormula<G> {
         proof: &Proof,
     ) -> Result<bool, NoMemory>
         requires shape { IsCanonicalShape G.geometry shape.now }
-        requires formula { MatchOption self.now.encoded (IsTooLarge G.geometry shape.now self.now.level self.now.limits.size) (λ e. IsFormulaAt G.geometry shape.now self.now.level self.now.limits.size e.universe e.formula) }
+        requires formula { IsLevelFormula G.geometry self.now.limits shape.now self.now.level self.now.encoded }
         requires near { IsNearProof proof.now }
-        ensures { IfOk result (λ yes. IsTrue yes ↔ IsSpentOnCoronas G.geometry shape.now self.now.level self.now.limits.turns self.now.limits.size proof.now) }
+        ensures { IfOk result (λ yes. IsTrue yes ↔ IsSpentOnCoronas self.now.limits.version G.geometry shape.now self.now.level self.now.limits.turns self.now.limits.size proof.now) }
     {
         let Some(encoded) = &self.encoded else {
             return Ok(false);
@@ -102,8 +102,8 @@ impl<G: Grid> LevelFormula<G> {
     /// Whether the formula has more literals than the limits allow.
     pub(crate) fn is_too_large(&self, shape: &Shape<G>) -> bool
         requires shape { IsCanonicalShape G.geometry shape.now }
-        requires formula { MatchOption self.now.encoded (IsTooLarge G.geometry shape.now self.now.level self.now.limits.size) (λ e. IsFormulaAt G.geometry shape.now self.now.level self.now.limits.size e.universe e.formula) }
-        ensures { IsTrue result ↔ IsTooLarge G.geometry shape.now self.now.level self.now.limits.size }
+        requires formula { IsLevelFormula G.geometry self.now.limits shape.now self.now.level self.now.encoded }
+        ensures { IsTrue result ↔ IsTooLarge self.now.limits.version G.geometry shape.now self.now.level self.now.limits.size }
     {
         // Reading the cells tells the proof that they are a polyform.
         let _cells = shape.cells();

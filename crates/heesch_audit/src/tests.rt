@@ -4,7 +4,7 @@ use heesch_cert::{
     Bare, Cells, Classes, Cut, Entry, Evidence, Isos, Kind, Layers, Limits, Member, Phase, Proof,
     Step, Tiling, Verdict, Wall,
 };
-use heesch_cnf::Hints;
+use heesch_cnf::{Hints, Version};
 use heesch_grid::{Cell, Grid, Iamond, Iso, Square};
 use heesch_io::Seq;
 use heesch_lattice::Triple;
@@ -17,6 +17,7 @@ const LIMITS: Limits = Limits {
     levels: 3,
     domain: 4,
     size: 60_000_000,
+    version: Version::One,
 };
 
 /// The limits under which nothing but one corona is sought.

@@ -3,7 +3,7 @@ ghost use Rattle.std.specs.Prelude.{◌≡◌, ◌≤◌, ◌↔◌, IsTrue, IfO
 ghost use Rattle.heesch_cert.specs.Limits.{AreLimits};
 ghost use Rattle.heesch_cert.specs.Proofs.{IsTooLarge};
 ghost use Rattle.heesch_cert.specs.TrueEntry.{first_number, last_number, FormFits, WallShows, SameWhereNoCut, BareShows};
-ghost use Rattle.heesch_audit.specs.Formulas.{IsFormulaAt, AsksFormula};
+ghost use Rattle.heesch_audit.specs.Formulas.{IsLevelFormula, AsksFormula};
 ghost use Rattle.heesch_audit.specs.Near.{IsNearEvidence, IsNearWall, IsNearBare};
 ghost use Rattle.heesch_audit.specs.Shapes.{IsCanonicalShape};
 ghost use Rattle.heesch_audit.specs.Walls.{IsSearchFailure};
@@ -52,7 +52,7 @@ fn wall_shows<G: Grid>(
     wall: &Wall,
 ) -> Result<bool, NoMemory>
     requires shape { IsCanonicalShape G.geometry shape.now }
-    requires formula { MatchOption formula.now.encoded (IsTooLarge G.geometry shape.now formula.now.level formula.now.limits.size) (λ e. IsFormulaAt G.geometry shape.now formula.now.level formula.now.limits.size e.universe e.formula) }
+    requires formula { IsLevelFormula G.geometry formula.now.limits shape.now formula.now.level formula.now.encoded }
     requires near { IsNearWall wall.now }
     ensures { IfOk result (λ yes. IsTrue yes ↔ WallShows G.geometry formula.now.limits shape.now formula.now.level wall.now) }
 {
@@ -89,7 +89,7 @@ fn bare_shows<G: Grid>(
     bare: &Bare,
 ) -> Result<bool, NoMemory>
     requires shape { IsCanonicalShape G.geometry shape.now }
-    requires formula { MatchOption formula.now.encoded (IsTooLarge G.geometry shape.now formula.now.level formula.now.limits.size) (λ e. IsFormulaAt G.geometry shape.now formula.now.level formula.now.limits.size e.universe e.formula) }
+    requires formula { IsLevelFormula G.geometry formula.now.limits shape.now formula.now.level formula.now.encoded }
     requires near { IsNearBare bare.now }
     ensures { IfOk result (λ yes. IsTrue yes ↔ BareShows G.geometry formula.now.limits shape.now formula.now.level bare.now) }
 {
@@ -133,7 +133,7 @@ fn bare_shows_at<G: Grid>(
 ) -> Result<bool, NoMemory>
     requires shape { IsCanonicalShape G.geometry shape.now }
     requires limits { AreLimits at_hand.limits }
-    requires at_hand { MatchOption at_hand.encoded (IsTooLarge G.geometry shape.now at_hand.level at_hand.limits.size) (λ e. IsFormulaAt G.geometry shape.now at_hand.level at_hand.limits.size e.universe e.formula) }
+    requires at_hand { IsLevelFormula G.geometry at_hand.limits shape.now at_hand.level at_hand.encoded }
     requires level { AsksFormula bare.now → (1 ≤ m) × (m ≤ 6) }
     requires near { IsNearBare bare.now }
     ensures { IfOk result (λ yes. IsTrue yes ↔ BareShows G.geometry at_hand.limits shape.now m bare.now) }
@@ -158,7 +158,7 @@ fn bare_holds<G: Grid>(
 ) -> Result<bool, NoMemory>
     requires shape { IsCanonicalShape G.geometry shape.now }
     requires limits { AreLimits at_hand.limits }
-    requires at_hand { MatchOption at_hand.encoded (IsTooLarge G.geometry shape.now at_hand.level at_hand.limits.size) (λ e. IsFormulaAt G.geometry shape.now at_hand.level at_hand.limits.size e.universe e.formula) }
+    requires at_hand { IsLevelFormula G.geometry at_hand.limits shape.now at_hand.level at_hand.encoded }
     requires level { AsksFormula bare.now → (1 ≤ m) × (m ≤ 6) }
     requires near { IsNearBare bare.now }
     ensures { IfOk result (λ yes. IsTrue yes ↔ (SameWhereNoCut wall.now bare.now × BareShows G.geometry at_hand.limits shape.now m bare.now)) }

@@ -28,6 +28,7 @@ use Rattle.heesch_grid.proofs.SortFacts.{sorted, placed_in}
 use Rattle.heesch_grid.proofs.AroundFacts.{cells_around, around_given}
 use Rattle.heesch_cert.specs.Literals.{literals}
 use Rattle.heesch_cert.specs.declared.entry.TripleProof.{TripleProof}
+use Rattle.heesch_cnf.specs.declared.version.Version.TheVariants.{One}
 use Rattle.heesch_cert.specs.Limits.{AreLimits}
 use Rattle.heesch_cert.specs.Proofs.{IsTooLarge, SettlesTriple}
 use Rattle.heesch_cert.specs.TrueEntry.{HasNoPlain, IsSearchedTriple, IsTrueEntry}
@@ -143,8 +144,8 @@ single_size = refl
 
 -- ---- the entry
 
-pub too_large : IsTooLarge iamond one_up 1 1
-too_large = record { vars = variables; count = 12; clauses = clauses; formula = record { is_formula = single_formula; count_is = refl }; above = subst (λ n. 1 < n) (sym single_size) (omega arith) }
+pub too_large : IsTooLarge One iamond one_up 1 1
+too_large = record { vars = variables; count = 12; clauses = clauses; formula = (single_formula, refl); above = subst (λ n. 1 < n) (sym single_size) (omega arith) }
 
 -- a domain of one tile would have half a unit
 no_plain : HasNoPlain iamond iamond_limits one_up

@@ -9,6 +9,7 @@ use Rattle.heesch_grid.specs.Grids.{iamond as iamond_tables}
 use Rattle.heesch_grid.specs.Examples.{square, single, unit_triple}
 use Rattle.heesch_grid.specs.Tiling.{no_move}
 use Rattle.heesch_grid.specs.Symmetry.{Member}
+use Rattle.heesch_cnf.specs.declared.version.Version.TheVariants.{One}
 use Rattle.heesch_cert.specs.declared.limits.Limits.{Limits}
 use Rattle.heesch_cert.specs.declared.tiling.Classes.{Classes}
 use Rattle.heesch_cert.specs.declared.verdict.Kind.TheVariants.{Translation}
@@ -23,7 +24,7 @@ use Rattle.heesch_cert.specs.RightVerdict.{HasRightVerdict}
 
 -- the limits by default
 abbrev pub square_limits : Limits
-square_limits = record { turns = 20000; levels = 3; domain = 4; size = 60000000 }
+square_limits = record { turns = 20000; levels = 3; domain = 4; size = 60000000; version = One }
 
 -- one place, where the shape stands
 abbrev pub places : List Iso
@@ -53,7 +54,7 @@ one_up = up ∷ []
 
 -- the least limits
 abbrev pub iamond_limits : Limits
-iamond_limits = record { turns = 1; levels = 1; domain = 1; size = 1 }
+iamond_limits = record { turns = 1; levels = 1; domain = 1; size = 1; version = One }
 
 -- under them the single triangle is undecided: its corona formula at level 1 has 12 literals
 abbrev pub iamond_entry : Entry

@@ -1,4 +1,5 @@
 pub mod Limits
+pub mod Sizes
 pub mod Literals
 pub mod Formulas
 pub mod Cuts

@@ -1,6 +1,8 @@
 ghost use Rattle.std.specs.Prelude.{◌↔◌, IsTrue};
 ghost use Rattle.heesch_cert.specs.Limits.{AreLimits};
 
+use heesch_cnf::Version;
+
 /// The limits of a classification.
 #[derive(Clone, Copy, Debug, PartialEq, Eq)]
 pub struct Limits {
@@ -12,6 +14,8 @@ pub struct Limits {
     pub domain: u32,
     /// How many literals a corona formula may have, 1 to 60,000,000.
     pub size: u32,
+    /// Which corona formula the searches are over.
+    pub version: Version,
 }
 
 impl Limits {

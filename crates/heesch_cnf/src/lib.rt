@@ -10,6 +10,7 @@ mod meaning;
 mod numbered;
 mod packed;
 mod values;
+mod version;
 
 pub use flat::FlatFormula;
 pub use form::is_clause;
@@ -20,3 +21,4 @@ pub use meaning::{learn_follows, learned_unsatisfiable, refuted_unsatisfiable, s
 pub use numbered::{clause_in, clause_numbered};
 pub use packed::PackedLit;
 pub use values::{Left, left_in, value_of};
+pub use version::Version;

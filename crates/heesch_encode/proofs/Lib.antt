@@ -8,3 +8,4 @@ pub mod MovedRings
 pub mod Numbered
 pub mod Pieces
 pub mod Whole
+pub mod Holders

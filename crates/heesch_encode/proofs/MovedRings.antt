@@ -19,7 +19,7 @@ use Rattle.heesch_shape.proofs.Words.{rising_test}
 use Rattle.heesch_place.specs.Steps.{IsFirstOf}
 use Rattle.heesch_place.proofs.Moves.{move_of, must_move}
 use Rattle.heesch_encode.specs.declared.around.TurnedRing.{TurnedRing}
-use Rattle.heesch_encode.specs.Rings.{IsTurnedRing}
+use Rattle.heesch_encode.specs.Rings.{IsTurnedRing, AreRings}
 
 abbrev still : ℕ → Iso
 still k = record { turn = k; da = pos 0; db = pos 0 }
@@ -110,3 +110,7 @@ module _ (g : Geometry) (law : IsGrid g) where
         b_low = let p = w.b_low in let q = near.b_low in omega (arith, ints, p, q);
         b_high = let p = w.b_high in let q = near.b_high in omega (arith, ints, p, q);
       }
+
+-- the rings of a shape are those of the universe's
+pub same_rings : (g : Geometry) (shape other : List Cell) (rings now : List TurnedRing) → other ≡ shape → now ≡ rings → AreRings g shape rings → AreRings g other now
+same_rings g shape other rings now s e r = subst (AreRings g other) (sym e) (subst (λ zs. AreRings g zs rings) (sym s) r)

@@ -144,7 +144,7 @@ map_numbers : {Y : Type 0} (f : ℕ → Y) (xs : List (ℕ × Variable)) → map
 map_numbers f [] = refl
 map_numbers f (x ∷ xs) = ap (λ zs. f x.0 ∷ zs) (map_numbers f xs)
 
-filter_same : (p q : ℕ × Variable → Bool) (xs : List (ℕ × Variable)) → ((x : ℕ × Variable) → Contains xs x → p x ≡ q x) → filter p xs ≡ filter q xs
+pub filter_same : (p q : ℕ × Variable → Bool) (xs : List (ℕ × Variable)) → ((x : ℕ × Variable) → Contains xs x → p x ≡ q x) → filter p xs ≡ filter q xs
 filter_same p q xs e = sym (all_pass xs) ∙ filter_both (λ x. true) p q xs (λ x m. sym (e x m))
   where
     all_pass : (xs : List (ℕ × Variable)) → filter p (filter (λ x. true) xs) ≡ filter p xs

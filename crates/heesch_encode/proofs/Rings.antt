@@ -70,11 +70,15 @@ cell_total = then_total (on_total (λ (c : Cell). c.b) int_cmp_total) (on_total 
 less_is_lt : (o : Ordering) → o ≡ Less → is_lt o ≡ true
 less_is_lt o e = ap is_lt e
 
+-- cells that were sorted, and each kept once
+pub cells_listed : (P : Cell → Type 0) (all ys zs : List Cell) → ((c : Cell) → Contains all c → P c) → ((c : Cell) → P c → Contains all c) → IsPermutation all ys → IsSorted cell_cmp ys → zs ≡ dedup same_cell ys → ListsExactly cell_before P zs
+cells_listed P all ys zs only every p sorted made =
+    listed cell_cmp cell_before same_cell cell_total same_cell_laws (λ x y. sym (cell_equal x y)) same_cell-true (λ x y e. sym (cell_less x y) ∙ less_is_lt (cell_cmp x y) e) P all ys zs only every p sorted made
+
 -- the neighbours that aren't the tile's own, so made a list, are the cells around it
 pub ring_listed : (g : Geometry) → IsGrid g → (tile : List Cell) → IsCellSet g tile → (all ys zs : List Cell) → all ≡ flat_map (outer g tile) tile → IsPermutation all ys → IsSorted cell_cmp ys → zs ≡ dedup same_cell ys → ListsExactly cell_before (IsAround g tile) zs
 ring_listed g law tile is_set all ys zs is p sorted made =
-    listed cell_cmp cell_before same_cell cell_total same_cell_laws (λ x y. sym (cell_equal x y)) same_cell-true (λ x y e. sym (cell_less x y) ∙ less_is_lt (cell_cmp x y) e) (IsAround g tile) all ys zs
-    (λ d m. outer_around g law tile is_set d (subst (λ ws. Contains ws d) is m)) (λ d a. subst (λ ws. Contains ws d) (sym is) (around_outer g law tile is_set d a)) p sorted made
+    cells_listed (IsAround g tile) all ys zs (λ d m. outer_around g law tile is_set d (subst (λ ws. Contains ws d) is m)) (λ d a. subst (λ ws. Contains ws d) (sym is) (around_outer g law tile is_set d a)) p sorted made
 
 -- ---- variables by cells
 

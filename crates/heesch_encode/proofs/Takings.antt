@@ -1,9 +1,10 @@
 -- Clauses taken one after the other.
-use Rattle.std.proofs.Common.{◌≡◌, refl, sym, ap, subst, ◌∙◌, ℕ, ◌+◌, ◌<◌, List, [], ◌++◌, Ok, Err, arith}
+use Rattle.std.proofs.Common.{◌≡◌, refl, sym, ap, subst, ◌∙◌, ℕ, ◌+◌, ◌<◌, ◌≤◌, List, [], ◌++◌, Ok, Err, arith}
 use Rattle.std.proofs.lemmas.List.{append-nil, append_assoc}
 use Rattle.std.proofs.lemmas.List.Sums.{sum_by-append}
 use Rattle.std.specs.Prelude.{length}
 use Rattle.heesch_cnf.specs.declared.literal.Lit.{Lit}
+use Rattle.heesch_cnf.specs.Clauses.{IsClause}
 use Rattle.heesch_grid.specs.Clauses.{formula_size}
 use Rattle.heesch_encode.specs.declared.stop.EncodeStop.{EncodeStop}
 use Rattle.heesch_encode.specs.declared.stop.EncodeStop.TheVariants.{TooLarge, NoMemory}
@@ -46,3 +47,16 @@ stopped_before NoMemory a b xs ys t = tt
 -- so within a list of clauses
 pub stopped_within : (e : EncodeStop) (a b c : Collector) (xs ys zs all : Clauses) → all ≡ (xs ++ ys) ++ zs → Takes a b xs → IsTaken (Err e) b c ys → IsTaken (Err e) a c all
 stopped_within e a b c xs ys zs all is s t = subst (IsTaken (Err e) a c) (sym is) (stopped_before e a c (xs ++ ys) zs (taken_after (Err e) a b c xs ys s t))
+
+-- ---- clauses over more variables
+
+-- a clause over some variables is one over more
+pub wider : (m n : ℕ) (clause : List Lit) → m ≤ n → IsClause m clause → IsClause n clause
+wider m n clause le c = record { in_range = λ k d l. let r = c.in_range k d l in (r.0, omega arith); rising = c.rising }
+
+-- the collector keeps its variables
+pub keeps_vars : (m : ℕ) (a b : Collector) (xs : Clauses) → m ≤ a.formula.vars → Takes a b xs → m ≤ b.formula.vars
+keeps_vars m a b xs le t = subst (λ n. m ≤ n) (sym t.vars) le
+
+pub clause_after : (m : ℕ) (a b : Collector) (xs : Clauses) (clause : List Lit) → m ≤ a.formula.vars → Takes a b xs → IsClause m clause → IsClause b.formula.vars clause
+clause_after m a b xs clause le t c = wider m b.formula.vars clause (keeps_vars m a b xs le t) c

@@ -2,5 +2,6 @@ pub mod Families
 pub mod Literals
 pub mod Marks
 pub mod Meeting
+pub mod Owners
 pub mod Rings
 pub mod Taking

@@ -1,6 +1,7 @@
 //! Clauses of variables and negated variables.
 ghost use Rattle.std.specs.Prelude.{◌≡◌, ◌++◌, ◌<◌, ◌≤◌, ◌^◌, take, drop, length, OnOk, All, Contains, nat_lt};
 ghost use Rattle.heesch_grid.specs.Listing.{IsRising, ListsExactly};
+ghost use Rattle.heesch_grid.specs.OwnerFormula.{signed};
 ghost use Rattle.heesch_cert.specs.Literals.{literals};
 ghost use Rattle.heesch_encode.specs.Literals.{plus_all, lit_before, IsOfImplication};
 
@@ -8,15 +9,20 @@ use crate::lists::add;
 use heesch_cnf::{Lit, PackedLit};
 use heesch_io::NoMemory;
 
+/// The variable, or its negation.
+pub(crate) fn literal(var: u32, positive: bool) -> PackedLit
+    requires { var < 2 ^ 31 }
+    ensures { result ≡ signed literals positive var }
+{
+    PackedLit::of(Lit { var, positive })
+}
+
 /// The variable as a literal.
 fn plus(var: u32) -> PackedLit
     requires { var < 2 ^ 31 }
     ensures { result ≡ literals.plus var }
 {
-    PackedLit::of(Lit {
-        var,
-        positive: true,
-    })
+    literal(var, true)
 }
 
 /// The negation of a variable.
@@ -24,10 +30,7 @@ pub(crate) fn minus(var: u32) -> PackedLit
     requires { var < 2 ^ 31 }
     ensures { result ≡ literals.minus var }
 {
-    PackedLit::of(Lit {
-        var,
-        positive: false,
-    })
+    literal(var, false)
 }
 
 /// Adds the variables.

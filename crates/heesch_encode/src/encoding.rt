@@ -1,5 +1,8 @@
-//! The corona formula, with its universe.
-ghost use Rattle.std.specs.Prelude.{◌≡◌, ◌≤◌, ◌↔◌, ℕ, Bool, IfOk, IsErrOf};
+//! The corona formula of a version, with its universe.
+ghost use Rattle.std.specs.Prelude.{◌≡◌, ◌≤◌, ◌<◌, ◌^◌, ◌↔◌, ℕ, Bool, true, IfOk, IsErrOf, length};
+ghost use Rattle.heesch_grid.specs.declared.Cell.{Cell};
+ghost use Rattle.heesch_grid.specs.Cells.{has};
+ghost use Rattle.heesch_grid.specs.Vectors.{IsWithin};
 ghost use Rattle.heesch_grid.specs.Corona.{AreCoronas, HasCoronas};
 ghost use Rattle.heesch_grid.specs.Polyform.{IsCanonicalListOf};
 ghost use Rattle.heesch_grid.specs.Clauses.{formula_size};
@@ -10,9 +13,10 @@ ghost use Rattle.heesch_cert.specs.Proofs.{IsTooLarge};
 ghost use Rattle.heesch_place.specs.Universes.{IsUniverseOf};
 
 use crate::collector::Collector;
-use crate::families::take_formula;
+use crate::families::{take_formula, take_owner_formula};
+use crate::owned::{count_with_owners, owned_cells};
 use crate::stop::EncodeStop;
-use heesch_cnf::{FlatFormula, Formula};
+use heesch_cnf::{FlatFormula, Formula, Version};
 use heesch_grid::Grid;
 use heesch_place::Universe;
 use heesch_shape::Shape;
@@ -32,19 +36,91 @@ pub struct FlatEncoded<G: Grid> {
     pub formula: FlatFormula,
 }
 
-/// The corona formula of a shape and a level, where it has at most `size` literals, with its clauses in one array.
+/// The formula of version One over its universe.
+fn first_formula<G: Grid>(
+    alloc: Global,
+    universe: &Universe<G>,
+    shape: &Shape<G>,
+    level: u32,
+    size: u32,
+) -> Result<FlatFormula, EncodeStop>
+    requires universe { IsUniverseOf G.geometry universe.now }
+    requires shape { universe.now.shape ≡ shape.now }
+    requires level { universe.now.level ≡ level }
+    requires near { (c : Cell) → has shape.now c ≡ true → IsWithin 200 c }
+    requires few { length universe.now.vars < 2 ^ 31 }
+    ensures formula { IfOk result (λ f. IsCountedFormula Version.One G.geometry shape.now level universe.now.vars f.vars f.clauses) }
+    ensures fits { IfOk result (λ f. formula_size f.clauses ≤ size) }
+    ensures too_large { IsErrOf result EncodeStop.TooLarge → IsTooLarge Version.One G.geometry shape.now level size }
+{
+    let mut collector = Collector::new(alloc, universe.count(), size);
+    take_formula(alloc, universe, shape, level, &mut collector)?;
+    Ok(collector.formula)
+}
+
+/// The formula of version Two over its universe.
+fn second_formula<G: Grid>(
+    alloc: Global,
+    universe: &Universe<G>,
+    shape: &Shape<G>,
+    level: u32,
+    size: u32,
+) -> Result<FlatFormula, EncodeStop>
+    requires universe { IsUniverseOf G.geometry universe.now }
+    requires shape { universe.now.shape ≡ shape.now }
+    requires level { universe.now.level ≡ level }
+    requires near { (c : Cell) → has shape.now c ≡ true → IsWithin 200 c }
+    requires few { length universe.now.vars < 2 ^ 31 }
+    ensures formula { IfOk result (λ f. IsCountedFormula Version.Two G.geometry shape.now level universe.now.vars f.vars f.clauses) }
+    ensures fits { IfOk result (λ f. formula_size f.clauses ≤ size) }
+    ensures too_large { IsErrOf result EncodeStop.TooLarge → IsTooLarge Version.Two G.geometry shape.now level size }
+{
+    let owned = owned_cells(alloc, universe)?;
+    let vars = count_with_owners(universe, &owned)?;
+    let mut collector = Collector::new(alloc, vars, size);
+    take_owner_formula(alloc, universe, &owned, shape, level, &mut collector)?;
+    Ok(collector.formula)
+}
+
+/// The formula of a version over its universe.
+fn formula_over<G: Grid>(
+    alloc: Global,
+    universe: &Universe<G>,
+    shape: &Shape<G>,
+    level: u32,
+    size: u32,
+    version: Version,
+) -> Result<FlatFormula, EncodeStop>
+    requires universe { IsUniverseOf G.geometry universe.now }
+    requires shape { universe.now.shape ≡ shape.now }
+    requires level { universe.now.level ≡ level }
+    requires near { (c : Cell) → has shape.now c ≡ true → IsWithin 200 c }
+    requires few { length universe.now.vars < 2 ^ 31 }
+    ensures formula { IfOk result (λ f. IsCountedFormula version G.geometry shape.now level universe.now.vars f.vars f.clauses) }
+    ensures fits { IfOk result (λ f. formula_size f.clauses ≤ size) }
+    ensures too_large { IsErrOf result EncodeStop.TooLarge → IsTooLarge version G.geometry shape.now level size }
+{
+    match version {
+        Version::One => first_formula(alloc, universe, shape, level, size),
+        Version::Two => second_formula(alloc, universe, shape, level, size),
+    }
+}
+
+/// The corona formula of a shape and a level, of one of the two versions, where it has at most `size` literals, with its clauses
+/// in one array.
 ///
 /// It has a model exactly where so many coronas of the shape exist, holes allowed, and the true variables of level k of a
 /// model are the k-th corona. Condition: the shape is canonical, the level 1 to 6, the size 1 to 60,000,000. `TooLarge`
 /// exactly where the formula has more than `size` literals; `NoMemory` says nothing more.
 ///
 /// The clauses are made once, up to the first literal too many. Variables are found by the cells of their tiles, never by a
-/// look at all pairs.
+/// look at all pairs. In version Two the owner variables come after the universe's; they are counted before the clauses are made.
 pub fn encode_flat<G: Grid>(
     alloc: Global,
     shape: &Shape<G>,
     level: u32,
     size: u32,
+    version: Version,
 ) -> Result<FlatEncoded<G>, EncodeStop>
     requires level { (1 ≤ level) × (level ≤ 6) }
     requires canonical { IsCanonicalListOf G.geometry shape.now shape.now }
@@ -52,9 +128,9 @@ pub fn encode_flat<G: Grid>(
     ensures universe { IfOk result (λ e. IsUniverseOf G.geometry e.universe) }
     ensures shape { IfOk result (λ e. e.universe.shape ≡ shape.now) }
     ensures level { IfOk result (λ e. e.universe.level ≡ level) }
-    ensures formula { IfOk result (λ e. IsCountedFormula G.geometry shape.now level e.universe.vars e.formula.vars e.formula.clauses) }
+    ensures formula { IfOk result (λ e. IsCountedFormula version G.geometry shape.now level e.universe.vars e.formula.vars e.formula.clauses) }
     ensures fits { IfOk result (λ e. formula_size e.formula.clauses ≤ size) }
-    ensures too_large { IsErrOf result EncodeStop.TooLarge → IsTooLarge G.geometry shape.now level size }
+    ensures too_large { IsErrOf result EncodeStop.TooLarge → IsTooLarge version G.geometry shape.now level size }
 
     ensures satisfiable { IfOk result (λ e. ((values : ℕ → Bool) × Satisfies values e.formula.clauses) ↔ HasCoronas G.geometry shape.now level) }
     ensures models { IfOk result (λ e. (values : ℕ → Bool) → Satisfies values e.formula.clauses
@@ -63,12 +139,8 @@ pub fn encode_flat<G: Grid>(
     // Reading the cells tells the proof that they are a polyform.
     let _cells = shape.cells();
     let universe = Universe::of(alloc, shape, level)?;
-    let mut collector = Collector::new(alloc, universe.count(), size);
-    take_formula(alloc, &universe, shape, level, &mut collector)?;
-    Ok(FlatEncoded {
-        universe,
-        formula: collector.formula,
-    })
+    let formula = formula_over(alloc, &universe, shape, level, size, version)?;
+    Ok(FlatEncoded { universe, formula })
 }
 
 /// The same formula, with a list for each clause.
@@ -83,6 +155,7 @@ pub fn encode<G: Grid>(
     shape: &Shape<G>,
     level: u32,
     size: u32,
+    version: Version,
 ) -> Result<Encoded<G>, EncodeStop>
     requires level { (1 ≤ level) × (level ≤ 6) }
     requires canonical { IsCanonicalListOf G.geometry shape.now shape.now }
@@ -90,15 +163,15 @@ pub fn encode<G: Grid>(
     ensures universe { IfOk result (λ e. IsUniverseOf G.geometry e.universe) }
     ensures shape { IfOk result (λ e. e.universe.shape ≡ shape.now) }
     ensures level { IfOk result (λ e. e.universe.level ≡ level) }
-    ensures formula { IfOk result (λ e. IsCountedFormula G.geometry shape.now level e.universe.vars e.formula.vars e.formula.clauses) }
+    ensures formula { IfOk result (λ e. IsCountedFormula version G.geometry shape.now level e.universe.vars e.formula.vars e.formula.clauses) }
     ensures fits { IfOk result (λ e. formula_size e.formula.clauses ≤ size) }
-    ensures too_large { IsErrOf result EncodeStop.TooLarge → IsTooLarge G.geometry shape.now level size }
+    ensures too_large { IsErrOf result EncodeStop.TooLarge → IsTooLarge version G.geometry shape.now level size }
 
     ensures satisfiable { IfOk result (λ e. ((values : ℕ → Bool) × Satisfies values e.formula.clauses) ↔ HasCoronas G.geometry shape.now level) }
     ensures models { IfOk result (λ e. (values : ℕ → Bool) → Satisfies values e.formula.clauses
         → AreCoronas G.geometry shape.now (chosen_layers values e.universe.vars level)) }
 {
-    let FlatEncoded { universe, formula } = encode_flat(alloc, shape, level, size)?;
+    let FlatEncoded { universe, formula } = encode_flat(alloc, shape, level, size, version)?;
     let formula = formula.to_formula(alloc)?;
     Ok(Encoded { universe, formula })
 }

@@ -1,8 +1,9 @@
-//! The four families of clauses.
-ghost use Rattle.std.specs.Prelude.{◌≡◌, true, ◌≤◌, ◌<◌, ◌^◌, ℕ, List, OnOk, length, flat_map};
+//! The families of clauses.
+ghost use Rattle.std.specs.Prelude.{◌≡◌, true, ◌+◌, ◌≤◌, ◌<◌, ◌^◌, ℕ, List, All, OnOk, length, flat_map, sum_by};
 ghost use Rattle.std.specs.List.{enumerate_from};
 ghost use Rattle.heesch_grid.specs.declared.Cell.{Cell};
 ghost use Rattle.heesch_grid.specs.CoronaFormula.{Variable, GivesCellsAround, first_clauses, corona_clauses};
+ghost use Rattle.heesch_grid.specs.OwnerFormula.{IsOwned, owner_count, owned_corona_clauses};
 ghost use Rattle.heesch_cert.specs.Literals.{literals};
 ghost use Rattle.heesch_place.specs.Universes.{IsUniverseOf, IsNumbered};
 ghost use Rattle.heesch_grid.specs.Cells.{has};
@@ -11,12 +12,14 @@ ghost use Rattle.heesch_encode.specs.Marks.{AreUnmarked};
 ghost use Rattle.heesch_encode.specs.Rings.{AreRings};
 ghost use Rattle.heesch_encode.specs.Taking.{IsTaken};
 ghost use Rattle.heesch_encode.specs.Families.{covering_at, support_at, apart_at, clauses_at};
+ghost use Rattle.heesch_encode.specs.Owners.{common_clauses};
 
 use crate::around::{TurnedRing, rings_of, write_moved};
 use crate::clauses::{minus, write_choice, write_implication};
 use crate::collector::Collector;
 use crate::desk::Desk;
 use crate::meeting::{list_meeting, list_supporting};
+use crate::owners::take_owners;
 use crate::ring::write_ring;
 use crate::stop::EncodeStop;
 use heesch_cnf::PackedLit;
@@ -45,7 +48,7 @@ fn take_first<G: Grid>(
     collector: &mut Collector,
 ) -> Result<(), EncodeStop>
     requires few { length universe.now.vars < 2 ^ 31 }
-    requires vars { collector.old.formula.vars ≡ length universe.now.vars }
+    requires vars { length universe.now.vars ≤ collector.old.formula.vars }
     ensures { (around : List Cell → List Cell) → GivesCellsAround G.geometry around
         → IsTaken result collector.old collector.new (first_clauses literals around shape.now universe.now.vars) }
 {
@@ -72,7 +75,7 @@ fn take_covering<G: Grid>(
     requires rings { AreRings G.geometry universe.now.shape rings.now }
     requires few { length universe.now.vars < 2 ^ 31 }
     requires number { (1 ≤ var) × (var ≤ length universe.now.vars) }
-    requires vars { collector.old.formula.vars ≡ length universe.now.vars }
+    requires vars { length universe.now.vars ≤ collector.old.formula.vars }
     ensures { (around : List Cell → List Cell) (x : Variable) → GivesCellsAround G.geometry around → IsNumbered universe.now.vars var x
         → IsTaken result collector.old collector.new (covering_at around shape.now level universe.now.vars (var, x)) }
 {
@@ -103,7 +106,7 @@ fn take_support<G: Grid>(
     requires few { length universe.now.vars < 2 ^ 31 }
     requires unmarked { AreUnmarked (length universe.now.vars) desk.old.marks.words.items }
     requires number { (1 ≤ var) × (var ≤ length universe.now.vars) }
-    requires vars { collector.old.formula.vars ≡ length universe.now.vars }
+    requires vars { length universe.now.vars ≤ collector.old.formula.vars }
     ensures unmarked { OnOk result (AreUnmarked (length universe.now.vars) desk.new.marks.words.items) }
     ensures taken { (x : Variable) → IsNumbered universe.now.vars var x
         → IsTaken result collector.old collector.new (support_at G.geometry universe.now.vars (var, x)) }
@@ -138,7 +141,7 @@ fn take_apart<G: Grid>(
     requires level { universe.now.level ≡ level }
     requires few { length universe.now.vars < 2 ^ 31 }
     requires number { (1 ≤ var) × (var ≤ length universe.now.vars) }
-    requires vars { collector.old.formula.vars ≡ length universe.now.vars }
+    requires vars { length universe.now.vars ≤ collector.old.formula.vars }
     requires unmarked { AreUnmarked (length universe.now.vars) desk.old.marks.words.items }
     ensures unmarked { OnOk result (AreUnmarked (length universe.now.vars) desk.new.marks.words.items) }
     ensures taken { (x : Variable) → IsNumbered universe.now.vars var x
@@ -175,7 +178,7 @@ fn take_of<G: Grid>(
     requires rings { AreRings G.geometry universe.now.shape rings.now }
     requires few { length universe.now.vars < 2 ^ 31 }
     requires number { (1 ≤ var) × (var ≤ length universe.now.vars) }
-    requires vars { collector.old.formula.vars ≡ length universe.now.vars }
+    requires vars { length universe.now.vars ≤ collector.old.formula.vars }
     requires unmarked { AreUnmarked (length universe.now.vars) desk.old.marks.words.items }
     ensures unmarked { OnOk result (AreUnmarked (length universe.now.vars) desk.new.marks.words.items) }
     ensures taken { (around : List Cell → List Cell) (x : Variable) → GivesCellsAround G.geometry around → IsNumbered universe.now.vars var x
@@ -211,7 +214,7 @@ fn take_family<G: Grid>(
     requires level { universe.now.level ≡ level }
     requires rings { AreRings G.geometry universe.now.shape rings.now }
     requires few { length universe.now.vars < 2 ^ 31 }
-    requires vars { collector.old.formula.vars ≡ length universe.now.vars }
+    requires vars { length universe.now.vars ≤ collector.old.formula.vars }
     requires unmarked { AreUnmarked (length universe.now.vars) desk.old.marks.words.items }
     ensures unmarked { OnOk result (AreUnmarked (length universe.now.vars) desk.new.marks.words.items) }
     ensures taken { (around : List Cell → List Cell) → GivesCellsAround G.geometry around
@@ -232,7 +235,47 @@ fn take_family<G: Grid>(
     Ok(())
 }
 
-/// The clauses of the formula, family by family.
+/// The clauses of the first three families, which both formulas have.
+fn take_common<G: Grid>(
+    universe: &Universe<G>,
+    rings: &[TurnedRing],
+    shape: &Shape<G>,
+    level: u32,
+    desk: &mut Desk,
+    collector: &mut Collector,
+) -> Result<(), EncodeStop>
+    requires universe { IsUniverseOf G.geometry universe.now }
+    requires level { universe.now.level ≡ level }
+    requires rings { AreRings G.geometry universe.now.shape rings.now }
+    requires few { length universe.now.vars < 2 ^ 31 }
+    requires vars { length universe.now.vars ≤ collector.old.formula.vars }
+    requires unmarked { AreUnmarked (length universe.now.vars) desk.old.marks.words.items }
+    ensures unmarked { OnOk result (AreUnmarked (length universe.now.vars) desk.new.marks.words.items) }
+    ensures taken { (around : List Cell → List Cell) → GivesCellsAround G.geometry around
+        → IsTaken result collector.old collector.new (common_clauses G.geometry around shape.now level universe.now.vars) }
+{
+    take_first(universe, shape, &mut desk.ring, &mut desk.clause, collector)?;
+    take_family(
+        universe,
+        rings,
+        shape,
+        level,
+        Family::Covering,
+        desk,
+        collector,
+    )?;
+    take_family(
+        universe,
+        rings,
+        shape,
+        level,
+        Family::Support,
+        desk,
+        collector,
+    )
+}
+
+/// The clauses of the first formula, family by family.
 pub(crate) fn take_formula<G: Grid>(
     alloc: Global,
     universe: &Universe<G>,
@@ -245,32 +288,14 @@ pub(crate) fn take_formula<G: Grid>(
     requires shape { universe.now.shape ≡ shape.now }
     requires near { (c : Cell) → has shape.now c ≡ true → IsWithin 200 c }
     requires few { length universe.now.vars < 2 ^ 31 }
-    requires vars { collector.old.formula.vars ≡ length universe.now.vars }
+    requires vars { length universe.now.vars ≤ collector.old.formula.vars }
     ensures { (around : List Cell → List Cell) → GivesCellsAround G.geometry around
         → IsTaken result collector.old collector.new (corona_clauses literals G.geometry around shape.now level universe.now.vars) }
 {
     let rings = rings_of(alloc, shape)?;
     let rings = rings.as_slice();
     let mut desk = Desk::new(alloc, universe)?;
-    take_first(universe, shape, &mut desk.ring, &mut desk.clause, collector)?;
-    take_family(
-        universe,
-        rings,
-        shape,
-        level,
-        Family::Covering,
-        &mut desk,
-        collector,
-    )?;
-    take_family(
-        universe,
-        rings,
-        shape,
-        level,
-        Family::Support,
-        &mut desk,
-        collector,
-    )?;
+    take_common(universe, rings, shape, level, &mut desk, collector)?;
     take_family(
         universe,
         rings,
@@ -280,4 +305,30 @@ pub(crate) fn take_formula<G: Grid>(
         &mut desk,
         collector,
     )
+}
+
+/// The clauses of the second formula, family by family.
+pub(crate) fn take_owner_formula<G: Grid>(
+    alloc: Global,
+    universe: &Universe<G>,
+    owned: &[Cell],
+    shape: &Shape<G>,
+    level: u32,
+    collector: &mut Collector,
+) -> Result<(), EncodeStop>
+    requires universe { IsUniverseOf G.geometry universe.now }
+    requires owned { All (IsOwned universe.now.vars) owned.now }
+    requires level { universe.now.level ≡ level }
+    requires shape { universe.now.shape ≡ shape.now }
+    requires near { (c : Cell) → has shape.now c ≡ true → IsWithin 200 c }
+    requires few { length universe.now.vars < 2 ^ 31 }
+    requires vars { collector.old.formula.vars ≡ length universe.now.vars + sum_by (owner_count universe.now.vars) owned.now }
+    requires small { collector.old.formula.vars < 2 ^ 31 }
+    ensures { (around : List Cell → List Cell) → GivesCellsAround G.geometry around
+        → IsTaken result collector.old collector.new (owned_corona_clauses literals G.geometry around shape.now level universe.now.vars owned.now) }
+{
+    let rings = rings_of(alloc, shape)?;
+    let mut desk = Desk::new(alloc, universe)?;
+    take_common(universe, &rings, shape, level, &mut desk, collector)?;
+    take_owners(universe, owned, collector)
 }

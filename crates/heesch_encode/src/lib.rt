@@ -10,6 +10,8 @@ mod families;
 mod lists;
 mod marks;
 mod meeting;
+mod owned;
+mod owners;
 mod ring;
 mod stop;
 

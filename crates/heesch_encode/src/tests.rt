@@ -6,7 +6,7 @@ ghost use Rattle.heesch_grid.specs.Polyform.{IsCanonicalListOf};
 ghost use Rattle.heesch_grid.specs.Vectors.{IsWithin};
 
 use crate::{EncodeStop, encode};
-use heesch_cnf::Lit;
+use heesch_cnf::{Lit, Version};
 use heesch_grid::{Cell, Grid, Hex, Iamond, Square};
 use heesch_shape::{Shape, ShapeFault};
 use std::alloc::Global;
@@ -27,7 +27,7 @@ fn counts<G: Grid>(alloc: Global, cells: &[Cell], level: u32) -> Result<(u32, us
     requires within { (c : Cell) → has cells.now c ≡ true → IsWithin 100000 c }
 {
     let shape: Shape<G> = canonical_of(cells)?;
-    let encoded = encode(alloc, &shape, level, 60_000_000)?;
+    let encoded = encode(alloc, &shape, level, 60_000_000, Version::One)?;
     let formula = &encoded.formula;
     Ok((
         encoded.universe.count(),
@@ -40,7 +40,7 @@ fn counts<G: Grid>(alloc: Global, cells: &[Cell], level: u32) -> Result<(u32, us
 #[test]
 fn single_square(rt: HostRuntime) -> Result<(), Fail> {
     let square = canonical_of::<Square>(&[Cell { a: 0, b: 0 }])?;
-    let encoded = encode(rt.alloc(), &square, 2, 168)?;
+    let encoded = encode(rt.alloc(), &square, 2, 168, Version::One)?;
     assert_eq!(rt; encoded.universe.count(), 24);
     assert_eq!(rt; encoded.formula.vars, 24);
     assert_eq!(rt; encoded.formula.literals(), 168);
@@ -57,7 +57,49 @@ fn single_square(rt: HostRuntime) -> Result<(), Fail> {
         },
     ];
     assert_eq!(rt; clauses[8].as_slice(), ninth.as_slice());
-    let less = encode(rt.alloc(), &square, 2, 167);
+    let less = encode(rt.alloc(), &square, 2, 167, Version::One);
+    assert_eq!(rt; less.err(), Some(EncodeStop::TooLarge));
+    let owned = encode(rt.alloc(), &square, 2, 168, Version::Two)?;
+    assert_eq!(rt; owned.formula.vars, 24);
+    assert_eq!(rt; owned.formula.clauses.len(), 80);
+    assert_eq!(rt; owned.formula.literals(), 168);
+    Ok(())
+}
+
+/// A literal of a variable of this number, negated where `positive` is false.
+fn lit(var: u32, positive: bool) -> Lit {
+    Lit { var, positive }
+}
+
+/// Both formulas of the domino at level 1; the second fits in 170 literals and not in 169.
+#[test]
+fn domino(rt: HostRuntime) -> Result<(), Fail> {
+    let domino = canonical_of::<Square>(&[Cell { a: 0, b: 0 }, Cell { a: 1, b: 0 }])?;
+    let first = encode(rt.alloc(), &domino, 1, 118, Version::One)?;
+    assert_eq!(rt; first.formula.vars, 24);
+    assert_eq!(rt; first.formula.clauses.len(), 52);
+    assert_eq!(rt; first.formula.literals(), 118);
+    let second = encode(rt.alloc(), &domino, 1, 170, Version::Two)?;
+    assert_eq!(rt; second.universe.count(), 24);
+    assert_eq!(rt; second.formula.vars, 44);
+    assert_eq!(rt; second.formula.literals(), 170);
+    let clauses = second.formula.clauses.as_slice();
+    assert_eq!(rt; clauses.len(), 78);
+    let choice = [lit(1, true), lit(5, true), lit(6, true), lit(7, true)];
+    assert_eq!(rt; clauses[0].as_slice(), choice.as_slice());
+    assert_eq!(rt;
+        clauses[10].as_slice(),
+        [lit(1, false), lit(25, false)].as_slice()
+    );
+    assert_eq!(rt;
+        clauses[12].as_slice(),
+        [lit(5, false), lit(25, true)].as_slice()
+    );
+    assert_eq!(rt;
+        clauses[17].as_slice(),
+        [lit(7, false), lit(26, true)].as_slice()
+    );
+    let less = encode(rt.alloc(), &domino, 1, 169, Version::Two);
     assert_eq!(rt; less.err(), Some(EncodeStop::TooLarge));
     Ok(())
 }

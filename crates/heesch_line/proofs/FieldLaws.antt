@@ -9,6 +9,8 @@ use Rattle.heesch_grid.specs.declared.GridName.{GridName}
 use Rattle.heesch_grid.specs.declared.GridName.TheVariants.{Square, Hex, Iamond}
 use Rattle.heesch_grid.specs.Names.{grid_word}
 use Rattle.heesch_lattice.specs.Reduction.{lattice, IsSmallTriple}
+use Rattle.heesch_cnf.specs.declared.version.Version.{Version}
+use Rattle.heesch_cnf.specs.declared.version.Version.TheVariants.{One, Two}
 use Rattle.heesch_cert.specs.declared.limits.Limits.{Limits}
 use Rattle.heesch_cert.specs.Limits.{AreLimits}
 use Rattle.heesch_cert.specs.declared.header.Subject.{Subject}
@@ -21,12 +23,12 @@ use Rattle.heesch_text.specs.declared.line.Outcome.{Outcome}
 use Rattle.heesch_text.specs.declared.line.Outcome.TheVariants as outcomes
 use Rattle.heesch_text.specs.declared.line.BareOutcome.{BareOutcome}
 use Rattle.heesch_text.specs.declared.line.BareOutcome.TheVariants as bares
-use Rattle.heesch_text.specs.Names.{kind_text, phase_text, subject_text, outcome_text, bare_text}
+use Rattle.heesch_text.specs.Names.{version_text, kind_text, phase_text, subject_text, outcome_text, bare_text}
 use Rattle.heesch_text.specs.Lines.{limits_text}
-use Rattle.heesch_words.specs.Requests.{most_cells}
+use Rattle.heesch_cert.specs.Sizes.{most_cells, IsSubject}
 use Rattle.heesch_text.specs.Naturals.{IsNatural}
-use Rattle.heesch_line.specs.Forms.{IsPlace, IsSubject}
-use Rattle.heesch_line.specs.Reading.{◌>>=◌, given, literal_at, number_at, labelled_at, integer_at, iso_at, is_triple, three_numbers_at, grid_at, kind_at, phase_at, outcome_at, bare_outcome_at, subject_at, are_limits, limits_of, limits_at}
+use Rattle.heesch_line.specs.Forms.{IsPlace}
+use Rattle.heesch_line.specs.Reading.{◌>>=◌, given, literal_at, number_at, labelled_at, integer_at, iso_at, is_triple, three_numbers_at, grid_at, kind_at, version_at, phase_at, outcome_at, bare_outcome_at, subject_at, are_limits, limits_of, limits_at}
 use Rattle.heesch_line.proofs.Steps.{some, some_is, none_some, bind_some, given_some, behind_some, both_true, ◌▸◌, literal_part, IsRead, is_read, word_read}
 use Rattle.heesch_line.proofs.Numbers.{number_read, number_again, integer_read, integer_again, Stops, labelled_parts, eqb_same, BeginsWithDigit, decimal_begins}
 
@@ -183,6 +185,19 @@ kind_read bytes x e =
           ]
     ]
 
+pub version_read : (bytes : List ℕ) (x : Version × List ℕ) → version_at bytes ≡ Some x → IsRead version_text (λ _. Unit {0}) bytes x
+unfolding version_at
+version_read bytes x e =
+    elim (behind_some (literal_at (codes " 1 ") bytes) _ _ x e) [
+      | inl a0 ↦ word_read {X = Version} version_text (λ _. Unit {0}) bytes (codes " 1 ") One x a0.0 a0.1 refl tt a0.2
+      | inr n0 ↦
+          elim (behind_some (literal_at (codes " 2 ") bytes) _ _ x n0.1) [
+            | inl a1 ↦ word_read {X = Version} version_text (λ _. Unit {0}) bytes (codes " 2 ") Two x a1.0 a1.1 refl tt a1.2
+            | inr n1 ↦
+                absurd (none_some x n1.1)
+          ]
+    ]
+
 pub phase_read : (bytes : List ℕ) (x : Phase × List ℕ) → phase_at bytes ≡ Some x → IsRead phase_text (λ _. Unit {0}) bytes x
 unfolding phase_at
 phase_read bytes x e =
@@ -235,20 +250,20 @@ bare_outcome_read bytes x e =
 size_tests : (n most : ℕ) → (ltb 0 n && leb n most) ≡ true → (1 ≤ n) × (n ≤ most)
 size_tests n most h = (grind (arith, nat_tests), grind (arith, nat_tests))
 
-size_read : (grid : GridName) (bytes : List ℕ) (x : Subject × List ℕ) → (number_at bytes >>= λ n. given (ltb 0 n.0 && leb n.0 (most_cells grid)) (Size n.0, n.1)) ≡ some x → IsRead subject_text (IsSubject grid) bytes x
-size_read grid bytes x e =
+size_read : (version : Version) (grid : GridName) (bytes : List ℕ) (x : Subject × List ℕ) → (number_at bytes >>= λ n. given (ltb 0 n.0 && leb n.0 (most_cells version grid)) (Size n.0, n.1)) ≡ some x → IsRead subject_text (IsSubject version grid) bytes x
+size_read version grid bytes x e =
     let n = bind_some (number_at bytes) _ x e in
     let made : Subject × List ℕ = (Size n.0.0, n.0.1) in
-    let g = given_some (ltb 0 n.0.0 && leb n.0.0 (most_cells grid)) made x n.2 in
-    is_read {made = made} subject_text (IsSubject grid) bytes g.1 (number_read bytes n.0 n.1).takes (size_tests n.0.0 (most_cells grid) g.0)
+    let g = given_some (ltb 0 n.0.0 && leb n.0.0 (most_cells version grid)) made x n.2 in
+    is_read {made = made} subject_text (IsSubject version grid) bytes g.1 (number_read bytes n.0 n.1).takes (size_tests n.0.0 (most_cells version grid) g.0)
 
-pub subject_read : (grid : GridName) (bytes : List ℕ) (x : Subject × List ℕ) → subject_at grid bytes ≡ Some x → IsRead subject_text (IsSubject grid) bytes x
+pub subject_read : (version : Version) (grid : GridName) (bytes : List ℕ) (x : Subject × List ℕ) → subject_at version grid bytes ≡ Some x → IsRead subject_text (IsSubject version grid) bytes x
 unfolding subject_at
-subject_read grid bytes x e =
+subject_read version grid bytes x e =
     elim (behind_some (literal_at (codes "given") bytes) _ _ x e) [
-      | inl a0 ↦ word_read {X = Subject} subject_text (IsSubject grid) bytes (codes "given") Given x a0.0 a0.1 refl tt a0.2
+      | inl a0 ↦ word_read {X = Subject} subject_text (IsSubject version grid) bytes (codes "given") Given x a0.0 a0.1 refl tt a0.2
       | inr n0 ↦
-          size_read grid bytes x n0.1
+          size_read version grid bytes x n0.1
     ]
 
 pub grid_again : (x : GridName) (rest : List ℕ) → grid_at (grid_word x ++ rest) ≡ Some (x, rest)
@@ -262,6 +277,11 @@ unfolding kind_at
 kind_again Translation rest = refl
 kind_again HalfTurn rest = refl
 kind_again Periodic rest = refl
+
+pub version_again : (x : Version) (rest : List ℕ) → version_at (version_text x ++ rest) ≡ Some (x, rest)
+unfolding version_at
+version_again One rest = refl
+version_again Two rest = refl
 
 pub phase_again : (x : Phase) (rest : List ℕ) → phase_at (phase_text x ++ rest) ≡ Some (x, rest)
 unfolding phase_at
@@ -291,19 +311,22 @@ no_word c cs bytes rest letter begins =
 tests_size : (n most : ℕ) → (1 ≤ n) × (n ≤ most) → (ltb 0 n && leb n most) ≡ true
 tests_size n most h = grind (arith, nat_tests)
 
-pub few_cells : (grid : GridName) → most_cells grid ≤ 15
-few_cells Square = omega arith
-few_cells Hex = omega arith
-few_cells Iamond = omega arith
+pub few_cells : (version : Version) (grid : GridName) → most_cells version grid ≤ 18
+few_cells One Square = omega arith
+few_cells One Hex = omega arith
+few_cells One Iamond = omega arith
+few_cells Two Square = omega arith
+few_cells Two Hex = omega arith
+few_cells Two Iamond = omega arith
 
-pub subject_again : (grid : GridName) (x : Subject) (rest : List ℕ) → IsSubject grid x → Stops rest → subject_at grid (subject_text x ++ rest) ≡ Some (x, rest)
+pub subject_again : (version : Version) (grid : GridName) (x : Subject) (rest : List ℕ) → IsSubject version grid x → Stops rest → subject_at version grid (subject_text x ++ rest) ≡ Some (x, rest)
 unfolding subject_at
-subject_again grid Given rest fits stops = refl
-subject_again grid (Size n) rest fits stops =
-    let most = few_cells grid in
+subject_again version grid Given rest fits stops = refl
+subject_again version grid (Size n) rest fits stops =
+    let most = few_cells version grid in
     let natural : IsNatural n = omega arith in
     let other = no_word 103 (codes "iven") (decimal n) rest (omega arith) (decimal_begins n natural) in
-    rw (other, number_again n rest natural stops, tests_size n (most_cells grid) fits) refl
+    rw (other, number_again n rest natural stops, tests_size n (most_cells version grid) fits) refl
 
 -- ---- limits
 
@@ -323,9 +346,13 @@ limits_fit l h =
 pub fit_limits : (l : Limits) → AreLimits l → are_limits l ≡ true
 fit_limits l h = rw (tests_between 1 1000000 l.turns h.turns_range, tests_between 1 6 l.levels h.levels_range, tests_between 1 12 l.domain h.domain_range, tests_between 1 60000000 l.size h.size_range) refl
 
-pub limits_read : (bytes : List ℕ) (x : Limits × List ℕ) → limits_at bytes ≡ Some x → IsRead limits_text AreLimits bytes x
+-- limits under this version, in their ranges
+abbrev pub AreLimitsOf : Version → Limits → Type 0
+AreLimitsOf version l = AreLimits l × (l.version ≡ version)
+
+pub limits_read : (version : Version) (bytes : List ℕ) (x : Limits × List ℕ) → limits_at version bytes ≡ Some x → IsRead limits_text (AreLimitsOf version) bytes x
 unfolding limits_at
-limits_read bytes x e =
+limits_read version bytes x e =
     let t = bind_some (labelled_at (codes " turns ") bytes) _ x e in
     let ft = labelled_parts (codes " turns ") bytes t.0 t.1 in
     let l = bind_some (labelled_at (codes " levels ") t.0.1) _ x t.2 in
@@ -334,11 +361,11 @@ limits_read bytes x e =
     let fd = labelled_parts (codes " domain ") l.0.1 d.0 d.1 in
     let z = bind_some (labelled_at (codes " size ") d.0.1) _ x d.2 in
     let fz = labelled_parts (codes " size ") d.0.1 z.0 z.1 in
-    let made : Limits × List ℕ = (limits_of t.0.0 l.0.0 d.0.0 z.0.0, z.0.1) in
-    let g = given_some (are_limits (limits_of t.0.0 l.0.0 d.0.0 z.0.0)) made x z.2 in
-    is_read {made = made} limits_text AreLimits bytes g.1 (ft.1 ▸ ft.2.takes ▸ fl.1 ▸ fl.2.takes ▸ fd.1 ▸ fd.2.takes ▸ fz.1 ▸ fz.2.takes) (limits_fit (limits_of t.0.0 l.0.0 d.0.0 z.0.0) g.0)
+    let made : Limits × List ℕ = (limits_of version t.0.0 l.0.0 d.0.0 z.0.0, z.0.1) in
+    let g = given_some (are_limits (limits_of version t.0.0 l.0.0 d.0.0 z.0.0)) made x z.2 in
+    is_read {made = made} limits_text (AreLimitsOf version) bytes g.1 (ft.1 ▸ ft.2.takes ▸ fl.1 ▸ fl.2.takes ▸ fd.1 ▸ fd.2.takes ▸ fz.1 ▸ fz.2.takes) (limits_fit (limits_of version t.0.0 l.0.0 d.0.0 z.0.0) g.0, refl)
 
-pub limits_again : (l : Limits) (rest : List ℕ) → AreLimits l → Stops rest → limits_at (limits_text l ++ rest) ≡ Some (l, rest)
+pub limits_again : (l : Limits) (rest : List ℕ) → AreLimits l → Stops rest → limits_at l.version (limits_text l ++ rest) ≡ Some (l, rest)
 unfolding limits_at
 limits_again l rest fits stops =
     let turns_range = fits.turns_range in

@@ -5,7 +5,7 @@ use Rattle.heesch_grid.specs.Names.{grid_word}
 use Rattle.heesch_text.specs.declared.line.Line.{Line}
 use Rattle.heesch_text.specs.declared.line.Line.TheVariants as lines
 use Rattle.heesch_text.specs.Fields.{cells_text}
-use Rattle.heesch_text.specs.Names.{subject_text}
+use Rattle.heesch_text.specs.Names.{version_text, subject_text}
 use Rattle.heesch_text.specs.Lines.{limits_text, words_of}
 use Rattle.heesch_line.specs.Forms.{BeginsWith, IsShape, IsEnd}
 use Rattle.heesch_line.specs.Reading.{literal_at}
@@ -18,7 +18,7 @@ other_title word first second false a b c d e = second (a ++ b ++ c ++ d ++ e)
 
 shape_first : (line : Line) (rest : List ℕ) → words_of line ≡ codes "shape " ++ rest → IsShape line
 shape_first (lines.Header h) rest e =
-    let other = other_title (codes "shape ") (λ r. refl) (λ r. refl) h.brief (codes " 1 ") (grid_word h.grid) (codes " ") (subject_text h.subject) (limits_text h.limits) in
+    let other = other_title (codes "shape ") (λ r. refl) (λ r. refl) h.brief (version_text h.limits.version) (grid_word h.grid) (codes " ") (subject_text h.subject) (limits_text h.limits) in
     none_some rest (sym other ∙ ap (literal_at (codes "shape ")) e)
 shape_first (lines.Shape cells) rest e = tt
 shape_first (lines.Verdict v) rest e = none_some rest (ap (literal_at (codes "shape ")) e)
@@ -60,7 +60,7 @@ begins_shape line = (λ begins. shape_first line begins.0 begins.1, shape_word l
 
 end_first : (line : Line) (rest : List ℕ) → words_of line ≡ codes "end " ++ rest → IsEnd line
 end_first (lines.Header h) rest e =
-    let other = other_title (codes "end ") (λ r. refl) (λ r. refl) h.brief (codes " 1 ") (grid_word h.grid) (codes " ") (subject_text h.subject) (limits_text h.limits) in
+    let other = other_title (codes "end ") (λ r. refl) (λ r. refl) h.brief (version_text h.limits.version) (grid_word h.grid) (codes " ") (subject_text h.subject) (limits_text h.limits) in
     none_some rest (sym other ∙ ap (literal_at (codes "end ")) e)
 end_first (lines.Shape cells) rest e = none_some rest (ap (literal_at (codes "end ")) e)
 end_first (lines.Verdict v) rest e = none_some rest (ap (literal_at (codes "end ")) e)

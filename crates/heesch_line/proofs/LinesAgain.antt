@@ -20,13 +20,14 @@ use Rattle.heesch_text.specs.declared.line.BareOutcome.{BareOutcome}
 use Rattle.heesch_text.specs.declared.line.Line.{Line}
 use Rattle.heesch_text.specs.declared.line.Line.TheVariants as lines
 use Rattle.heesch_text.specs.Fields.{spaced, cells_text, lit_text, triple_text}
-use Rattle.heesch_text.specs.Names.{kind_text, phase_text, subject_text, outcome_text, bare_text}
+use Rattle.heesch_text.specs.Names.{version_text, kind_text, phase_text, subject_text, outcome_text, bare_text}
 use Rattle.heesch_text.specs.Lines.{limits_text, verdict_text, words_of}
-use Rattle.heesch_line.specs.Forms.{IsSubject, IsVerdict, IsLine}
+use Rattle.heesch_cert.specs.Sizes.{IsSubject}
+use Rattle.heesch_line.specs.Forms.{IsVerdict, IsLine}
 use Rattle.heesch_line.specs.LineReading.{header_at, shape_at, tiles_at, heesch_at, stop_at, verdict_at, verdict_line_at, end_at, lattice_at, tile_at, coronas_at, layer_at, open_at, wall_at, bare_at, triple_line_at, learn_at, cut_at, empty_at, search_line_at, cover_line_at, front_line_at, line_at}
 use Rattle.heesch_line.proofs.Steps.{some_is, none_some}
 use Rattle.heesch_line.proofs.Numbers.{number_again, Stops}
-use Rattle.heesch_line.proofs.FieldLaws.{regroup2, regroup3, regroup4, regroup5, iso_words, iso_again, three_numbers_again, fits_triple, triple_natural, grid_again, kind_again, phase_again, outcome_again, bare_outcome_again, subject_again, limits_again}
+use Rattle.heesch_line.proofs.FieldLaws.{regroup2, regroup3, regroup5, iso_words, iso_again, three_numbers_again, fits_triple, triple_natural, version_again, grid_again, kind_again, phase_again, outcome_again, bare_outcome_again, subject_again, limits_again}
 use Rattle.heesch_line.proofs.WordLaws.{Ends, numbers_again, all_numbers_again, literals_again, places_again, cells_again}
 
 verdict_again : (v : Verdict) (rest : List ℕ) → IsVerdict v → Stops rest → Ends rest → verdict_at (verdict_text v ++ rest) ≡ Some (v, rest)
@@ -61,20 +62,22 @@ verdict_again (verdicts.Size h phase at) rest fits stops ends =
     let s4 = number_again at rest fits.1 stops in
     rw (regroup, s0, s2, s4) refl
 
-header_again : (brief : Bool) (grid : GridName) (subject : Subject) (limits : Limits) (rest : List ℕ) → IsSubject grid subject × AreLimits limits → Stops rest → Ends rest → front_line_at (words_of (lines.Header (record { brief = brief; grid = grid; subject = subject; limits = limits })) ++ rest) ≡ Some (lines.Header (record { brief = brief; grid = grid; subject = subject; limits = limits }), rest)
+header_again : (brief : Bool) (grid : GridName) (subject : Subject) (limits : Limits) (rest : List ℕ) → IsSubject limits.version grid subject × AreLimits limits → Stops rest → Ends rest → front_line_at (words_of (lines.Header (record { brief = brief; grid = grid; subject = subject; limits = limits })) ++ rest) ≡ Some (lines.Header (record { brief = brief; grid = grid; subject = subject; limits = limits }), rest)
 unfolding front_line_at header_at
 header_again true grid subject limits rest fits stops ends =
-    let regroup = regroup4 (grid_word grid) (codes " ") (subject_text subject) (limits_text limits) rest in
+    let regroup = regroup5 (version_text limits.version) (grid_word grid) (codes " ") (subject_text subject) (limits_text limits) rest in
+    let v = version_again limits.version (grid_word grid ++ (codes " " ++ (subject_text subject ++ (limits_text limits ++ rest)))) in
     let s0 = grid_again grid (codes " " ++ (subject_text subject ++ (limits_text limits ++ rest))) in
-    let s2 = subject_again grid subject (limits_text limits ++ rest) fits.0 refl in
+    let s2 = subject_again limits.version grid subject (limits_text limits ++ rest) fits.0 refl in
     let s3 = limits_again limits rest fits.1 stops in
-    rw (regroup, s0, s2, s3) refl
+    rw (regroup, v, s0, s2, s3) refl
 header_again false grid subject limits rest fits stops ends =
-    let regroup = regroup4 (grid_word grid) (codes " ") (subject_text subject) (limits_text limits) rest in
+    let regroup = regroup5 (version_text limits.version) (grid_word grid) (codes " ") (subject_text subject) (limits_text limits) rest in
+    let v = version_again limits.version (grid_word grid ++ (codes " " ++ (subject_text subject ++ (limits_text limits ++ rest)))) in
     let s0 = grid_again grid (codes " " ++ (subject_text subject ++ (limits_text limits ++ rest))) in
-    let s2 = subject_again grid subject (limits_text limits ++ rest) fits.0 refl in
+    let s2 = subject_again limits.version grid subject (limits_text limits ++ rest) fits.0 refl in
     let s3 = limits_again limits rest fits.1 stops in
-    rw (regroup, s0, s2, s3) refl
+    rw (regroup, v, s0, s2, s3) refl
 
 shape_again : (cells : List Cell) (rest : List ℕ) → IsLine (lines.Shape cells) → Stops rest → Ends rest → front_line_at (words_of (lines.Shape cells) ++ rest) ≡ Some (lines.Shape cells, rest)
 unfolding front_line_at shape_at

@@ -5,21 +5,22 @@ use Rattle.std.proofs.lemmas.Bool.{eqb-true}
 use Rattle.std.proofs.lemmas.List.{append-nil, nil_from_length}
 use Rattle.heesch_grid.specs.Lattice.{Triple}
 use Rattle.heesch_lattice.specs.Reduction.{lattice, IsSmallTriple}
+use Rattle.heesch_cert.specs.Sizes.{IsSubject}
 use Rattle.heesch_cert.specs.declared.verdict.Phase.{Phase}
 use Rattle.heesch_cert.specs.declared.verdict.Verdict.{Verdict}
 use Rattle.heesch_cert.specs.declared.verdict.Verdict.TheVariants as verdicts
 use Rattle.heesch_text.specs.declared.line.Line.{Line}
 use Rattle.heesch_text.specs.declared.line.Line.TheVariants as lines
 use Rattle.heesch_text.specs.Fields.{triple_text}
-use Rattle.heesch_text.specs.Names.{phase_text}
+use Rattle.heesch_text.specs.Names.{version_text, phase_text}
 use Rattle.heesch_text.specs.Lines.{verdict_text, words_of}
 use Rattle.heesch_text.specs.Naturals.{IsNatural}
 use Rattle.heesch_line.specs.Forms.{IsVerdict, IsLine}
-use Rattle.heesch_line.specs.Reading.{◌>>=◌, behind, literal_at, number_at, iso_at, lit_at, is_triple, three_numbers_at, triple_of, grid_at, kind_at, phase_at, outcome_at, bare_outcome_at, subject_at, labelled_at, limits_at, more_words_at, some_words_at, cells_at}
+use Rattle.heesch_line.specs.Reading.{◌>>=◌, behind, literal_at, number_at, iso_at, lit_at, is_triple, three_numbers_at, triple_of, version_at, grid_at, kind_at, phase_at, outcome_at, bare_outcome_at, subject_at, labelled_at, limits_at, more_words_at, some_words_at, cells_at}
 use Rattle.heesch_line.specs.LineReading.{header_at, shape_at, tiles_at, heesch_at, stop_at, verdict_at, verdict_line_at, end_at, lattice_at, tile_at, coronas_at, layer_at, open_at, wall_at, bare_at, triple_line_at, learn_at, cut_at, empty_at, search_line_at, cover_line_at, front_line_at, line_at}
 use Rattle.heesch_line.proofs.Steps.{some, some_is, none_some, bind_some, given_some, behind_some, Takes, ◌▸◌, same_takes, literal_part, IsRead, is_read, word_read}
 use Rattle.heesch_line.proofs.Numbers.{number_read, labelled_parts}
-use Rattle.heesch_line.proofs.FieldLaws.{iso_read, three_numbers_read, triple_fits, grid_read, kind_read, phase_read, outcome_read, bare_outcome_read, subject_read, limits_read}
+use Rattle.heesch_line.proofs.FieldLaws.{version_read, iso_read, three_numbers_read, triple_fits, grid_read, kind_read, phase_read, outcome_read, bare_outcome_read, subject_read, limits_read}
 use Rattle.heesch_line.proofs.WordLaws.{numbers_read, all_numbers_read, literals_read, places_read, cells_read}
 
 tiles_read : (all bytes : List ℕ) (x : Verdict × List ℕ) → Takes all (codes "tiles ") bytes → tiles_at bytes ≡ Some x → IsRead verdict_text IsVerdict all x
@@ -130,16 +131,19 @@ brief_word brief = if brief then codes "brief" else codes "heesch"
 header_read : (brief : Bool) (all bytes : List ℕ) (x : Line × List ℕ) → Takes all (brief_word brief) bytes → header_at brief bytes ≡ Some x → IsRead words_of IsLine all x
 unfolding header_at
 header_read brief all bytes x front e =
-    let l = bind_some (literal_at (codes " 1 ") bytes) _ x e in
-    let g = bind_some (grid_at l.0) _ x l.2 in
-    let fg = grid_read l.0 g.0 g.1 in
+    let v = bind_some (version_at bytes) _ x e in
+    let fv = version_read bytes v.0 v.1 in
+    let g = bind_some (grid_at v.0.1) _ x v.2 in
+    let fg = grid_read v.0.1 g.0 g.1 in
     let m = bind_some (literal_at (codes " ") g.0.1) _ x g.2 in
-    let s = bind_some (subject_at g.0.0 m.0) _ x m.2 in
-    let fs = subject_read g.0.0 m.0 s.0 s.1 in
-    let z = bind_some (limits_at s.0.1) _ x s.2 in
-    let fz = limits_read s.0.1 z.0 z.1 in
+    let s = bind_some (subject_at v.0.0 g.0.0 m.0) _ x m.2 in
+    let fs = subject_read v.0.0 g.0.0 m.0 s.0 s.1 in
+    let z = bind_some (limits_at v.0.0 s.0.1) _ x s.2 in
+    let fz = limits_read v.0.0 s.0.1 z.0 z.1 in
+    let version_takes : Takes bytes (version_text z.0.0.version) v.0.1 = subst (λ n. Takes bytes (version_text n) v.0.1) (sym fz.fits.1) fv.takes in
+    let subject_fits : IsSubject z.0.0.version g.0.0 s.0.0 = subst (λ n. IsSubject n g.0.0 s.0.0) (sym fz.fits.1) fs.fits in
     let made : Line × List ℕ = (lines.Header (record { brief = brief; grid = g.0.0; subject = s.0.0; limits = z.0.0 }), z.0.1) in
-    is_read {made = made} words_of IsLine all (some_is made x z.2) (front ▸ literal_part (codes " 1 ") bytes l.0 l.1 ▸ fg.takes ▸ literal_part (codes " ") g.0.1 m.0 m.1 ▸ fs.takes ▸ fz.takes) (fs.fits, fz.fits)
+    is_read {made = made} words_of IsLine all (some_is made x z.2) (front ▸ version_takes ▸ fg.takes ▸ literal_part (codes " ") g.0.1 m.0 m.1 ▸ fs.takes ▸ fz.takes) (subject_fits, fz.fits.0)
 
 shape_read : (all bytes : List ℕ) (x : Line × List ℕ) → Takes all (codes "shape ") bytes → shape_at bytes ≡ Some x → IsRead words_of IsLine all x
 unfolding shape_at

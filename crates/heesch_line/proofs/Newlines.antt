@@ -18,8 +18,11 @@ use Rattle.heesch_lattice.specs.Reduction.{IsSmallTriple}
 use Rattle.heesch_cert.specs.declared.header.Header.{Header}
 use Rattle.heesch_cert.specs.declared.header.Subject.{Subject}
 use Rattle.heesch_cert.specs.declared.header.Subject.TheVariants.{Size, Given}
+use Rattle.heesch_cnf.specs.declared.version.Version.{Version}
+use Rattle.heesch_cnf.specs.declared.version.Version.TheVariants.{One, Two}
 use Rattle.heesch_cert.specs.declared.limits.Limits.{Limits}
 use Rattle.heesch_cert.specs.Limits.{AreLimits}
+use Rattle.heesch_cert.specs.Sizes.{IsSubject}
 use Rattle.heesch_cert.specs.declared.verdict.Kind.{Kind}
 use Rattle.heesch_cert.specs.declared.verdict.Kind.TheVariants.{Translation, HalfTurn, Periodic}
 use Rattle.heesch_cert.specs.declared.verdict.Phase.{Phase}
@@ -33,10 +36,10 @@ use Rattle.heesch_text.specs.declared.line.BareOutcome.TheVariants as bares
 use Rattle.heesch_text.specs.declared.line.Line.{Line}
 use Rattle.heesch_text.specs.declared.line.Line.TheVariants as lines
 use Rattle.heesch_text.specs.Fields.{spaced, cell_text, cells_text, iso_text, place_text, lit_text, triple_text}
-use Rattle.heesch_text.specs.Names.{kind_text, phase_text, subject_text, outcome_text, bare_text}
+use Rattle.heesch_text.specs.Names.{version_text, kind_text, phase_text, subject_text, outcome_text, bare_text}
 use Rattle.heesch_text.specs.Lines.{title_text, limits_text, verdict_text, words_of}
 use Rattle.heesch_text.specs.Naturals.{IsNatural}
-use Rattle.heesch_line.specs.Forms.{IsInteger, IsPlace, IsLiteral, IsSubject, IsVerdict, IsLine, HasNoNewline}
+use Rattle.heesch_line.specs.Forms.{IsInteger, IsPlace, IsLiteral, IsVerdict, IsLine, HasNoNewline}
 use Rattle.heesch_line.proofs.Numbers.{decimal_digits}
 use Rattle.heesch_line.proofs.FieldLaws.{few_cells, triple_natural}
 
@@ -133,6 +136,10 @@ kind_free Translation = record { is = refl }
 kind_free HalfTurn = record { is = refl }
 kind_free Periodic = record { is = refl }
 
+version_free : (x : Version) → Free (version_text x)
+version_free One = record { is = refl }
+version_free Two = record { is = refl }
+
 phase_free : (x : Phase) → Free (phase_text x)
 phase_free FreePhase = record { is = refl }
 phase_free BarePhase = record { is = refl }
@@ -147,9 +154,9 @@ bare_free bares.Same = record { is = refl }
 bare_free bares.Open = record { is = refl }
 bare_free (bares.Searched outcome) = outcome_free outcome
 
-subject_free : (grid : GridName) (x : Subject) → IsSubject grid x → Free (subject_text x)
-subject_free grid Given fits = record { is = refl }
-subject_free grid (Size n) fits = let most = few_cells grid in decimal_free n (omega arith)
+subject_free : (version : Version) (grid : GridName) (x : Subject) → IsSubject version grid x → Free (subject_text x)
+subject_free version grid Given fits = record { is = refl }
+subject_free version grid (Size n) fits = let most = few_cells version grid in decimal_free n (omega arith)
 
 number_behind : (word : List ℕ) (n : ℕ) → free word ≡ true → IsNatural n → Free (word ++ decimal n)
 number_behind word n h fits = both_free (word_free word h) (decimal_free n fits)
@@ -166,8 +173,8 @@ limits_free l fits =
     let domain = both_free (both_free levels (word_free (codes " domain ") refl)) (decimal_free l.domain natural.2) in
     both_free (both_free domain (word_free (codes " size ") refl)) (decimal_free l.size natural.3)
 
-title_free : (h : Header) → IsSubject h.grid h.subject → Free (title_text h)
-title_free h fits = both_free (both_free (both_free (both_free (brief h.brief) (word_free (codes " 1 ") refl)) (grid_free h.grid)) space) (subject_free h.grid h.subject fits)
+title_free : (h : Header) → IsSubject h.limits.version h.grid h.subject → Free (title_text h)
+title_free h fits = both_free (both_free (both_free (both_free (brief h.brief) (version_free h.limits.version)) (grid_free h.grid)) space) (subject_free h.limits.version h.grid h.subject fits)
   where
     brief : (b : Bool) → Free (if b then codes "brief" else codes "heesch")
     brief true = record { is = refl }

@@ -1,17 +1,14 @@
 -- The forms of a line: the ranges of its numbers, and which of its lists have an item at least.
 use Rattle.std.specs.Prelude.{◌≡◌, ℕ, ◌<◌, ◌≤◌, ◌≢◌, ◌++◌, List, [], ℤ, pos, neg_ℤ, ◌≤ℤ◌}
 use Rattle.std.specs.List.{AllByRecursion}
-use Rattle.heesch_grid.specs.declared.GridName.{GridName}
 use Rattle.heesch_grid.specs.declared.isometries.Iso.{Iso}
 use Rattle.heesch_grid.specs.Vectors.{IsWithin}
 use Rattle.heesch_cnf.specs.declared.literal.Lit.{Lit}
 use Rattle.heesch_lattice.specs.Reduction.{IsSmallTriple}
-use Rattle.heesch_cert.specs.declared.header.Subject.{Subject}
-use Rattle.heesch_cert.specs.declared.header.Subject.TheVariants.{Size, Given}
 use Rattle.heesch_cert.specs.declared.verdict.Verdict.{Verdict}
 use Rattle.heesch_cert.specs.declared.verdict.Verdict.TheVariants as verdicts
 use Rattle.heesch_cert.specs.Limits.{AreLimits}
-use Rattle.heesch_words.specs.Requests.{most_cells}
+use Rattle.heesch_cert.specs.Sizes.{IsSubject}
 use Rattle.heesch_text.specs.declared.line.Line.{Line}
 use Rattle.heesch_text.specs.declared.line.Line.TheVariants as lines
 use Rattle.heesch_text.specs.Naturals.{IsNatural}
@@ -35,11 +32,6 @@ pub record AreSome {X : Type 0} (P : X → Type 0) (items : List X) : Type 0 whe
   pub some : items ≢ []
   pub each : AllByRecursion P items
 
--- the size is one for which all polyforms of the grid are listed
-abbrev pub IsSubject : GridName → Subject → Type 0
-IsSubject grid (Size n) = (1 ≤ n) × (n ≤ most_cells grid)
-IsSubject grid Given = Unit {0}
-
 -- the numbers of a verdict fit 32 bits
 abbrev pub IsVerdict : Verdict → Type 0
 IsVerdict (verdicts.Tiles kind domain classes) = IsNatural domain × IsNatural classes
@@ -51,7 +43,7 @@ IsVerdict (verdicts.Size h phase at) = IsNatural h × IsNatural at
 
 -- the line has a form of a catalogue's line
 abbrev pub IsLine : Line → Type 0
-IsLine (lines.Header header) = IsSubject header.grid header.subject × AreLimits header.limits
+IsLine (lines.Header header) = IsSubject header.limits.version header.grid header.subject × AreLimits header.limits
 IsLine (lines.Shape cells) = AreSome (IsWithin 100000) cells
 IsLine (lines.Verdict verdict) = IsVerdict verdict
 IsLine (lines.Lattice triple) = IsSmallTriple triple

@@ -5,15 +5,15 @@ use Rattle.heesch_cert.specs.declared.verdict.Verdict.{Verdict}
 use Rattle.heesch_cert.specs.declared.verdict.Verdict.TheVariants as verdicts
 use Rattle.heesch_text.specs.declared.line.Line.{Line}
 use Rattle.heesch_text.specs.declared.line.Line.TheVariants as lines
-use Rattle.heesch_line.specs.Reading.{◌>>=◌, given, behind, literal_at, number_at, iso_at, lit_at, three_numbers_at, triple_of, grid_at, kind_at, phase_at, outcome_at, bare_outcome_at, subject_at, labelled_at, limits_at, more_words_at, some_words_at, cells_at}
+use Rattle.heesch_line.specs.Reading.{◌>>=◌, given, behind, literal_at, number_at, iso_at, lit_at, three_numbers_at, triple_of, version_at, grid_at, kind_at, phase_at, outcome_at, bare_outcome_at, subject_at, labelled_at, limits_at, more_words_at, some_words_at, cells_at}
 
 unfoldable pub header_at : Bool → List ℕ → Option (Line × List ℕ)
 header_at brief bytes = do
-  first ← literal_at (codes " 1 ") bytes
-  grid ← grid_at first
+  version ← version_at bytes
+  grid ← grid_at version.1
   second ← literal_at (codes " ") grid.1
-  subject ← subject_at grid.0 second
-  limits ← limits_at subject.1
+  subject ← subject_at version.0 grid.0 second
+  limits ← limits_at version.0 subject.1
   Some (lines.Header (record { brief = brief; grid = grid.0; subject = subject.0; limits = limits.0 }), limits.1)
 
 unfoldable pub shape_at : List ℕ → Option (Line × List ℕ)

@@ -11,6 +11,8 @@ use Rattle.heesch_grid.specs.declared.GridName.TheVariants.{Square, Hex, Iamond}
 use Rattle.heesch_grid.specs.Lattice.{Triple}
 use Rattle.heesch_cnf.specs.declared.literal.Lit.{Lit}
 use Rattle.heesch_lattice.specs.Reduction.{lattice}
+use Rattle.heesch_cnf.specs.declared.version.Version.{Version}
+use Rattle.heesch_cnf.specs.declared.version.Version.TheVariants.{One, Two}
 use Rattle.heesch_cert.specs.declared.limits.Limits.{Limits}
 use Rattle.heesch_cert.specs.declared.header.Subject.{Subject}
 use Rattle.heesch_cert.specs.declared.header.Subject.TheVariants.{Size, Given}
@@ -22,7 +24,7 @@ use Rattle.heesch_text.specs.declared.line.Outcome.{Outcome}
 use Rattle.heesch_text.specs.declared.line.Outcome.TheVariants as outcomes
 use Rattle.heesch_text.specs.declared.line.BareOutcome.{BareOutcome}
 use Rattle.heesch_text.specs.declared.line.BareOutcome.TheVariants as bares
-use Rattle.heesch_words.specs.Requests.{most_cells}
+use Rattle.heesch_cert.specs.Sizes.{most_cells}
 use Rattle.heesch_line.specs.declared.fault.LineFault.{LineFault}
 use Rattle.heesch_line.specs.declared.fault.LineFault.TheVariants.{NotALine, NoMemory}
 
@@ -160,11 +162,17 @@ bare_outcome_at bytes =
     (behind (literal_at (codes "open") bytes) (λ rest. Some (bares.Open, rest))
     (outcome_at bytes >>= λ outcome. Some (bares.Searched outcome.0, outcome.1)))
 
--- a size of the grid, or `given`
-unfoldable pub subject_at : GridName → List ℕ → Option (Subject × List ℕ)
-subject_at grid bytes =
+-- the number of a version, between spaces
+unfoldable pub version_at : List ℕ → Option (Version × List ℕ)
+version_at bytes =
+    behind (literal_at (codes " 1 ") bytes) (λ rest. Some (One, rest))
+    (behind (literal_at (codes " 2 ") bytes) (λ rest. Some (Two, rest)) None)
+
+-- a size of the grid and the version, or `given`
+unfoldable pub subject_at : Version → GridName → List ℕ → Option (Subject × List ℕ)
+subject_at version grid bytes =
     behind (literal_at (codes "given") bytes) (λ rest. Some (Given, rest))
-    (number_at bytes >>= λ n. given (nat_lt 0 n.0 && nat_le n.0 (most_cells grid)) (Size n.0, n.1))
+    (number_at bytes >>= λ n. given (nat_lt 0 n.0 && nat_le n.0 (most_cells version grid)) (Size n.0, n.1))
 
 -- the number is between others
 abbrev pub is_between : ℕ → ℕ → ℕ → Bool
@@ -174,18 +182,18 @@ is_between low high n = nat_le low n && nat_le n high
 abbrev pub are_limits : Limits → Bool
 are_limits l = (is_between 1 1000000 l.turns && is_between 1 6 l.levels) && (is_between 1 12 l.domain && is_between 1 60000000 l.size)
 
--- the limits of these numbers
-abbrev pub limits_of : (turns levels domain size : ℕ) → Limits
-limits_of turns levels domain size = record { turns = turns; levels = levels; domain = domain; size = size }
+-- the limits of this version and these numbers
+abbrev pub limits_of : (version : Version) (turns levels domain size : ℕ) → Limits
+limits_of version turns levels domain size = record { turns = turns; levels = levels; domain = domain; size = size; version = version }
 
--- the four limits
-unfoldable pub limits_at : List ℕ → Option (Limits × List ℕ)
-limits_at bytes = do
+-- the four limits, under a version
+unfoldable pub limits_at : Version → List ℕ → Option (Limits × List ℕ)
+limits_at version bytes = do
   turns ← labelled_at (codes " turns ") bytes
   levels ← labelled_at (codes " levels ") turns.1
   domain ← labelled_at (codes " domain ") levels.1
   size ← labelled_at (codes " size ") domain.1
-  given (are_limits (limits_of turns.0 levels.0 domain.0 size.0)) (limits_of turns.0 levels.0 domain.0 size.0, size.1)
+  given (are_limits (limits_of version turns.0 levels.0 domain.0 size.0)) (limits_of version turns.0 levels.0 domain.0 size.0, size.1)
 
 -- a further word: a space, and behind it no colon
 abbrev pub has_word : List ℕ → Bool

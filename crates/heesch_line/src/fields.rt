@@ -7,7 +7,7 @@ ghost use Rattle.heesch_line.specs.Reading.{Gives, literal_at, digits_len, numbe
 
 use crate::LineFault;
 use heesch_cert::Limits;
-use heesch_cnf::Lit;
+use heesch_cnf::{Lit, Version};
 use heesch_grid::{Cell, Iso};
 use heesch_lattice::Triple;
 
@@ -183,10 +183,10 @@ pub fn triple_of(p: u32, q: u32, s: u32) -> Result<Triple, LineFault>
     }
 }
 
-/// The four limits, each behind its name.
+/// The four limits, each behind its name, under a version.
 #[tactic(auto, unfolding(crate::specs::Reading::limits_at))]
-pub fn limits(bytes: &[u8]) -> Result<(Limits, &[u8]), LineFault>
-    ensures { Gives (λ x. (x.0, x.1.now)) result (limits_at bytes.now) }
+pub fn limits(version: Version, bytes: &[u8]) -> Result<(Limits, &[u8]), LineFault>
+    ensures { Gives (λ x. (x.0, x.1.now)) result (limits_at version bytes.now) }
 {
     let (turns, rest) = labelled(b" turns ", bytes)?;
     let (levels, rest) = labelled(b" levels ", rest)?;
@@ -197,6 +197,7 @@ pub fn limits(bytes: &[u8]) -> Result<(Limits, &[u8]), LineFault>
         levels,
         domain,
         size,
+        version,
     };
     if !limits.valid() {
         return Err(LineFault::NotALine);

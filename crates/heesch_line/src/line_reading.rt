@@ -33,7 +33,7 @@ ghost use Rattle.heesch_line.specs.LineReading.{
 
 use crate::LineFault;
 use crate::fields::{after, iso, labelled, limits, literal, number, three_numbers, triple_of};
-use crate::names::{bare_outcome, grid, kind, outcome, phase, subject};
+use crate::names::{bare_outcome, grid, kind, outcome, phase, subject, version};
 use crate::words::{cells, more_words, some_words};
 use heesch_cert::{Cut, Header, Isos, Member, Phase, Verdict};
 use heesch_cnf::{Hints, Lits};
@@ -45,11 +45,11 @@ use std::alloc::Global;
 fn header(brief: bool, bytes: &[u8]) -> Result<(Line, &[u8]), LineFault>
     ensures { Gives (λ x. (x.0, x.1.now)) result (header_at brief bytes.now) }
 {
-    let rest = literal(b" 1 ", bytes)?;
+    let (version, rest) = version(bytes)?;
     let (grid, rest) = grid(rest)?;
     let rest = literal(b" ", rest)?;
-    let (subject, rest) = subject(grid, rest)?;
-    let (limits, rest) = limits(rest)?;
+    let (subject, rest) = subject(version, grid, rest)?;
+    let (limits, rest) = limits(version, rest)?;
     let header = Header {
         brief,
         grid,

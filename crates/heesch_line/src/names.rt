@@ -1,11 +1,11 @@
 //! The words that name a grid, a subject, the kind of a tiling and the end of a search, read from the front of a text.
 ghost use Rattle.std.specs.Prelude.{◌≡◌, ℕ, List};
-ghost use Rattle.heesch_words.specs.Requests.{most_cells};
-ghost use Rattle.heesch_line.specs.Reading.{Gives, grid_at, kind_at, phase_at, outcome_at, bare_outcome_at, subject_at};
+ghost use Rattle.heesch_line.specs.Reading.{Gives, version_at, grid_at, kind_at, phase_at, outcome_at, bare_outcome_at, subject_at};
 
 use crate::LineFault;
 use crate::fields::{after, literal, number};
-use heesch_cert::{Kind, Phase, Subject};
+use heesch_cert::{Kind, Phase, Subject, most_cells};
+use heesch_cnf::Version;
 use heesch_grid::GridName;
 use heesch_text::{BareOutcome, Outcome};
 
@@ -81,27 +81,32 @@ pub fn bare_outcome(bytes: &[u8]) -> Result<(BareOutcome, &[u8]), LineFault>
     Ok((BareOutcome::Searched { outcome }, rest))
 }
 
-/// The greatest size of a header.
-fn most_cells(grid: GridName) -> u32
-    ensures { result ≡ most_cells grid }
+/// The number of a version, between spaces.
+#[tactic(auto, unfolding(crate::specs::Reading::version_at))]
+pub fn version(bytes: &[u8]) -> Result<(Version, &[u8]), LineFault>
+    ensures { Gives (λ x. (x.0, x.1.now)) result (version_at bytes.now) }
 {
-    match grid {
-        GridName::Square => 12,
-        GridName::Hex => 10,
-        GridName::Iamond => 15,
+    if let Some(rest) = after(b" 1 ", bytes) {
+        return Ok((Version::One, rest));
     }
+    let rest = literal(b" 2 ", bytes)?;
+    Ok((Version::Two, rest))
 }
 
-/// The size of the grid's polyforms, or `given`.
+/// The size of the grid's polyforms, in the range of the version, or `given`.
 #[tactic(auto, unfolding(crate::specs::Reading::subject_at))]
-pub fn subject(grid: GridName, bytes: &[u8]) -> Result<(Subject, &[u8]), LineFault>
-    ensures { Gives (λ x. (x.0, x.1.now)) result (subject_at grid bytes.now) }
+pub fn subject(
+    version: Version,
+    grid: GridName,
+    bytes: &[u8],
+) -> Result<(Subject, &[u8]), LineFault>
+    ensures { Gives (λ x. (x.0, x.1.now)) result (subject_at version grid bytes.now) }
 {
     if let Some(rest) = after(b"given", bytes) {
         return Ok((Subject::Given, rest));
     }
     let (n, rest) = number(bytes)?;
-    if n == 0 || n > most_cells(grid) {
+    if n == 0 || n > most_cells(version, grid) {
         return Err(LineFault::NotALine);
     }
     Ok((Subject::Size { n }, rest))

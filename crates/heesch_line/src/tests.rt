@@ -12,6 +12,7 @@ fn lines_of_worked_texts_are_read(rt: HostRuntime) -> Result<(), Fail> {
     let lines = [
         "heesch 1 iamond 1 turns 20000 levels 3 domain 4 size 60000000",
         "brief 1 square given turns 20000 levels 3 domain 4 size 12",
+        "heesch 2 square 14 turns 20000 levels 3 domain 4 size 60000000",
         "shape 1,1",
         "shape 0,0 1,0 2,0 0,1 2,1 0,2 1,2",
         "verdict tiles halfturn domain 2 classes 1",
@@ -74,7 +75,8 @@ fn other_lines_are_refused(rt: HostRuntime) -> Result<(), Fail> {
         "cut 1 : 1,1 : ",
         "wall 1 open",
         "heesch 1 square 13 turns 20000 levels 3 domain 4 size 60000000",
-        "heesch 2 square 12 turns 20000 levels 3 domain 4 size 60000000",
+        "heesch 2 square 15 turns 20000 levels 3 domain 4 size 60000000",
+        "heesch 3 square 12 turns 20000 levels 3 domain 4 size 60000000",
         "heesch 1 square 4 turns 20000 levels 7 domain 4 size 60000000",
     ];
     for line in lines {

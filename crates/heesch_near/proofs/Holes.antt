@@ -15,6 +15,7 @@ use Rattle.heesch_grid.proofs.ListFacts.{All-from_members, filter_member, member
 use Rattle.heesch_grid.proofs.WindowFacts.{member_flat_map, flat_map_member}
 use Rattle.heesch_cert.specs.declared.proof.Cut.{Cut}
 use Rattle.heesch_cert.specs.Cuts.{IsLawful, IsInBorder}
+use Rattle.heesch_cert.proofs.Versions.{universe_of}
 use Rattle.heesch_cuts.proofs.HoleFacts.{hole_within}
 use Rattle.heesch_near.specs.Statements.{HolesAreNear}
 use Rattle.heesch_near.proofs.Distances.{wider}
@@ -66,9 +67,9 @@ module _ (g : Geometry) (law : IsGrid g) (shape : List Cell) (s : IsNearShape g 
   hole_near = hole_within g law around cut.hole is_hole 1200 (All-from_members (IsWithin 1200) around (λ c m. whole_near c (filter_member (λ c. not (has cut.hole c)) whole c m).0))
 
 pub holes_are_near : HolesAreNear
-holes_are_near g law n shape j vars count clauses cut low most free from to formula lawful =
+holes_are_near version g law n shape j vars count clauses cut low most free from to formula lawful =
     let s : IsNearShape g shape = near_shape g law n shape most free in
-    let near = hole_near g law shape s j vars to formula.is_formula.is_universe cut lawful in
+    let near = hole_near g law shape s j vars to (universe_of version g shape j vars count clauses formula) cut lawful in
     record {
       some = λ e. let l = lawful.some in let none = ap length e in omega (arith, l, none);
       near = recursion_from_All (IsWithin 100000) cut.hole (All-from_members (IsWithin 100000) cut.hole (λ c m. wider 1200 100000 c (omega arith) (All-contains (IsWithin 1200) cut.hole c near m)));

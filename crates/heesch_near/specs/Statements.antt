@@ -14,6 +14,7 @@ use Rattle.heesch_grid.specs.Vectors.{IsWithin}
 use Rattle.heesch_cnf.specs.declared.literal.Lit.{Lit}
 use Rattle.heesch_cert.specs.declared.proof.Cut.{Cut}
 use Rattle.heesch_cert.specs.Cuts.{IsLawful}
+use Rattle.heesch_cnf.specs.declared.version.Version.{Version}
 use Rattle.heesch_cert.specs.Formulas.{IsCountedFormula}
 use Rattle.heesch_cert.specs.Reduced.{IsReducedPlace}
 use Rattle.heesch_cert.specs.TrueEntry.{Spells}
@@ -41,10 +42,10 @@ abbrev pub CoronasAreNear : Type 0
 CoronasAreNear = (g : Geometry) → IsGrid g → (n : ℕ) (shape : List Cell) (layers : List (List Iso)) (tiles : List (List (List Cell))) → 1 ≤ n → n ≤ 32 → IsFreePolyform g n shape → length layers ≤ 6
     → Spells g shape layers tiles → AreCoronas g shape tiles → AllByRecursion (IsNearLayer g) layers
 
--- and the hole of a lawful cut, over its corona formula of at most six levels
+-- and the hole of a lawful cut, over its corona formula, of either version, of at most six levels
 abbrev pub HolesAreNear : Type 0
-HolesAreNear = (g : Geometry) → IsGrid g → (n : ℕ) (shape : List Cell) (j : ℕ) (vars : List Variable) (count : ℕ) (clauses : List (List Lit)) (cut : Cut) → 1 ≤ n → n ≤ 32 → IsFreePolyform g n shape → 1 ≤ j → j ≤ 6
-    → IsCountedFormula g shape j vars count clauses → IsLawful g shape j vars cut → IsNearHole cut.hole
+HolesAreNear = (version : Version) (g : Geometry) → IsGrid g → (n : ℕ) (shape : List Cell) (j : ℕ) (vars : List Variable) (count : ℕ) (clauses : List (List Lit)) (cut : Cut) → 1 ≤ n → n ≤ 32 → IsFreePolyform g n shape → 1 ≤ j → j ≤ 6
+    → IsCountedFormula version g shape j vars count clauses → IsLawful g shape j vars cut → IsNearHole cut.hole
 
 -- and the symmetries that take tiles of a reduced cover to each other
 abbrev pub ClassesAreNear : Type 0

@@ -4,15 +4,18 @@ use Rattle.std.proofs.Math.Seq.{take-append-add}
 use Rattle.std.proofs.lemmas.Bool.{cases_lt}
 use Rattle.std.proofs.lemmas.Bool.Decides.{Decides-eqb}
 use Rattle.std.proofs.lemmas.List.{get_or_default}
-use Rattle.std.proofs.lemmas.List.Elements.{All-head, All-weaker, All-contains}
+use Rattle.std.proofs.lemmas.List.Elements.{All-head, All-tail, All-weaker, All-contains}
 use Rattle.heesch_cnf.specs.declared.literal.Lit.{Lit}
 use Rattle.heesch_cnf.specs.declared.log.Line.{Line}
+use Rattle.heesch_cnf.specs.declared.log.Line.TheVariants.{Given}
 use Rattle.heesch_cnf.specs.Literals.{Values, lit_value, signed}
 use Rattle.heesch_cnf.specs.Clauses.{IsClause, IsNew, IsWithin}
 use Rattle.heesch_cnf.specs.Lines.{refuting, clause_of, clauses_of, clauses_with, LinesAreNew}
 use Rattle.heesch_cnf.proofs.Lists.{Contains-none, Contains-here, Contains-there, Contains-cases}
 use Rattle.heesch_cnf.proofs.Rising.{Rises, Rises-from_adjacent}
-use Rattle.heesch_rup.specs.Listed.{lit_slot, slot_of, IsFalsified, SomeFalsified, NoneFalsifiedAt}
+use Rattle.heesch_cnf.specs.Flat.{code_of}
+use Rattle.heesch_rup.specs.Listed.{slot_of, IsFalsified, SomeFalsified, NoneFalsifiedAt}
+use Rattle.heesch_rup.proofs.Rarest.{rarest-of}
 
 same_literal : (x l : Lit) → x.var ≡ l.var → signed l.positive (Some (not x.positive)) ≡ Some false → x ≡ l
 same_literal x l var e = ap (λ (n : ℕ). record x { var = n }) var ∙ ap (λ (b : Bool). record l { positive = b }) (by_signs x.positive l.positive e)
@@ -77,19 +80,20 @@ IsNew-at clauses n clause le fresh k below =
     subst (λ e. IsWithin e clause → ⊥) (get_or-take n clauses k [] below) (fresh k [] (omega (arith, length-take-le n clauses le)))
 
 -- where no clause of the empty clause's slot, nor of a slot of a literal of the clause, is falsified, the clause is new
-pub new_when_none : (vars : ℕ) (values : Values) (clauses : List (List Lit)) (n : ℕ) (clause : List Lit) → values ≡ refuting clause → IsClause vars clause → n ≤ length clauses →
-    NoneFalsifiedAt values clauses n 0 → ((j : ℕ) (d : Lit) → j < length clause → NoneFalsifiedAt values clauses n (lit_slot (get_or clause j d))) → IsNew (take n clauses) clause
-new_when_none vars values clauses n clause is form le none_empty none = IsNew-from clauses n clause le (λ k lt. by_form k lt (get_or clauses k []) refl)
+pub new_when_none : (counts : List ℕ) (vars : ℕ) (values : Values) (clauses : List (List Lit)) (n : ℕ) (clause : List Lit) → values ≡ refuting clause → IsClause vars clause → n ≤ length clauses →
+    NoneFalsifiedAt counts values clauses n 0 → ((j : ℕ) (d : Lit) → j < length clause → NoneFalsifiedAt counts values clauses n (code_of (get_or clause j d))) → IsNew (take n clauses) clause
+new_when_none counts vars values clauses n clause is form le none_empty none = IsNew-from clauses n clause le (λ k lt. by_form k lt (get_or clauses k []) refl)
   where
     falsified : (e : List Lit) → IsWithin e clause → IsFalsified values e
     falsified e within = subst (λ (v : Values). IsFalsified v e) (sym is) (falsified_within vars e clause form within)
 
     by_form : (k : ℕ) → k < n → (e : List Lit) → get_or clauses k [] ≡ e → IsWithin e clause → ⊥
-    by_form k lt [] at within = none_empty k lt (ap slot_of at) (subst (IsFalsified values) (sym at) (falsified [] within))
+    by_form k lt [] at within = none_empty k lt (ap (slot_of counts) at) (subst (IsFalsified values) (sym at) (falsified [] within))
     by_form k lt (l ∷ ls) at within =
-        let has = All-head (Contains clause) l ls within in
-        let slot = ap slot_of at ∙ ap lit_slot (sym has.2) in
-        none has.0 l has.1 k lt slot (subst (IsFalsified values) (sym at) (falsified (l ∷ ls) within))
+        let one = rarest-of counts (Contains clause) l ls (All-head (Contains clause) l ls within) (All-tail (Contains clause) l ls within) in
+        let has = one.1.0 in
+        let slot = ap (slot_of counts) at ∙ one.1.1 ∙ ap code_of (sym has.2) in
+        none has.0 one.0 has.1 k lt slot (subst (IsFalsified values) (sym at) (falsified (l ∷ ls) within))
 
 -- a falsified clause among the first n lies within the clause
 pub not_new_when_some : (values : Values) (clauses : List (List Lit)) (n : ℕ) (clause : List Lit) → values ≡ refuting clause → n ≤ length clauses → SomeFalsified values clauses n → IsNew (take n clauses) clause → ⊥
@@ -112,27 +116,25 @@ take-clauses_with clauses lines n i is =
     ap (λ m. take m (clauses_with clauses lines)) is ∙ take-append-add clauses (clauses_of lines) i ∙ ap (λ cs. clauses ++ cs) (take-map i lines)
 
 -- one line more is new
-pub fresh_more : (clauses : List (List Lit)) (lines : List Line) (i : ℕ) (x : Line) → i < length lines → x ≡ get_or lines i x →
-    ((k : ℕ) (d : Line) → k < i → IsNew (clauses_with clauses (take k lines)) (clause_of (get_or lines k d))) → IsNew (clauses_with clauses (take i lines)) (clause_of x) →
+pub fresh_more : (clauses : List (List Lit)) (lines : List Line) (i : ℕ) (clause : List Lit) → ((d : Line) → clause ≡ clause_of (get_or lines i d)) →
+    ((k : ℕ) (d : Line) → k < i → IsNew (clauses_with clauses (take k lines)) (clause_of (get_or lines k d))) → IsNew (clauses_with clauses (take i lines)) clause →
     (k : ℕ) (d : Line) → k < i + 1 → IsNew (clauses_with clauses (take k lines)) (clause_of (get_or lines k d))
-fresh_more clauses lines i x lt is before here k d below = elim (cases_lt k i) [
+fresh_more clauses lines i clause is before here k d below = elim (cases_lt k i) [
   | inl less ↦ before k d less
   | inr past ↦
       let same : i ≡ k = omega arith in
-      subst (λ n. IsNew (clauses_with clauses (take n lines)) (clause_of (get_or lines n d))) same
-      (subst (λ y. IsNew (clauses_with clauses (take i lines)) (clause_of y)) (is ∙ get_or_default lines i x d lt) here)
+      subst (λ n. IsNew (clauses_with clauses (take n lines)) (clause_of (get_or lines n d))) same (subst (λ (c : List Lit). IsNew (clauses_with clauses (take i lines)) c) (is d) here)
 ]
 
 -- that a line is new, among the first n clauses of the formula and the lines, and among those before it
-pub fresh_line : (clauses : List (List Lit)) (lines : List Line) (n i : ℕ) (x : Line) (clause : List Lit) → n ≡ length clauses + i → clause ≡ clause_of x →
-    IsNew (take n (clauses_with clauses lines)) clause → IsNew (clauses_with clauses (take i lines)) (clause_of x)
-fresh_line clauses lines n i x clause n_is is fresh =
-    subst (λ (cs : List (List Lit)). IsNew cs (clause_of x)) (take-clauses_with clauses lines n i n_is) (subst (λ (c : List Lit). IsNew (take n (clauses_with clauses lines)) c) is fresh)
+pub fresh_line : (clauses added : List (List Lit)) (lines : List Line) (n i : ℕ) (clause : List Lit) → added ≡ clauses_of lines → n ≡ length clauses + i →
+    IsNew (take n (clauses ++ added)) clause → IsNew (clauses_with clauses (take i lines)) clause
+fresh_line clauses added lines n i clause same n_is fresh =
+    subst (λ (cs : List (List Lit)). IsNew cs clause) (take-clauses_with clauses lines n i n_is) (subst (λ (cs : List (List Lit)). IsNew (take n (clauses ++ cs)) clause) same fresh)
 
-pub line_of_new : (clauses : List (List Lit)) (lines all : List Line) (n i : ℕ) (x : Line) (clause : List Lit) → lines ≡ all → n ≡ length clauses + i → clause ≡ clause_of x → x ≡ get_or lines i x →
-    i < length lines → LinesAreNew clauses all → IsNew (take n (clauses_with clauses lines)) clause
-line_of_new clauses lines all n i x clause same n_is is at lt fresh =
-    let here = subst (λ (ls : List Line). LinesAreNew clauses ls) (sym same) fresh i x lt in
-    let there = subst (λ (y : Line). IsNew (clauses_with clauses (take i lines)) (clause_of y)) (sym at) here in
-    subst (λ (c : List Lit). IsNew (take n (clauses_with clauses lines)) c) (sym is)
-    (subst (λ (cs : List (List Lit)). IsNew cs (clause_of x)) (sym (take-clauses_with clauses lines n i n_is)) there)
+pub line_of_new : (clauses added : List (List Lit)) (lines : List Line) (n i : ℕ) (clause : List Lit) → added ≡ clauses_of lines → n ≡ length clauses + i → ((d : Line) → clause ≡ clause_of (get_or lines i d)) →
+    i < length lines → LinesAreNew clauses lines → IsNew (take n (clauses ++ added)) clause
+line_of_new clauses added lines n i clause same n_is is lt fresh =
+    let d : Line = Given [] in
+    let here = subst (λ (c : List Lit). IsNew (clauses_with clauses (take i lines)) c) (sym (is d)) (fresh i d lt) in
+    subst (λ (cs : List (List Lit)). IsNew (take n (clauses ++ cs)) clause) (sym same) (subst (λ (cs : List (List Lit)). IsNew cs clause) (sym (take-clauses_with clauses lines n i n_is)) here)

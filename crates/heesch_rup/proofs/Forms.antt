@@ -1,11 +1,13 @@
-use Rattle.std.proofs.Common.{◌≡◌, ◌≢◌, ℕ, ◌<◌, ◌≤◌, Bool, IsTrue, ◌↔◌, List, [], length, get_or, take, map, All, sym, subst, arith, get_or-take, length-take-le}
+use Rattle.std.proofs.Common.{◌≡◌, ◌≢◌, ℕ, ◌+◌, ◌<◌, ◌≤◌, Bool, IsTrue, ◌↔◌, Option, None, Some, List, [], ◌∷◌, ◌++◌, length, get_or, take, map, All, sym, ap, ◌∙◌, subst, arith, get_or-take, length-take-le}
 use Rattle.std.proofs.lemmas.List.Elements.{All-append, All-map}
-use Rattle.std.proofs.lemmas.List.{take_all as take_whole}
+use Rattle.std.proofs.lemmas.List.{take_all as take_whole, take_more, map-append}
 use Rattle.heesch_cnf.specs.declared.literal.Lit.{Lit}
 use Rattle.heesch_cnf.specs.declared.log.Line.{Line}
 use Rattle.heesch_cnf.specs.declared.log.Line.TheVariants.{Learn, Given}
 use Rattle.heesch_cnf.specs.Clauses.{IsClause, AreClauses}
-use Rattle.heesch_cnf.specs.Lines.{IsShown, LineHolds, HoldsAtLine, LinesHold, clause_of, clauses_with}
+use Rattle.heesch_cnf.specs.Flat.{Clauses}
+use Rattle.heesch_cnf.specs.Lines.{IsShown, LineHolds, HoldsAtLine, LinesHold, clause_of, clauses_of, clauses_with}
+use Rattle.heesch_rup.specs.Hints.{hints_of}
 
 -- the clause of a line that holds is one over the variables
 pub line-form : (vars : ℕ) (clauses : List (List Lit)) (line : Line) → LineHolds vars clauses line → IsClause vars (clause_of line)
@@ -27,8 +29,44 @@ pub AreClauses-whole : (vars : ℕ) (clauses : List (List Lit)) (lines : List Li
 AreClauses-whole vars clauses lines form hold =
     subst (λ ls. AreClauses vars (clauses_with clauses ls)) (take_whole (length lines) lines (omega arith)) (AreClauses-with vars clauses lines (length lines) (omega arith) form hold)
 
--- whether a Learn line of a clause that isn't empty holds is whether its hints show the clause
-pub learn_holds : (vars : ℕ) (before : List (List Lit)) (line : Line) (clause : List Lit) (hints : List ℕ) (shows : Bool) → line ≡ Learn clause hints → clause ≢ [] → IsClause vars clause →
+-- the clauses of the formula and of lines that hold, which were added
+pub AreClauses-added : (f added : Clauses) (lines : List Line) → AreClauses f.vars f.clauses → LinesHold f.vars f.clauses lines → added ≡ record { vars = f.vars; clauses = clauses_of lines } → AreClauses f.vars (f.clauses ++ added.clauses)
+AreClauses-added f added lines form hold is = subst (λ (a : Clauses). AreClauses f.vars (f.clauses ++ a.clauses)) (sym is) (AreClauses-whole f.vars f.clauses lines form hold)
+
+-- whether a line without hints holds is whether its clause is one over the variables
+pub given_holds : (vars : ℕ) (before : List (List Lit)) (line : Line) (clause : List Lit) (formed : Bool) → clause ≡ clause_of line → hints_of line ≡ None → IsTrue formed ↔ IsClause vars clause → IsTrue formed ↔ LineHolds vars before line
+given_holds vars before (Learn c hs) clause formed is none form = absurd (let bad : Some hs ≡ None = none in cc)
+given_holds vars before (Given c) clause formed is none form = subst (λ (ls : List Lit). IsTrue formed ↔ IsClause vars ls) is form
+
+-- a line with hints doesn't hold where its clause is empty or none over the variables
+pub learnable : (vars : ℕ) (before : List (List Lit)) (line : Line) (clause : List Lit) (hints : List ℕ) → clause ≡ clause_of line → hints_of line ≡ Some hints → LineHolds vars before line → (clause ≢ []) × IsClause vars clause
+learnable vars before (Learn c hs) clause hints is some holds = subst (λ (ls : List Lit). (ls ≢ []) × IsClause vars ls) (sym is) (holds.0, holds.1.0)
+learnable vars before (Given c) clause hints is some holds = absurd (let bad : None ≡ Some hints = some in cc)
+
+-- whether a line with hints holds, whose clause isn't empty and is over the variables, is whether its hints show the clause
+pub learn_holds : (vars : ℕ) (before : List (List Lit)) (line : Line) (clause : List Lit) (hints : List ℕ) (shows : Bool) → clause ≡ clause_of line → hints_of line ≡ Some hints → clause ≢ [] → IsClause vars clause →
     IsTrue shows ↔ IsShown before clause hints → IsTrue shows ↔ LineHolds vars before line
-learn_holds vars before line clause hints shows is filled form shown =
-    subst (λ (d : Line). IsTrue shows ↔ LineHolds vars before d) (sym is) (λ e. (filled, (form, shown.0 e)), λ h. shown.1 h.1.1)
+learn_holds vars before (Learn c hs) clause hints shows is some filled form shown =
+    let same : hs ≡ hints = cc in
+    let both = subst (λ (ks : List ℕ). IsTrue shows ↔ IsShown before c ks) (sym same) (subst (λ (ls : List Lit). IsTrue shows ↔ IsShown before ls hints) is shown) in
+    (λ e. (subst (λ (ls : List Lit). ls ≢ []) is filled, (subst (IsClause vars) is form, both.0 e)), λ h. both.1 h.1.1)
+learn_holds vars before (Given c) clause hints shows is some filled form shown = absurd (let bad : None ≡ Some hints = some in cc)
+
+-- the clauses of one line more
+clauses_of-more : (lines : List Line) (i : ℕ) (clause : List Lit) → i < length lines → ((d : Line) → clause ≡ clause_of (get_or lines i d)) → clauses_of (take i lines) ++ clause ∷ [] ≡ clauses_of (take (i + 1) lines)
+clauses_of-more lines i clause lt is =
+    let d : Line = Given [] in
+    ap (λ (c : List Lit). clauses_of (take i lines) ++ c ∷ []) (is d) ∙ (sym (map-append clause_of (take i lines) (get_or lines i d ∷ [])) ∙ ap clauses_of (sym (take_more lines i d lt)))
+
+-- the flat clauses of one line more
+pub added_more : (vars : ℕ) (lines : List Line) (i : ℕ) (clause : List Lit) (before after : Clauses) → i < length lines → ((d : Line) → clause ≡ clause_of (get_or lines i d)) →
+    before ≡ record { vars = vars; clauses = clauses_of (take i lines) } → after ≡ record before { clauses = before.clauses ++ clause ∷ [] } → after ≡ record { vars = vars; clauses = clauses_of (take (i + 1) lines) }
+added_more vars lines i clause before after lt is before_is after_is =
+    after_is ∙ (ap (λ (b : Clauses). record b { clauses = b.clauses ++ clause ∷ [] }) before_is ∙ ap (flat vars) (clauses_of-more lines i clause lt is))
+  where
+    flat : ℕ → List (List Lit) → Clauses
+    flat n cs = record { vars = n; clauses = cs }
+
+-- the flat clauses of the first lines, once all are read
+pub added_all : (vars : ℕ) (lines : List Line) (i : ℕ) (added : Clauses) → length lines ≤ i → added ≡ record { vars = vars; clauses = clauses_of (take i lines) } → added ≡ record { vars = vars; clauses = clauses_of lines }
+added_all vars lines i added le is = subst (λ (ls : List Line). added ≡ record { vars = vars; clauses = clauses_of ls }) (take_whole i lines le) is

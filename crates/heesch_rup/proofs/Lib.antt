@@ -1,6 +1,8 @@
 pub mod Values
 pub mod Statuses
-pub mod Steps
+pub mod Hinted
 pub mod Forms
+pub mod Answering
+pub mod Rarest
 pub mod Chains
 pub mod Containing

@@ -1,4 +1,5 @@
 pub mod Answer
 pub mod Assigned
+pub mod Hints
 pub mod Listed
 pub mod Status

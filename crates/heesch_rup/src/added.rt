@@ -3,31 +3,31 @@ ghost use Rattle.std.specs.Prelude.{◌≡◌, ◌<◌, ◌^◌, ◌∷◌, ◌+
 ghost use Rattle.heesch_cnf.specs.Clauses.{IsClause};
 ghost use Rattle.heesch_cnf.specs.Lines.{clause_of, clauses_of};
 
-use crate::numbers::clause_of;
-use heesch_cnf::{FlatFormula, Line};
+use crate::steps::Steps;
+use heesch_cnf::{FlatFormula, Lit};
 use heesch_io::NoMemory;
 use std::alloc::Global;
 
-/// The clause of the line stands last. More than 2^31 lines count as want of memory.
-pub fn add_line(added: &mut FlatFormula, line: &Line) -> Result<(), NoMemory>
-    requires { IsClause added.old.vars (clause_of line.now) }
-    ensures { OnOk result (added.new ≡ record added.old { clauses = added.old.clauses ++ clause_of line.now ∷ [] }) }
+/// The clause stands last. More than 2^31 clauses count as want of memory.
+pub fn add_clause(added: &mut FlatFormula, clause: &[Lit]) -> Result<(), NoMemory>
+    requires { IsClause added.old.vars clause.now }
+    ensures { OnOk result (added.new ≡ record added.old { clauses = added.old.clauses ++ clause.now ∷ [] }) }
 {
     if added.len() == 1 << 31 {
         return Err(NoMemory);
     }
-    added.add(clause_of(line))
+    added.add(clause)
 }
 
 /// The clauses of the lines, copied. The cost is the number of the lines and that of their clauses' literals.
-pub fn clauses_of(alloc: Global, vars: u32, lines: &[Line]) -> Result<FlatFormula, NoMemory>
+pub fn clauses_of<S: Steps>(alloc: Global, vars: u32, steps: &S) -> Result<FlatFormula, NoMemory>
     requires small { vars < 2 ^ 31 }
-    requires form { All (λ line. IsClause vars (clause_of line)) lines.now }
-    ensures { IfOk result (λ f. f ≡ record { vars = vars; clauses = clauses_of lines.now }) }
+    requires form { All (λ line. IsClause vars (clause_of line)) (S.written steps.now).lines }
+    ensures { IfOk result (λ f. f ≡ record { vars = vars; clauses = clauses_of (S.written steps.now).lines }) }
 {
     let mut added = FlatFormula::new(alloc, vars);
-    for line in lines {
-        add_line(&mut added, line)?;
+    for i in 0..steps.count() {
+        add_clause(&mut added, steps.clause(i))?;
     }
     Ok(added)
 }

@@ -1,15 +1,19 @@
-ghost use Rattle.std.specs.Prelude.{◌≡◌, ◌≢◌, ◌<◌, ◌+◌, ◌++◌, [], IsTrue, ◌↔◌, IfOk, vec_len};
+ghost use Rattle.std.specs.Prelude.{◌≡◌, ◌≢◌, ◌<◌, ◌+◌, ◌++◌, [], IsTrue, ◌↔◌, IfOk, MatchOption, ⊤, vec_len};
+ghost use Rattle.std.specs.Option.{option_copied};
+ghost use Rattle.heesch_cnf.specs.declared.log.Line.{Line};
 ghost use Rattle.heesch_cnf.specs.Literals.{held};
 ghost use Rattle.heesch_cnf.specs.Clauses.{AreClauses, IsClause};
-ghost use Rattle.heesch_cnf.specs.Lines.{IsShown, LineHolds};
-ghost use Rattle.heesch_rup.specs.Answer.{IsLogAnswer};
+ghost use Rattle.heesch_cnf.specs.Lines.{clause_of, clauses_of, IsShown, LineHolds, LinesHold};
+ghost use Rattle.heesch_rup.specs.Answer.{IsFirstBad, IsLogAnswer};
 ghost use Rattle.heesch_rup.specs.Assigned.{all_open};
+ghost use Rattle.heesch_rup.specs.Hints.{hints_of};
 
-use crate::added::add_line;
+use crate::added::add_clause;
 use crate::assignment::Assignment;
 use crate::hints::{reaches_conflict, refute};
 use crate::numbers::are_numbers;
-use heesch_cnf::{FlatFormula, Formula, Line, Lit, Log, is_clause};
+use crate::steps::Steps;
+use heesch_cnf::{FlatFormula, Formula, Lit, Log, is_clause};
 use heesch_io::NoMemory;
 use std::alloc::Global;
 
@@ -59,11 +63,13 @@ fn is_learnable(vars: u32, clause: &[Lit]) -> bool
     is_clause(vars, clause)
 }
 
+/// Whether a line holds: a learnt one by its hints, a given one where there are none.
 fn line_holds(
     assignment: &mut Assignment,
     formula: &FlatFormula,
     added: &FlatFormula,
-    line: &Line,
+    clause: &[Lit],
+    hints: Option<&[u32]>,
 ) -> Result<bool, NoMemory>
     requires room { formula.now.vars < vec_len assignment.old.values }
     requires open { held assignment.old.values.items ≡ all_open }
@@ -71,17 +77,88 @@ fn line_holds(
     ensures room { vec_len assignment.new.values ≡ vec_len assignment.old.values }
     ensures open { IfOk result (λ yes. held assignment.new.values.items ≡ all_open) }
     ensures holds { let clauses = formula.now.clauses ++ added.now.clauses in
-        IfOk result (λ yes. IsTrue yes ↔ LineHolds formula.now.vars clauses line.now) }
+        IfOk result (λ yes. (line : Line) → clause.now ≡ clause_of line → option_copied hints.entry ≡ hints_of line → IsTrue yes ↔ LineHolds formula.now.vars clauses line) }
 {
-    match line {
-        Line::Learn { clause, hints } => {
-            let clause = clause.as_slice();
-            if !is_learnable(formula.vars(), clause) {
-                return Ok(false);
-            }
-            is_shown(assignment, formula, added, clause, hints.as_slice())
+    let Some(hints) = hints else {
+        return Ok(is_clause(formula.vars(), clause));
+    };
+    if !is_learnable(formula.vars(), clause) {
+        return Ok(false);
+    }
+    is_shown(assignment, formula, added, clause, hints)
+}
+
+/// The least line, from 1, that doesn't hold, if there is one. Else the clauses of all lines stand in `added`. The assignment
+/// is all open before and after.
+pub fn bad_line<S: Steps>(
+    assignment: &mut Assignment,
+    formula: &FlatFormula,
+    added: &mut FlatFormula,
+    steps: &S,
+) -> Result<Option<usize>, NoMemory>
+    requires room { formula.now.vars < vec_len assignment.old.values }
+    requires open { held assignment.old.values.items ≡ all_open }
+    requires none { added.old ≡ record { vars = formula.now.vars; clauses = [] } }
+    ensures room { vec_len assignment.new.values ≡ vec_len assignment.old.values }
+    ensures open { IfOk result (λ bad. held assignment.new.values.items ≡ all_open) }
+    ensures added { IfOk result (λ bad. MatchOption bad (added.new ≡ record { vars = formula.now.vars; clauses = clauses_of (S.written steps.now).lines }) (λ at. ⊤)) }
+    ensures bad { IfOk result (λ bad. MatchOption bad (LinesHold formula.now.vars formula.now.clauses (S.written steps.now).lines) (λ at. IsFirstBad formula.now.vars formula.now.clauses (S.written steps.now) at)) }
+{
+    // Reading the number of the variables tells the proof that the clauses are over them.
+    let _vars = formula.vars();
+    for i in 0..steps.count() {
+        let clause = steps.clause(i);
+        if !line_holds(assignment, formula, added, clause, steps.hints(i))? {
+            return Ok(Some(i + 1));
         }
-        Line::Given { clause } => Ok(is_clause(formula.vars(), clause.as_slice())),
+        add_clause(added, clause)?;
+    }
+    Ok(None)
+}
+
+/// The answer where all lines hold, by the final line.
+fn final_answer<S: Steps>(
+    assignment: &mut Assignment,
+    formula: &FlatFormula,
+    added: &FlatFormula,
+    steps: &S,
+) -> Result<LogAnswer, NoMemory>
+    requires room { formula.now.vars < vec_len assignment.old.values }
+    requires open { held assignment.old.values.items ≡ all_open }
+    requires lines { LinesHold formula.now.vars formula.now.clauses (S.written steps.now).lines }
+    requires added { added.now ≡ record { vars = formula.now.vars; clauses = clauses_of (S.written steps.now).lines } }
+    ensures { IfOk result (IsLogAnswer formula.now.vars formula.now.clauses (S.written steps.now)) }
+{
+    // Reading the number of the variables tells the proof that the clauses are over them.
+    let _vars = formula.vars();
+    let Some(hints) = steps.last() else {
+        return Ok(LogAnswer::Open);
+    };
+    if is_shown(assignment, formula, added, &[], hints)? {
+        Ok(LogAnswer::Refuted)
+    } else {
+        Ok(LogAnswer::BadLine {
+            at: added.len() + 1,
+        })
+    }
+}
+
+/// What the check of a log over the formula finds, wherever its lines stand: the least line, from 1, that doesn't hold, where
+/// there is one; the final line counts after the others. A Learn line costs as many steps as its clause and its hinted clauses
+/// have literals, a Given line as many as its clause has. The clauses of the lines are copied into one array.
+pub fn check_steps<S: Steps>(
+    alloc: Global,
+    formula: &FlatFormula,
+    steps: &S,
+) -> Result<LogAnswer, NoMemory>
+    ensures { IfOk result (IsLogAnswer formula.now.vars formula.now.clauses (S.written steps.now)) }
+{
+    let vars = formula.vars();
+    let mut assignment = Assignment::new(alloc, vars)?;
+    let mut added = FlatFormula::new(alloc, vars);
+    match bad_line(&mut assignment, formula, &mut added, steps)? {
+        Some(at) => Ok(LogAnswer::BadLine { at }),
+        None => final_answer(&mut assignment, formula, &added, steps),
     }
 }
 
@@ -95,26 +172,7 @@ pub fn check_log_flat(
 ) -> Result<LogAnswer, NoMemory>
     ensures { IfOk result (IsLogAnswer formula.now.vars formula.now.clauses log.now) }
 {
-    let vars = formula.vars();
-    let mut assignment = Assignment::new(alloc, vars)?;
-    let mut added = FlatFormula::new(alloc, vars);
-    let lines = log.lines.as_slice();
-    for i in 0..lines.len() {
-        if !line_holds(&mut assignment, formula, &added, &lines[i])? {
-            return Ok(LogAnswer::BadLine { at: i + 1 });
-        }
-        add_line(&mut added, &lines[i])?;
-    }
-    let Some(hints) = &log.last else {
-        return Ok(LogAnswer::Open);
-    };
-    if is_shown(&mut assignment, formula, &added, &[], hints.as_slice())? {
-        Ok(LogAnswer::Refuted)
-    } else {
-        Ok(LogAnswer::BadLine {
-            at: lines.len() + 1,
-        })
-    }
+    check_steps(alloc, formula, log)
 }
 
 /// The least line, from 1, that doesn't hold, where there is one; the final line counts after the others. A Learn line costs

@@ -8,9 +8,14 @@ mod hints;
 mod newness;
 mod numbers;
 mod occurrences;
+mod rarity;
+mod spent;
 mod status;
+mod steps;
 #[cfg(test)]
 mod tests;
 
-pub use check::{LogAnswer, check_log, check_log_flat};
-pub use newness::{all_new, all_new_flat};
+pub use check::{LogAnswer, check_log, check_log_flat, check_steps};
+pub use newness::{all_new, all_new_flat, all_new_steps};
+pub use spent::is_spent;
+pub use steps::Steps;

@@ -8,9 +8,10 @@ ghost use Rattle.heesch_rup.specs.Listed.{ListsFirst, SomeFalsified};
 use crate::added::clauses_of;
 use crate::assignment::Assignment;
 use crate::hints::refute;
-use crate::numbers::clause_of;
-use crate::occurrences::{Occurrences, lit_slot, slot_of};
-use heesch_cnf::{FlatFormula, Formula, Line, Lit, Log};
+use crate::occurrences::{Occurrences, lit_slot};
+use crate::rarity::counts_of;
+use crate::steps::Steps;
+use heesch_cnf::{FlatFormula, Formula, Lit, Log};
 use heesch_io::NoMemory;
 use std::alloc::Global;
 
@@ -32,7 +33,7 @@ fn contains_listed(
         let count = vec_len occurrences.now.earlier in
         MatchBool result (SomeFalsified (held assignment.now.values.items) clauses count) (IsNew (take count clauses) clause.now) }
 {
-    if occurrences.any_falsified(assignment, formula, added, slot_of(&[])) {
+    if occurrences.any_falsified(assignment, formula, added, 0) {
         return true;
     }
     for lit in clause {
@@ -68,41 +69,45 @@ fn is_new(
     Ok(!contains)
 }
 
-/// The clauses of the formula, listed.
+/// The clauses of the formula, listed by the literals that the added clauses have least often.
 fn occurrences_of(
     alloc: Global,
     formula: &FlatFormula,
     added: &FlatFormula,
 ) -> Result<Occurrences, NoMemory>
-    requires { AreClauses formula.now.vars (formula.now.clauses ++ added.now.clauses) }
+    requires form { AreClauses formula.now.vars (formula.now.clauses ++ added.now.clauses) }
+    requires vars { added.now.vars ≡ formula.now.vars }
     ensures room { IfOk result (λ o. vec_len o.last ≡ 2 * formula.now.vars + 2) }
+    ensures counts { IfOk result (λ o. vec_len o.counts ≡ 2 * formula.now.vars + 2) }
     ensures count { IfOk result (λ o. vec_len o.earlier ≡ length formula.now.clauses) }
     ensures lists { IfOk result (ListsFirst (formula.now.clauses ++ added.now.clauses)) }
 {
-    let mut listed = Occurrences::new(alloc, formula.vars())?;
+    let mut listed = Occurrences::new(alloc, formula.vars(), counts_of(alloc, added)?)?;
     for _place in 0..formula.len() {
         listed.list_next(formula, added)?;
     }
     Ok(listed)
 }
 
-/// Whether no line contains an earlier clause, where the clauses that the lines add are these.
-fn are_new(
+/// Whether no line contains an earlier clause, where the clauses that the lines add are these. The assignment is all open.
+pub fn are_new<S: Steps>(
     alloc: Global,
+    assignment: &mut Assignment,
     formula: &FlatFormula,
     added: &FlatFormula,
-    lines: &[Line],
+    steps: &S,
 ) -> Result<bool, NoMemory>
-    requires form { AreClauses formula.now.vars (formula.now.clauses ++ added.now.clauses) }
-    requires lines { LinesHold formula.now.vars formula.now.clauses lines.now }
-    requires added { added.now.clauses ≡ clauses_of lines.now }
-    ensures { IfOk result (λ yes. IsTrue yes ↔ LinesAreNew formula.now.clauses lines.now) }
+    requires room { formula.now.vars < vec_len assignment.old.values }
+    requires open { held assignment.old.values.items ≡ all_open }
+    requires lines { LinesHold formula.now.vars formula.now.clauses (S.written steps.now).lines }
+    requires added { added.now ≡ record { vars = formula.now.vars; clauses = clauses_of (S.written steps.now).lines } }
+    ensures { IfOk result (λ yes. IsTrue yes ↔ LinesAreNew formula.now.clauses (S.written steps.now).lines) }
 {
+    // Reading the number of the variables tells the proof that the clauses are over them.
+    let _vars = formula.vars();
     let mut occurrences = occurrences_of(alloc, formula, added)?;
-    let mut assignment = Assignment::new(alloc, formula.vars())?;
-    for line in lines {
-        let clause = clause_of(line);
-        if !is_new(&occurrences, &mut assignment, formula, added, clause)? {
+    for i in 0..steps.count() {
+        if !is_new(&occurrences, assignment, formula, added, steps.clause(i))? {
             return Ok(false);
         }
         occurrences.list_next(formula, added)?;
@@ -110,20 +115,36 @@ fn are_new(
     Ok(true)
 }
 
-/// Whether no line contains an earlier clause, be it of the formula or of a line. It costs a step for each clause, and for
-/// each line the lengths of the clauses whose first literal the line has. The clauses of the lines are copied into one array.
+/// Whether no line contains an earlier clause, be it of the formula or of a line, wherever the lines stand. It costs as many
+/// steps as all clauses have literals, and for each line the lengths of the clauses of which the line has the literal that is
+/// rarest in lines, each read up to its first literal that the line lacks. The clauses of the lines are copied into one array.
+pub fn all_new_steps<S: Steps>(
+    alloc: Global,
+    formula: &FlatFormula,
+    steps: &S,
+) -> Result<bool, NoMemory>
+    requires { LinesHold formula.now.vars formula.now.clauses (S.written steps.now).lines }
+    ensures { IfOk result (λ yes. IsTrue yes ↔ LinesAreNew formula.now.clauses (S.written steps.now).lines) }
+{
+    let vars = formula.vars();
+    let added = clauses_of(alloc, vars, steps)?;
+    let mut assignment = Assignment::new(alloc, vars)?;
+    are_new(alloc, &mut assignment, formula, &added, steps)
+}
+
+/// Whether no line contains an earlier clause, be it of the formula or of a line. It costs as many steps as all clauses have
+/// literals, and for each line the lengths of the clauses of which the line has the literal that is rarest in lines. The
+/// clauses of the lines are copied into one array.
 pub fn all_new_flat(alloc: Global, formula: &FlatFormula, log: &Log) -> Result<bool, NoMemory>
     requires { LinesHold formula.now.vars formula.now.clauses log.now.lines }
     ensures { IfOk result (λ yes. IsTrue yes ↔ LinesAreNew formula.now.clauses log.now.lines) }
 {
-    let lines = log.lines.as_slice();
-    let added = clauses_of(alloc, formula.vars(), lines)?;
-    are_new(alloc, formula, &added, lines)
+    all_new_steps(alloc, formula, log)
 }
 
-/// Whether no line contains an earlier clause, be it of the formula or of a line. It costs a step for each clause, and for
-/// each line the lengths of the clauses whose first literal the line has. The formula is copied into one array first; one of
-/// 2^31 variables or more counts as want of memory.
+/// Whether no line contains an earlier clause, be it of the formula or of a line. It costs as many steps as all clauses have
+/// literals, and for each line the lengths of the clauses of which the line has the literal that is rarest in lines. The
+/// formula is copied into one array first; one of 2^31 variables or more counts as want of memory.
 pub fn all_new(alloc: Global, formula: &Formula, log: &Log) -> Result<bool, NoMemory>
     requires { LinesHold formula.now.vars formula.now.clauses log.now.lines }
     ensures { IfOk result (λ yes. IsTrue yes ↔ LinesAreNew formula.now.clauses log.now.lines) }

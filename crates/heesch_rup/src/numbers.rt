@@ -1,16 +1,7 @@
 ghost use Rattle.std.specs.Prelude.{◌≡◌, ◌++◌, ◌<◌, [], length, All, IsTrue, ◌↔◌, slice_index_or};
-ghost use Rattle.heesch_cnf.specs.Lines.{clause_of, IsNumber, AreNumbers};
+ghost use Rattle.heesch_cnf.specs.Lines.{IsNumber, AreNumbers};
 
-use heesch_cnf::{FlatFormula, Line, Lit, PackedLit};
-
-/// The clause of a line.
-pub fn clause_of(line: &Line) -> &[Lit]
-    ensures { result.now ≡ clause_of line.now }
-{
-    match line {
-        Line::Learn { clause, .. } | Line::Given { clause } => clause.as_slice(),
-    }
-}
+use heesch_cnf::{FlatFormula, PackedLit};
 
 /// The clause at a place, from 0, among the clauses of the formula and then those that lines added. Nothing is copied.
 pub fn clause_at<'a>(

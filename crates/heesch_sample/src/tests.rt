@@ -1,6 +1,7 @@
 //! Samples worked by hand.
 use crate::sample;
 use heesch_cert::Limits;
+use heesch_cnf::Version;
 use heesch_grid::GridName;
 use heesch_pool::Open;
 use std::test::Fail;
@@ -13,6 +14,7 @@ fn three_single_squares(rt: HostRuntime) -> Result<(), Fail> {
         levels: 3,
         domain: 4,
         size: 60_000_000,
+        version: Version::Two,
     };
     let expected = b"shapes 3
 holed 0

@@ -1,15 +1,22 @@
--- The words that name the kind of a tiling, a subject and the end of a search.
+-- The words that name a version, the kind of a tiling, a subject and the end of a search.
 use Rattle.std.specs.Prelude.{ℕ, List, codes, decimal}
 use Rattle.heesch_cert.specs.declared.verdict.Kind.{Kind}
 use Rattle.heesch_cert.specs.declared.verdict.Kind.TheVariants.{Translation, HalfTurn, Periodic}
 use Rattle.heesch_cert.specs.declared.verdict.Phase.{Phase}
 use Rattle.heesch_cert.specs.declared.verdict.Phase.TheVariants.{Free, Bare}
+use Rattle.heesch_cnf.specs.declared.version.Version.{Version}
+use Rattle.heesch_cnf.specs.declared.version.Version.TheVariants.{One, Two}
 use Rattle.heesch_cert.specs.declared.header.Subject.{Subject}
 use Rattle.heesch_cert.specs.declared.header.Subject.TheVariants.{Size, Given}
 use Rattle.heesch_text.specs.declared.line.Outcome.{Outcome}
 use Rattle.heesch_text.specs.declared.line.Outcome.TheVariants.{Refuted, Spent, Size as TooLarge}
 use Rattle.heesch_text.specs.declared.line.BareOutcome.{BareOutcome}
 use Rattle.heesch_text.specs.declared.line.BareOutcome.TheVariants.{Same, Open, Searched}
+
+-- the number of a version, between spaces
+abbrev pub version_text : Version → List ℕ
+version_text One = codes " 1 "
+version_text Two = codes " 2 "
 
 -- the kind of a tiling
 abbrev pub kind_text : Kind → List ℕ

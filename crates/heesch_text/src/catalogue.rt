@@ -10,7 +10,7 @@ use crate::lines::{append_end_line, append_header_line, append_shape_line, appen
 use heesch_cert::{Entry, Header};
 use heesch_io::NoMemory;
 
-/// Appends the first line of a catalogue: `heesch 1 GRID SUBJECT turns T levels L domain D size Z`,
+/// Appends the first line of a catalogue: `heesch V GRID SUBJECT turns T levels L domain D size Z`,
 /// with `brief` for `heesch` where it is brief.
 ///
 /// Errors: at `NoMemory` the text is as it was before. Its cost is the length of what it appends.

@@ -5,6 +5,7 @@ use heesch_cert::{
     Bare, Classes, Entry, Evidence, Header, Kind, Layers, Limits, Member, Proof, Subject, Tiling,
     Verdict, Wall,
 };
+use heesch_cnf::Version;
 use heesch_grid::{Cell, GridName, Iso};
 use heesch_io::{NoMemory, Seq};
 use heesch_lattice::Triple;
@@ -16,6 +17,7 @@ const LIMITS: Limits = Limits {
     levels: 3,
     domain: 4,
     size: 60_000_000,
+    version: Version::One,
 };
 
 /// The isometry of this turn and this translation.

@@ -1,5 +1,5 @@
 -- The words of the forms.
-use Rattle.std.proofs.Common.{◌≡◌, ◌≢◌, ◌<◌, ◌^◌, ◌-◌, ℕ, List, [], ◌∷◌, ◌++◌, refl, sym, ap, ◌∙◌, subst, length, take, drop, map, codes, decimal, true, false, arith}
+use Rattle.std.proofs.Common.{◌≡◌, ◌≢◌, ◌<◌, ◌≤◌, ◌^◌, ◌-◌, ℕ, List, [], ◌∷◌, ◌++◌, refl, sym, ap, ◌∙◌, subst, Bool, get_or, length, take, drop, map, codes, decimal, true, false, arith}
 use Rattle.std.proofs.Math.Seq.{drop-append_seam}
 use Rattle.std.proofs.lemmas.Fmt.{decimal_injective, decimal_is_IsNumeral}
 use Rattle.std.proofs.lemmas.List.{take_rest, drop-map}
@@ -7,6 +7,9 @@ use Rattle.std.specs.Str.Parse.{AllDigits}
 use Rattle.heesch_cert.specs.declared.header.Subject.{Subject}
 use Rattle.heesch_cert.specs.declared.header.Subject.TheVariants.{Size, Given}
 use Rattle.heesch_cert.specs.declared.limits.Limits.{Limits}
+use Rattle.heesch_cert.specs.Sizes.{most_cells, IsSubject}
+use Rattle.heesch_cnf.specs.declared.version.Version.{Version}
+use Rattle.heesch_cnf.specs.declared.version.Version.TheVariants.{One, Two}
 use Rattle.heesch_grid.specs.declared.GridName.{GridName}
 use Rattle.heesch_grid.specs.declared.GridName.TheVariants.{Square, Hex, Iamond}
 use Rattle.heesch_grid.specs.Names.{grid_word}
@@ -14,7 +17,7 @@ use Rattle.heesch_words.specs.declared.options.Options.{Options}
 use Rattle.heesch_words.specs.declared.requests.Request.{Request}
 use Rattle.heesch_words.specs.declared.requests.Request.TheVariants.{List as ListRequest, Plain as PlainRequest, Classify as ClassifyRequest, Check as CheckRequest, Table as TableRequest, Sample as SampleRequest}
 use Rattle.heesch_words.specs.Options.{AreOptions, HasWorkersAlone, workers_of, limits_of}
-use Rattle.heesch_words.specs.Requests.{Asks, HasForm, HaveOptions, HasCheckForm, HasListForm, HasSampleForm, IsSize, IsSubject, form_word, most_cells, subject_word}
+use Rattle.heesch_words.specs.Requests.{Asks, HasForm, HaveOptions, HasCheckForm, HasListForm, HasSampleForm, HasClassifyForm, form_word, subject_word}
 use Rattle.heesch_words.proofs.Settings.{one_reading}
 
 -- Words before options.
@@ -74,16 +77,20 @@ same_grid Iamond Square is = absurd (grind arith)
 same_grid Iamond Hex is = absurd (grind arith)
 same_grid Iamond Iamond is = refl
 
-few_cells : (grid : GridName) → most_cells grid < 2 ^ 64
-few_cells Square = omega arith
-few_cells Hex = omega arith
-few_cells Iamond = omega arith
+few_cells : (version : Version) (grid : GridName) → most_cells version grid < 2 ^ 64
+few_cells One Square = omega arith
+few_cells One Hex = omega arith
+few_cells One Iamond = omega arith
+few_cells Two Square = omega arith
+few_cells Two Hex = omega arith
+few_cells Two Iamond = omega arith
 
-one_size : (grid grid' : GridName) (n n' : ℕ) → IsSize grid n → IsSize grid' n' → decimal n ≡ decimal n' → n ≡ n'
-one_size grid grid' n n' first second is =
-    let few = few_cells grid in
-    let few' = few_cells grid' in
-    decimal_injective n n' (omega (arith, first.1)) (omega (arith, second.1)) is
+one_size : (version version' : Version) (grid grid' : GridName) (n n' : ℕ)
+    → n ≤ most_cells version grid → n' ≤ most_cells version' grid' → decimal n ≡ decimal n' → n ≡ n'
+one_size version version' grid grid' n n' first second is =
+    let few = few_cells version grid in
+    let few' = few_cells version' grid' in
+    decimal_injective n n' (omega (arith, first)) (omega (arith, second)) is
 
 -- `given` is no number
 not_given : (n : ℕ) → n < 2 ^ 64 → decimal n ≢ codes "given"
@@ -91,11 +98,14 @@ not_given n fits is =
     let digits : AllDigits 10 (codes "given") = subst (AllDigits 10) is (decimal_is_IsNumeral n fits).0.1 in
     absurd (omega (arith, digits.0))
 
-one_subject : (grid grid' : GridName) (x y : Subject) → IsSubject grid x → IsSubject grid' y → subject_word x ≡ subject_word y → x ≡ y
-one_subject grid grid' (Size n) (Size n') first second is = ap Size (one_size grid grid' n n' first second is)
-one_subject grid grid' (Size n) Given first second is = let few = few_cells grid in absurd (not_given n (omega (arith, first.1)) is)
-one_subject grid grid' Given (Size n) first second is = let few = few_cells grid' in absurd (not_given n (omega (arith, second.1)) (sym is))
-one_subject grid grid' Given Given first second is = refl
+one_subject : (version version' : Version) (grid grid' : GridName) (x y : Subject)
+    → IsSubject version grid x → IsSubject version' grid' y → subject_word x ≡ subject_word y → x ≡ y
+one_subject version version' grid grid' (Size n) (Size n') first second is = ap Size (one_size version version' grid grid' n n' first.1 second.1 is)
+one_subject version version' grid grid' (Size n) Given first second is =
+    let few = few_cells version grid in absurd (not_given n (omega (arith, first.1)) is)
+one_subject version version' grid grid' Given (Size n) first second is =
+    let few = few_cells version' grid' in absurd (not_given n (omega (arith, second.1)) (sym is))
+one_subject version version' grid grid' Given Given first second is = refl
 
 -- Words that are refused.
 
@@ -122,6 +132,25 @@ sample_is_brief text_of words read given brief grid n count seed limits workers 
     let both : read.brief ≡ false = subst (λ (o : Options). o.brief ≡ false) same not_brief in
     cc
 
+-- where the second word names no subject in the range of the version that was read, the words have no form of a catalogue
+pub subject_refused : {X : Type 0} (text_of : X → List ℕ) (words : List X) (first second : X) (read : Options) (version : Version) (grid : GridName)
+    → 2 ≤ length words → first ≡ get_or words 0 first → second ≡ get_or words 1 second
+    → text_of first ≡ grid_word grid → version ≡ (limits_of read).version
+    → AreOptions (map text_of (take (length words - 2) (drop 2 words))) read
+    → ((subject : Subject) → IsSubject version grid subject → text_of second ≢ subject_word subject)
+    → (grid' : GridName) (subject : Subject) (limits : Limits) (workers : ℕ) (brief : Bool) → ¬ HasClassifyForm (map text_of words) grid' subject limits workers brief
+subject_refused text_of [] first second read version grid some is is' named of given refused grid' subject limits workers brief has = absurd (omega arith)
+subject_refused text_of (x ∷ []) first second read version grid some is is' named of given refused grid' subject limits workers brief has = absurd (omega arith)
+subject_refused text_of (x ∷ y ∷ words) first second read version grid some is is' named of given refused grid' subject limits workers brief has =
+    let same : has.options ≡ read = read_options text_of (x ∷ y ∷ words) 2 _ has.options read refl given has.have in
+    let spelled : text_of x ∷ text_of y ∷ map text_of words ≡ grid_word grid' ∷ subject_word subject ∷ has.have.others = has.have.spelled in
+    let first_is : first ≡ x = is in
+    let second_is : second ≡ y = is' in
+    let grids : grid' ≡ grid = same_grid grid' grid cc in
+    let versions : limits.version ≡ version = ap (λ (l : Limits). l.version) (has.limits_is ∙ ap limits_of same) ∙ sym of in
+    let in_range : IsSubject version grid' subject = subst (λ (v : Version). IsSubject v grid' subject) versions has.in_range in
+    refused subject (subst (λ (g : GridName). IsSubject version g subject) grids in_range) cc
+
 -- Words ask for one thing at most.
 
 -- words have one form of a list
@@ -131,7 +160,7 @@ one_list words grid grid' n n' workers workers' first second =
     let (parts, same) = one_choice words _ _ first.options second.options refl first.have second.have in
     let grids : grid_word grid ≡ grid_word grid' = cc in
     let sizes : decimal n ≡ decimal n' = cc in
-    (same_grid grid grid' grids, one_size grid grid' n n' first.size second.size sizes, first.workers_is ∙ ap workers_of same ∙ sym second.workers_is)
+    (same_grid grid grid' grids, one_size Two Two grid grid' n n' first.size.1 second.size.1 sizes, first.workers_is ∙ ap workers_of same ∙ sym second.workers_is)
 
 -- words have one form of each kind
 one_of_form : (words : List (List ℕ)) (x y : Request) → form_word x ≡ form_word y → HasForm words x → HasForm words y → x ≡ y
@@ -146,7 +175,7 @@ one_of_form words (ClassifyRequest grid subject limits workers brief) (ClassifyR
     let grids : grid_word grid ≡ grid_word grid' = cc in
     let subjects : subject_word subject ≡ subject_word subject' = cc in
     let same_grids : grid ≡ grid' = same_grid grid grid' grids in
-    let same_subjects : subject ≡ subject' = one_subject grid grid' subject subject' first.in_range second.in_range subjects in
+    let same_subjects : subject ≡ subject' = one_subject limits.version limits'.version grid grid' subject subject' first.in_range second.in_range subjects in
     let same_limits : limits ≡ limits' = first.limits_is ∙ ap limits_of same ∙ sym second.limits_is in
     let same_workers : workers ≡ workers' = first.workers_is ∙ ap workers_of same ∙ sym second.workers_is in
     let same_brief : brief ≡ brief' = first.brief_is ∙ ap (λ (o : Options). o.brief) same ∙ sym second.brief_is in

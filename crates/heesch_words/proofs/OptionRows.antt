@@ -4,7 +4,7 @@ use Rattle.std.specs.Prelude.{Option, None, Some, Result, Ok, Err, IfOk, OnErr}
 use Rattle.std.specs.List.{filter_map, count_by}
 use Rattle.std.specs.Option.{option_to_list}
 use Rattle.heesch_words.specs.declared.options.Options.{Options}
-use Rattle.heesch_words.specs.Options.{Name, Workers, Turns, Levels, Domain, Size, Setting, Number, Brief, name_word, number_of, is_brief, held, AreHeld}
+use Rattle.heesch_words.specs.Options.{Name, Workers, Turns, Levels, Domain, Size, Version, Setting, Number, Brief, name_word, number_of, is_brief, held, AreHeld}
 use Rattle.heesch_words.specs.Reading.{BeginWith, AddsSetting, CannotAdd}
 use Rattle.heesch_words.proofs.InRange.{most, bounds_of, in_bounds}
 use Rattle.heesch_words.proofs.Settings.{values_of_first, values_stay, none_before, count_by-append, same_name, not_brief}
@@ -16,6 +16,7 @@ with_number Turns number options = record options { turns = number }
 with_number Levels number options = record options { levels = number }
 with_number Domain number options = record options { domain = number }
 with_number Size number options = record options { size = number }
+with_number Version number options = record options { version = number }
 
 -- the numbers that are held after one more
 numbers_after : (name other : Name) (n : ℕ) (settings : List Setting) (old : Options) → held name old ≡ None
@@ -26,6 +27,7 @@ numbers_after Turns Turns n settings old none is = values_of_first (number_of Tu
 numbers_after Levels Levels n settings old none is = values_of_first (number_of Levels) settings (Number Levels n) n (is ∙ ap option_to_list none) refl
 numbers_after Domain Domain n settings old none is = values_of_first (number_of Domain) settings (Number Domain n) n (is ∙ ap option_to_list none) refl
 numbers_after Size Size n settings old none is = values_of_first (number_of Size) settings (Number Size n) n (is ∙ ap option_to_list none) refl
+numbers_after Version Version n settings old none is = values_of_first (number_of Version) settings (Number Version n) n (is ∙ ap option_to_list none) refl
 numbers_after name other n settings old none is = values_stay (number_of other) settings (Number name n) refl ∙ is
 
 -- how often `--brief` is given
@@ -39,6 +41,7 @@ brief_stays Turns number old = refl
 brief_stays Levels number old = refl
 brief_stays Domain number old = refl
 brief_stays Size number old = refl
+brief_stays Version number old = refl
 
 brief_after : (name : Name) (n : ℕ) (settings : List Setting) (old : Options) → count_by is_brief settings ≡ (if old.brief then 1 else 0)
     → count_by is_brief (settings ++ Number name n ∷ []) ≡ (if (with_number name (Some n) old).brief then 1 else 0)
@@ -76,6 +79,7 @@ number_refused key (Err e) name words old named told = go
     own Levels n = refl
     own Domain n = refl
     own Size n = refl
+    own Version n = refl
 
     go : (setting : Setting) (others : List (List ℕ)) → BeginWith setting (name ∷ words) others → CannotAdd setting old
     go (Number other n) others begin settings new before after =
@@ -113,6 +117,7 @@ brief_read (Ok others) words_of name words old place named (rest, none, placed) 
     kept Levels = refl
     kept Domain = refl
     kept Size = refl
+    kept Version = refl
 
     brief_more : (settings : List Setting) → AreHeld settings old → count_by is_brief (settings ++ Brief ∷ []) ≡ (if place then 1 else 0)
     brief_more settings before =

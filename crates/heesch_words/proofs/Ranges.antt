@@ -8,7 +8,7 @@ use Rattle.heesch_grid.specs.declared.GridName.{GridName}
 use Rattle.heesch_words.specs.declared.options.Options.{Options}
 use Rattle.heesch_words.specs.declared.requests.Request.{Request}
 use Rattle.heesch_words.specs.declared.requests.Request.TheVariants.{List as ListRequest, Plain as PlainRequest, Classify as ClassifyRequest, Check as CheckRequest, Table as TableRequest, Sample as SampleRequest}
-use Rattle.heesch_words.specs.Options.{Name, Workers, Turns, Levels, Domain, Size, Setting, Number, Brief, IsNumberInRange, IsInRange as IsSettingInRange, number_of, held, default_limits, AreOptions, workers_of, limits_of}
+use Rattle.heesch_words.specs.Options.{Name, Workers, Turns, Levels, Domain, Size, Version, Setting, Number, Brief, IsNumberInRange, IsInRange as IsSettingInRange, number_of, held, default_limits, AreOptions, workers_of, limits_of}
 use Rattle.heesch_words.specs.Requests.{Asks, HasForm, HasListForm, IsInRange, IsSize}
 use Rattle.heesch_words.proofs.InRange.{bounds_of, in_bounds}
 
@@ -22,6 +22,7 @@ number_in_range Turns (Number Turns m ∷ settings) n others all is = let same :
 number_in_range Levels (Number Levels m ∷ settings) n others all is = let same : m ≡ n = cc in subst (IsNumberInRange Levels) same all.0
 number_in_range Domain (Number Domain m ∷ settings) n others all is = let same : m ≡ n = cc in subst (IsNumberInRange Domain) same all.0
 number_in_range Size (Number Size m ∷ settings) n others all is = let same : m ≡ n = cc in subst (IsNumberInRange Size) same all.0
+number_in_range Version (Number Version m ∷ settings) n others all is = let same : m ≡ n = cc in subst (IsNumberInRange Version) same all.0
 number_in_range name (Number other m ∷ settings) n others all is = number_in_range name settings n others all.1 is
 
 -- the number that options hold, or another in its place, is in its range

@@ -8,7 +8,7 @@ use Rattle.std.proofs.lemmas.List.{append-nil, take_rest}
 use Rattle.std.proofs.lemmas.List.Sums.{sum_by-append}
 use Rattle.std.proofs.lemmas.Fmt.{decimal_injective}
 use Rattle.heesch_words.specs.declared.options.Options.{Options}
-use Rattle.heesch_words.specs.Options.{Name, Workers, Turns, Levels, Domain, Size, Setting, Number, Brief, name_word, setting_words, number_of, is_brief, held, IsInRange, AreHeld, AreOptions}
+use Rattle.heesch_words.specs.Options.{Name, Workers, Turns, Levels, Domain, Size, Version, Setting, Number, Brief, name_word, setting_words, number_of, is_brief, held, IsInRange, AreHeld, AreOptions}
 use Rattle.heesch_words.proofs.InRange.{bounds_of, few}
 use Rattle.heesch_words.specs.Reading.{BeginWith, CannotAdd}
 
@@ -95,6 +95,7 @@ holding number brief = record {
   levels = number Levels;
   domain = number Domain;
   size = number Size;
+  version = number Version;
   brief = brief;
 }
 
@@ -106,6 +107,7 @@ same_fields x y numbers brief =
     let levels : x.levels ≡ y.levels = numbers Levels in
     let domain : x.domain ≡ y.domain = numbers Domain in
     let size : x.size ≡ y.size = numbers Size in
+    let version : x.version ≡ y.version = numbers Version in
     let first : x ≡ holding (λ name. held name x) x.brief = refl in
     let second : y ≡ holding (λ name. held name y) y.brief = refl in
     cc
@@ -121,6 +123,7 @@ held_by number brief Turns = refl
 held_by number brief Levels = refl
 held_by number brief Domain = refl
 held_by number brief Size = refl
+held_by number brief Version = refl
 
 -- the first settings can be held where all are
 pub part_is_held : (first others : List Setting) (options : Options) → AreHeld (first ++ others) options → (part : Options) × AreHeld first part
@@ -139,6 +142,7 @@ same_name Turns Turns is = refl
 same_name Levels Levels is = refl
 same_name Domain Domain is = refl
 same_name Size Size is = refl
+same_name Version Version is = refl
 same_name x y is = absurd (grind arith)
 
 pub not_brief : (name : Name) → name_word name ≢ codes "--brief"
@@ -147,6 +151,7 @@ not_brief Turns is = grind arith
 not_brief Levels is = grind arith
 not_brief Domain is = grind arith
 not_brief Size is = grind arith
+not_brief Version is = grind arith
 
 -- the words of settings in their ranges begin with one setting alone
 pub same_setting : (x y : Setting) (others more : List (List ℕ)) → IsInRange x → IsInRange y

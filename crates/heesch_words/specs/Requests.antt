@@ -4,28 +4,18 @@ use Rattle.heesch_cert.specs.declared.header.Subject.{Subject}
 use Rattle.heesch_cert.specs.declared.header.Subject.TheVariants.{Size, Given}
 use Rattle.heesch_cert.specs.declared.limits.Limits.{Limits}
 use Rattle.heesch_cert.specs.Limits.{AreLimits}
+use Rattle.heesch_cert.specs.Sizes.{most_cells, IsSubject}
+use Rattle.heesch_cnf.specs.declared.version.Version.TheVariants.{Two}
 use Rattle.heesch_grid.specs.declared.GridName.{GridName}
-use Rattle.heesch_grid.specs.declared.GridName.TheVariants.{Square, Hex, Iamond}
 use Rattle.heesch_grid.specs.Names.{grid_word}
 use Rattle.heesch_words.specs.declared.options.Options.{Options}
 use Rattle.heesch_words.specs.declared.requests.Request.{Request}
 use Rattle.heesch_words.specs.declared.requests.Request.TheVariants.{List as ListRequest, Plain as PlainRequest, Classify as ClassifyRequest, Check as CheckRequest, Table as TableRequest, Sample as SampleRequest}
 use Rattle.heesch_words.specs.Options.{AreOptions, HasWorkersAlone, workers_of, limits_of}
 
--- the greatest number of cells for which all shapes are listed
-abbrev pub most_cells : GridName → ℕ
-most_cells Square = 12
-most_cells Hex = 10
-most_cells Iamond = 15
-
--- the shapes of so many cells are listed
+-- the shapes of so many cells are listed: version 2 has the larger ranges
 abbrev pub IsSize : GridName → ℕ → Type 0
-IsSize grid n = (1 ≤ n) × (n ≤ most_cells grid)
-
--- a catalogue is of the shapes of a size, or of those that are given
-abbrev pub IsSubject : GridName → Subject → Type 0
-IsSubject grid (Size n) = IsSize grid n
-IsSubject grid Given = ⊤
+IsSize grid n = (1 ≤ n) × (n ≤ most_cells Two grid)
 
 -- the word of a subject: its number of cells, or `given`
 abbrev pub subject_word : Subject → List ℕ
@@ -56,7 +46,7 @@ pub record HasListForm (words : List (List ℕ)) (grid : GridName) (n workers : 
 pub record HasClassifyForm (words : List (List ℕ)) (grid : GridName) (subject : Subject) (limits : Limits) (workers : ℕ) (brief : Bool) : Type 0 where
   pub options : Options
   pub have : HaveOptions (grid_word grid ∷ subject_word subject ∷ []) words options
-  pub in_range : IsSubject grid subject
+  pub in_range : IsSubject limits.version grid subject
   pub limits_is : limits ≡ limits_of options
   pub workers_is : workers ≡ workers_of options
   pub brief_is : brief ≡ options.brief
@@ -105,7 +95,7 @@ pub record Asks (words : List (List ℕ)) (request : Request) : Type 0 where
 abbrev pub IsInRange : Request → Type 0
 IsInRange (ListRequest grid n workers) = IsSize grid n × (1 ≤ workers) × (workers ≤ 64)
 IsInRange (PlainRequest grid n workers) = IsSize grid n × (1 ≤ workers) × (workers ≤ 64)
-IsInRange (ClassifyRequest grid subject limits workers brief) = IsSubject grid subject × AreLimits limits × (1 ≤ workers) × (workers ≤ 64)
+IsInRange (ClassifyRequest grid subject limits workers brief) = IsSubject limits.version grid subject × AreLimits limits × (1 ≤ workers) × (workers ≤ 64)
 IsInRange (CheckRequest workers) = (1 ≤ workers) × (workers ≤ 64)
 IsInRange TableRequest = ⊤
 IsInRange (SampleRequest grid n count seed limits workers) = IsSample n count seed × AreLimits limits × (1 ≤ workers) × (workers ≤ 64)

@@ -5,6 +5,7 @@ ghost use Rattle.heesch_words.specs.Reading.{BeginWith, AddsSetting, CannotAdd};
 use crate::Usage;
 use crate::numbers::number;
 use heesch_cert::Limits;
+use heesch_cnf::Version;
 
 /// The greatest number of workers.
 const MOST_WORKERS: u64 = 64;
@@ -18,6 +19,8 @@ const MOST_DOMAIN: u64 = 12;
 
 const MOST_SIZE: u64 = 60_000_000;
 
+const MOST_VERSION: u64 = 2;
+
 /// What the options of a form give.
 #[derive(Clone, Copy)]
 pub struct Options {
@@ -26,6 +29,7 @@ pub struct Options {
     pub levels: Option<u32>,
     pub domain: Option<u32>,
     pub size: Option<u32>,
+    pub version: Option<u32>,
     pub brief: bool,
 }
 
@@ -42,6 +46,7 @@ impl Options {
             levels: None,
             domain: None,
             size: None,
+            version: None,
             brief: false,
         };
         let mut rest = words;
@@ -67,6 +72,7 @@ impl Options {
             "--levels" => read_once(&mut self.levels, words, MOST_LEVELS),
             "--domain" => read_once(&mut self.domain, words, MOST_DOMAIN),
             "--size" => read_once(&mut self.size, words, MOST_SIZE),
+            "--version" => read_once(&mut self.version, words, MOST_VERSION),
             "--brief" => set_once(&mut self.brief, words),
             _ => Err(Usage),
         }
@@ -84,6 +90,7 @@ impl Options {
                 levels: None,
                 domain: None,
                 size: None,
+                version: None,
                 brief: false,
                 ..
             } => Ok(self.workers()),
@@ -107,6 +114,10 @@ impl Options {
             levels: self.levels.unwrap_or(3),
             domain: self.domain.unwrap_or(4),
             size: self.size.unwrap_or(60_000_000),
+            version: match self.version {
+                Some(1) => Version::One,
+                _ => Version::Two,
+            },
         }
     }
 }

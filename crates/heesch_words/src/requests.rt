@@ -6,8 +6,9 @@ ghost use Rattle.heesch_words.specs.Requests.{Asks, HasListForm, HasClassifyForm
 
 use crate::numbers::number;
 use crate::options::Options;
-use crate::subjects::{grid_named, most_cells, subject_named};
-use heesch_cert::{Limits, Subject};
+use crate::subjects::{grid_named, subject_named};
+use heesch_cert::{Limits, Subject, most_cells};
+use heesch_cnf::Version;
 use heesch_grid::GridName;
 use thiserror::Error;
 
@@ -70,19 +71,21 @@ const MOST_SAMPLE_SHAPES: u64 = 1_000;
 ///
 /// - `list GRID N` and `plain GRID N`: `--workers`;
 /// - `classify GRID N` and `classify GRID given`: `--workers`, `--turns`, `--levels`, `--domain`,
-///   `--size` and `--brief`;
+///   `--size`, `--version` and `--brief`;
 /// - `check`: `--workers`;
 /// - `table`: none;
-/// - `sample GRID N COUNT SEED`: `--workers`, `--turns`, `--levels`, `--domain` and `--size`.
+/// - `sample GRID N COUNT SEED`: `--workers`, `--turns`, `--levels`, `--domain`, `--size` and
+///   `--version`.
 ///
-/// GRID is `square`, `hex` or `iamond`. N is 1 to 12 for `square`, 1 to 10 for `hex` and 1 to 15 for
-/// `iamond`; for `sample` N is 1 to 32, COUNT 1 to 1,000 and SEED below 2^64.
+/// GRID is `square`, `hex` or `iamond`. N is 1 to 14 for `square`, 1 to 12 for `hex` and 1 to 18 for
+/// `iamond`, but with `--version 1` it is 1 to 12, 1 to 10 and 1 to 15; for `sample` N is 1 to 32,
+/// COUNT 1 to 1,000 and SEED below 2^64.
 ///
 /// Options follow the other words in any order, each at most once; each but `--brief` is followed by
 /// its number as the next word. `--workers` is 1 to 64, by default 1; `--turns` 1 to 1,000,000, by
 /// default 20,000; `--levels` 1 to 6, by default 3; `--domain` 1 to 12, by default 4; `--size` 1 to
-/// 60,000,000, by default 60,000,000. A number is written in decimal digits, without a sign or a
-/// leading zero.
+/// 60,000,000, by default 60,000,000; `--version` 1 or 2, by default 2. A number is written in decimal
+/// digits, without a sign or a leading zero.
 ///
 /// `Usage` comes exactly where the words have none of the forms. The cost is linear in the number of
 /// words and in their lengths, and no memory is taken.
@@ -145,7 +148,7 @@ fn list_form(words: &[String]) -> Result<ListForm, Usage>
         return Err(Usage);
     };
     let grid = grid_named(grid.as_str())?;
-    let n = number(n.as_str(), 1, most_cells(grid))? as u32;
+    let n = number(n.as_str(), 1, u64::from(most_cells(Version::Two, grid)))? as u32;
     let options = Options::read(options)?;
     let workers = options.workers_alone()?;
     Ok(ListForm { grid, n, workers })
@@ -163,12 +166,13 @@ fn classify(words: &[String]) -> Result<Request, Usage>
         return Err(Usage);
     };
     let grid = grid_named(grid.as_str())?;
-    let subject = subject_named(grid, subject.as_str())?;
     let options = Options::read(options)?;
+    let limits = options.limits();
+    let subject = subject_named(limits.version, grid, subject.as_str())?;
     Ok(Request::Classify {
         grid,
         subject,
-        limits: options.limits(),
+        limits,
         workers: options.workers(),
         brief: options.brief,
     })

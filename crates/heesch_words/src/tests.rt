@@ -1,5 +1,6 @@
 use crate::{Request, Usage, parse};
 use heesch_cert::{Limits, Subject};
+use heesch_cnf::Version;
 use heesch_grid::GridName;
 use std::alloc::{AllocError, Global};
 use std::test::Fail;
@@ -17,9 +18,9 @@ fn lists_are_asked_for(rt: HostRuntime) -> Result<(), Fail> {
     let alloc = rt.alloc();
     for (line, grid, n, workers) in [
         ("list square 4", GridName::Square, 4, 1),
-        ("list square 12 --workers 64", GridName::Square, 12, 64),
-        ("list hex 10 --workers 1", GridName::Hex, 10, 1),
-        ("list iamond 15", GridName::Iamond, 15, 1),
+        ("list square 14 --workers 64", GridName::Square, 14, 64),
+        ("list hex 12 --workers 1", GridName::Hex, 12, 1),
+        ("list iamond 18", GridName::Iamond, 18, 1),
     ] {
         let words = words_of(alloc, line)?;
         let request = Request::List { grid, n, workers };
@@ -34,26 +35,40 @@ fn lists_are_asked_for(rt: HostRuntime) -> Result<(), Fail> {
 #[test]
 fn classifications_are_asked_for(rt: HostRuntime) -> Result<(), Fail> {
     let alloc = rt.alloc();
-    for (line, [turns, levels, domain, size, workers], brief) in [
-        ("classify iamond 1", [20_000, 3, 4, 60_000_000, 1], false),
+    for (line, n, [turns, levels, domain, size, workers], version, brief) in [
         (
-            "classify iamond 1 --brief",
+            "classify iamond 18",
+            18,
             [20_000, 3, 4, 60_000_000, 1],
+            Version::Two,
+            false,
+        ),
+        (
+            "classify iamond 1 --brief --version 2",
+            1,
+            [20_000, 3, 4, 60_000_000, 1],
+            Version::Two,
             true,
         ),
         (
-            "classify iamond 1 --domain 1 --levels 1",
+            "classify iamond 15 --domain 1 --version 1 --levels 1",
+            15,
             [20_000, 1, 1, 60_000_000, 1],
+            Version::One,
             false,
         ),
         (
             "classify iamond 1 --size 12 --brief --turns 50 --levels 6 --workers 4 --domain 12",
+            1,
             [50, 6, 12, 12, 4],
+            Version::Two,
             true,
         ),
         (
-            "classify iamond 1 --turns 1000000 --size 60000000",
+            "classify iamond 16 --turns 1000000 --size 60000000",
+            16,
             [1_000_000, 3, 4, 60_000_000, 1],
+            Version::Two,
             false,
         ),
     ] {
@@ -63,10 +78,11 @@ fn classifications_are_asked_for(rt: HostRuntime) -> Result<(), Fail> {
             levels,
             domain,
             size,
+            version,
         };
         let request = Request::Classify {
             grid: GridName::Iamond,
-            subject: Subject::Size { n: 1 },
+            subject: Subject::Size { n },
             limits,
             workers,
             brief,
@@ -84,6 +100,7 @@ fn other_forms_are_asked_for(rt: HostRuntime) -> Result<(), Fail> {
         levels: 1,
         domain: 2,
         size: 60_000_000,
+        version: Version::One,
     };
     let grid = GridName::Square;
     let sample = |n, count, seed, workers| Request::Sample {
@@ -99,19 +116,19 @@ fn other_forms_are_asked_for(rt: HostRuntime) -> Result<(), Fail> {
         ("check --workers 64", Request::Check { workers: 64 }),
         ("table", Request::Table),
         (
-            "sample square 8 40 1 --domain 2 --levels 1 --turns 200",
+            "sample square 8 40 1 --domain 2 --levels 1 --turns 200 --version 1",
             sample(8, 40, 1, 1),
         ),
         (
-            "sample square 32 1000 18446744073709551615 --workers 4 --domain 2 --levels 1 --turns 200",
+            "sample square 32 1000 18446744073709551615 --workers 4 --domain 2 --levels 1 --turns 200 --version 1",
             sample(32, 1_000, 18_446_744_073_709_551_615, 4),
         ),
         (
-            "sample square 1 1 0 --turns 200 --levels 1 --domain 2",
+            "sample square 1 1 0 --turns 200 --levels 1 --domain 2 --version 1",
             sample(1, 1, 0, 1),
         ),
         (
-            "classify square given --brief --turns 200 --levels 1 --domain 2",
+            "classify square given --brief --turns 200 --levels 1 --domain 2 --version 1",
             Request::Classify {
                 grid,
                 subject: Subject::Given,
@@ -135,15 +152,15 @@ fn other_words_are_refused(rt: HostRuntime) -> Result<(), Fail> {
         "list",
         "list square",
         "list square 0",
-        "list square 13",
+        "list square 15",
         "list square 04",
         "list square +4",
         "list Square 4",
-        "list hex 11",
-        "list iamond 16",
+        "list hex 13",
+        "list iamond 19",
         "list square 4 5",
         "plain",
-        "plain square 13",
+        "plain square 15",
         "list square 4 --workers",
         "list square 4 --workers 0",
         "list square 4 --workers 65",
@@ -151,7 +168,21 @@ fn other_words_are_refused(rt: HostRuntime) -> Result<(), Fail> {
         "list --workers 2 square 4",
         "list square 4 --brief",
         "plain square 4 --levels 2",
-        "classify square 13",
+        "classify square 15",
+        "classify square 13 --version 1",
+        "classify hex 11 --brief --version 1",
+        "classify iamond 16 --version 1",
+        "classify square 4 --version",
+        "classify square 4 --version 0",
+        "classify square 4 --version 3",
+        "classify square 4 --version 02",
+        "classify square 4 --version 1 --version 1",
+        "list square 3 --version 2",
+        "plain square 3 --version 1",
+        "check --version 1",
+        "table --version 2",
+        "sample square 8 40 1 --version 3",
+        "--version",
         "classify square 4 --turns 1000001",
         "classify square 4 --levels 7",
         "classify square 4 --domain 13",

@@ -9,6 +9,7 @@ use Rattle.heesch_grid.specs.CoronaFormula.{Variable}
 use Rattle.heesch_grid.specs.Geometry.{Geometry, IsGrid}
 use Rattle.heesch_grid.specs.Lattice.{Triple}
 use Rattle.heesch_grid.specs.Polyform.{IsFreePolyform}
+use Rattle.heesch_cnf.specs.declared.version.Version.{Version}
 use Rattle.heesch_cnf.specs.declared.literal.Lit.{Lit}
 use Rattle.heesch_cnf.specs.declared.log.Line.{Line as LogLine}
 use Rattle.heesch_cnf.specs.declared.log.Line.TheVariants.{Learn}
@@ -103,11 +104,11 @@ learn_near (steps.Cut cut) h = absurd h
 all_near : (proof : Proof) → HasNoCut proof → AllByRecursion IsNearStep proof.steps
 all_near proof h = recursion_from_All IsNearStep proof.steps (All-weaker IsLearnStep IsNearStep learn_near proof.steps h)
 
-pub refuted_without : (g : Geometry) (shape : List Cell) (j size : ℕ) (proof : Proof) → RefutesCoronas g shape j size proof → HasNoCut proof → AllByRecursion IsLineIf (proof_lines proof)
-refuted_without g shape j size proof r h = written r.vars r.count r.clauses proof r.refutes.lines (all_near proof h) (final_ends _ proof.last r.refutes.final)
+pub refuted_without : (version : Version) (g : Geometry) (shape : List Cell) (j size : ℕ) (proof : Proof) → RefutesCoronas version g shape j size proof → HasNoCut proof → AllByRecursion IsLineIf (proof_lines proof)
+refuted_without version g shape j size proof r h = written r.vars r.count r.clauses proof r.refutes.lines (all_near proof h) (final_ends _ proof.last r.refutes.final)
 
-pub spent_without : (g : Geometry) (shape : List Cell) (j turns size : ℕ) (proof : Proof) → IsSpentOnCoronas g shape j turns size proof → HasNoCut proof → AllByRecursion IsLineIf (proof_lines proof)
-spent_without g shape j turns size proof r h = written r.vars r.count r.clauses proof r.is_spent.lines (all_near proof h) (spent_ends proof.last r.is_spent.unfinished)
+pub spent_without : (version : Version) (g : Geometry) (shape : List Cell) (j turns size : ℕ) (proof : Proof) → IsSpentOnCoronas version g shape j turns size proof → HasNoCut proof → AllByRecursion IsLineIf (proof_lines proof)
+spent_without version g shape j turns size proof r h = written r.vars r.count r.clauses proof r.is_spent.lines (all_near proof h) (spent_ends proof.last r.is_spent.unfinished)
 
 pub settled : (g : Geometry) (shape : List Cell) (turns : ℕ) (t : Triple) (proof : Proof) → SettlesTriple g shape turns t proof → AllByRecursion IsLineIf (proof_lines proof)
 settled g shape turns t proof s = by_end s.settled
@@ -118,16 +119,16 @@ settled g shape turns t proof s = by_end s.settled
 
 -- ---- proofs with cuts
 
-module _ (near : HolesAreNear) (g : Geometry) (law : IsGrid g) (n : ℕ) (shape : List Cell) (low : 1 ≤ n) (high : n ≤ 32) (free : IsFreePolyform g n shape) (j : ℕ) (j_low : 1 ≤ j) (j_high : j ≤ 6) where
-  lawful_near : (vars : List Variable) (count : ℕ) (clauses : List (List Lit)) → IsCountedFormula g shape j vars count clauses → (step : Step) → IsLawfulStep g shape j vars step → IsNearStep step
+module _ (near : HolesAreNear) (version : Version) (g : Geometry) (law : IsGrid g) (n : ℕ) (shape : List Cell) (low : 1 ≤ n) (high : n ≤ 32) (free : IsFreePolyform g n shape) (j : ℕ) (j_low : 1 ≤ j) (j_high : j ≤ 6) where
+  lawful_near : (vars : List Variable) (count : ℕ) (clauses : List (List Lit)) → IsCountedFormula version g shape j vars count clauses → (step : Step) → IsLawfulStep g shape j vars step → IsNearStep step
   lawful_near vars count clauses f (steps.Learn clause hints) h = tt
-  lawful_near vars count clauses f (steps.Cut cut) h = near g law n shape j vars count clauses cut low high free j_low j_high f h
+  lawful_near vars count clauses f (steps.Cut cut) h = near version g law n shape j vars count clauses cut low high free j_low j_high f h
 
-  cuts_near : (vars : List Variable) (count : ℕ) (clauses : List (List Lit)) → IsCountedFormula g shape j vars count clauses → (done : List Step) → All (IsLawfulStep g shape j vars) done → AllByRecursion IsNearStep done
+  cuts_near : (vars : List Variable) (count : ℕ) (clauses : List (List Lit)) → IsCountedFormula version g shape j vars count clauses → (done : List Step) → All (IsLawfulStep g shape j vars) done → AllByRecursion IsNearStep done
   cuts_near vars count clauses f done h = recursion_from_All IsNearStep done (All-weaker (IsLawfulStep g shape j vars) IsNearStep (lawful_near vars count clauses f) done h)
 
-  pub refuted : (size : ℕ) (proof : Proof) → RefutesCoronas g shape j size proof → AllByRecursion IsLineIf (proof_lines proof)
+  pub refuted : (size : ℕ) (proof : Proof) → RefutesCoronas version g shape j size proof → AllByRecursion IsLineIf (proof_lines proof)
   refuted size proof r = written r.vars r.count r.clauses proof r.refutes.lines (cuts_near r.vars r.count r.clauses r.formula proof.steps r.lawful) (final_ends _ proof.last r.refutes.final)
 
-  pub spent : (turns size : ℕ) (proof : Proof) → IsSpentOnCoronas g shape j turns size proof → AllByRecursion IsLineIf (proof_lines proof)
+  pub spent : (turns size : ℕ) (proof : Proof) → IsSpentOnCoronas version g shape j turns size proof → AllByRecursion IsLineIf (proof_lines proof)
   spent turns size proof r = written r.vars r.count r.clauses proof r.is_spent.lines (cuts_near r.vars r.count r.clauses r.formula proof.steps r.lawful) (spent_ends proof.last r.is_spent.unfinished)

@@ -122,16 +122,16 @@ module _ (g : Geometry) (law : IsGrid g) (limits : Limits) (are : AreLimits limi
 pub bare_holds : (g : Geometry) (limits : Limits) (shape : List Cell) (m level found last : ℕ) (bare : Bare) → BareShows g limits shape m bare → AllByRecursion IsLineIf (bare_lines level found last bare)
 bare_holds g limits shape m level found last bares.Absent s = tt
 bare_holds g limits shape m level found last bares.Same s = (λ n. n, tt)
-bare_holds g limits shape m level found last (bares.Refuted proof) s = (λ n. n, refuted_without g shape m limits.size proof s.0 s.1)
-bare_holds g limits shape m level found last (bares.Spent proof) s = (λ n. n, spent_without g shape m limits.turns limits.size proof s.0 s.1)
+bare_holds g limits shape m level found last (bares.Refuted proof) s = (λ n. n, refuted_without limits.version g shape m limits.size proof s.0 s.1)
+bare_holds g limits shape m level found last (bares.Spent proof) s = (λ n. n, spent_without limits.version g shape m limits.turns limits.size proof s.0 s.1)
 bare_holds g limits shape m level found last bares.Size s = (λ n. n, tt)
 bare_holds g limits shape m level found last bares.Open s = (λ n. n, tt)
 
 module _ (g : Geometry) (law : IsGrid g) (n : ℕ) (shape : List Cell) (low : 1 ≤ n) (high : n ≤ 32) (free : IsFreePolyform g n shape) where
   pub wall_holds : HolesAreNear → (limits : Limits) (j : ℕ) → 1 ≤ j → (level : ℕ) (wall : Wall) → (wall ≢ walls.Absent → j ≤ 6) → WallShows g limits shape j wall → AllByRecursion IsLineIf (wall_lines level wall)
   wall_holds near limits j j_low level walls.Absent j_high s = tt
-  wall_holds near limits j j_low level (walls.Refuted proof) j_high s = (λ n. n, refuted near g law n shape low high free j j_low (j_high (λ e. cc)) limits.size proof s)
-  wall_holds near limits j j_low level (walls.Spent proof) j_high s = (λ n. n, spent near g law n shape low high free j j_low (j_high (λ e. cc)) limits.turns limits.size proof s)
+  wall_holds near limits j j_low level (walls.Refuted proof) j_high s = (λ n. n, refuted near limits.version g law n shape low high free j j_low (j_high (λ e. cc)) limits.size proof s)
+  wall_holds near limits j j_low level (walls.Spent proof) j_high s = (λ n. n, spent near limits.version g law n shape low high free j j_low (j_high (λ e. cc)) limits.turns limits.size proof s)
   wall_holds near limits j j_low level walls.Size j_high s = (λ n. n, tt)
 
   pub wider_holds : CoronasAreNear → (wider : Option Layers) → AreFew wider → OpenShows g shape wider → AllByRecursion IsLineIf (wider_lines wider)

@@ -10,6 +10,7 @@ use Rattle.heesch_cert.specs.Literals.{literals}
 use Rattle.heesch_encode.specs.Taking.{Takes, IsTaken}
 use Rattle.heesch_encode.proofs.ClauseLists.{clause_form}
 use Rattle.heesch_encode.proofs.Numbered.{no_entry}
+use Rattle.heesch_encode.proofs.Takings.{clause_after}
 use Rattle.heesch_encode.proofs.Pieces.{apart_piece, apart_is, apart_clause, meeting_small, piece_taken, piece_stopped, some_at}
 use Rattle.heesch_encode.proofs.families.take_apart.Goals as goal
 
@@ -25,7 +26,7 @@ take-requires g c =
     let is : c.minus.result ∷ c.minus-in-loop-other.result ∷ [] ≡ clause =
     (λ k. c.minus.ensures k ∷ c.minus-in-loop-other.ensures k ∷ []) ∙ apart_clause vars c.args.level c.cells-cells.result.now n v items i number (c.deref-other-items.ensures.value ∙ c.in_ok-list_meeting.ensures.listed) c.loop-other-test.true
     in
-    subst (λ m. IsClause m (c.minus.result ∷ c.minus-in-loop-other.result ∷ [])) (sym (c.loop-other.invariant.vars ∙ c.requires.vars))
+    clause_after (length vars) c.args.collector.now c.loop-other.collector (flat_map (apart_piece vars n) (take i items)) (c.minus.result ∷ c.minus-in-loop-other.result ∷ []) c.requires.vars c.loop-other.invariant
     (subst (IsClause (length vars)) (sym is) (clause_form vars (λ x. is_numbered n x || is_numbered (get_or items i 0) x) no_variable))
 
 pub minus-requires-in-loop-other : goal.minus-requires-in-loop-other

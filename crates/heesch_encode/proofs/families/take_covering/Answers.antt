@@ -14,7 +14,7 @@ use Rattle.heesch_cert.specs.Literals.{literals}
 use Rattle.heesch_encode.specs.Taking.{Takes, IsTaken}
 use Rattle.heesch_encode.proofs.ClauseLists.{clause_form}
 use Rattle.heesch_encode.proofs.Numbered.{no_entry}
-use Rattle.heesch_encode.proofs.Takings.{takes_none}
+use Rattle.heesch_encode.proofs.Takings.{takes_none, clause_after}
 use Rattle.heesch_encode.proofs.Rings.{covering_small}
 use Rattle.heesch_encode.proofs.Pieces.{covering_piece, covering_is, no_covering, piece_taken, piece_stopped, implication_clause, not_covering, covering_rising, around_outside, with_clause, without_clause, some_at}
 use Rattle.heesch_encode.proofs.families.take_covering.Goals as goal
@@ -51,7 +51,7 @@ take-requires g c =
     let number = some_at vars n c.requires.number.0 c.requires.number.1 in
     let outside = around_outside g.G.Grid.geometry v.tile v.tile c.write_moved.new.ring.items c.as_slice-c-items.result.now c.loop-c.c-index zero_cell (c.in_ok-write_moved.ensures.listed v number) c.as_slice-c-items.ensures.value refl c.loop-c-test.true in
     let is = implication_clause vars (c.level_of-of.result + 1) n v at c.covered_by.result.now c.write_implication.new.clause.items c.as_slice.result.now number outside c.covered_by.ensures c.in_ok-write_implication.ensures c.as_slice.ensures.value in
-    subst (λ m. IsClause m c.as_slice.result.now) (sym (c.loop-c.invariant.vars ∙ c.requires.vars)) (subst (IsClause (length vars)) (sym is) (clause_form vars (is_numbered n) (covers (c.level_of-of.result + 1) at)))
+    clause_after (length vars) c.args.collector.now c.loop-c.collector (flat_map (covering_piece c.args.shape.now vars n c.level_of-of.result) (take c.loop-c.c-index c.as_slice-c-items.result.now)) c.as_slice.result.now c.requires.vars c.loop-c.invariant (subst (IsClause (length vars)) (sym is) (clause_form vars (is_numbered n) (covers (c.level_of-of.result + 1) at)))
 
 pub returns-in_err-take : goal.returns-in_err-take
 returns-in_err-take g c =

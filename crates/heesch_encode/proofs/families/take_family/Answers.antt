@@ -1,4 +1,4 @@
-use Rattle.std.proofs.Common.{◌≡◌, ◌+◌, ◌-◌, ◌<◌, ℕ, List, Err, length, get_or, take, sym, ◌∙◌, subst, arith}
+use Rattle.std.proofs.Common.{◌≡◌, ◌+◌, ◌-◌, ◌<◌, ℕ, List, Err, length, get_or, take, sym, subst, arith}
 use Rattle.std.specs.Prelude.{flat_map}
 use Rattle.std.specs.List.{enumerate_from}
 use Rattle.std.proofs.lemmas.List.{take_all}
@@ -10,6 +10,7 @@ use Rattle.heesch_grid.proofs.AroundFacts.{cells_around, around_given}
 use Rattle.heesch_encode.specs.Families.{clauses_at}
 use Rattle.heesch_encode.specs.Taking.{Takes, IsTaken}
 use Rattle.heesch_encode.proofs.Numbered.{no_entry}
+use Rattle.heesch_encode.proofs.Takings.{keeps_vars}
 use Rattle.heesch_encode.proofs.Pieces.{piece_taken, piece_stopped, some_at, entry_read}
 use Rattle.heesch_encode.proofs.families.take_family.Goals as goal
 
@@ -17,7 +18,9 @@ pub take_of-requires-clause-vars : goal.take_of-requires-clause-vars
 take_of-requires-clause-vars g c =
     let geometry = g.G.Grid.geometry in
     let met = g.met.G.Grid in
-    (c.loop-i.invariant.taken (cells_around geometry) (around_given geometry met.laws)).vars ∙ c.requires.vars
+    let vars = c.args.universe.now.vars in
+    let f : ℕ × Variable → List (List Lit) = clauses_at c.args.family geometry (cells_around geometry) c.args.shape.now c.args.level vars in
+    keeps_vars (length vars) c.args.collector.now c.loop-i.collector (flat_map f (take c.loop-i.i (enumerate_from 1 vars))) c.requires.vars (c.loop-i.invariant.taken (cells_around geometry) (around_given geometry met.laws))
 
 pub returns-in_err-take_of-clause-taken : goal.returns-in_err-take_of-clause-taken
 returns-in_err-take_of-clause-taken g c =

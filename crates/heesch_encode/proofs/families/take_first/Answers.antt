@@ -9,7 +9,7 @@ use Rattle.heesch_grid.specs.Clauses.{no_variable}
 use Rattle.heesch_grid.specs.CoronaFormula.{covers}
 use Rattle.heesch_encode.specs.Taking.{Takes, IsTaken}
 use Rattle.heesch_encode.proofs.ClauseLists.{clause_form}
-use Rattle.heesch_encode.proofs.Takings.{takes_none}
+use Rattle.heesch_encode.proofs.Takings.{takes_none, clause_after}
 use Rattle.heesch_encode.proofs.Rings.{covering_small}
 use Rattle.heesch_encode.proofs.Pieces.{first_piece, first_is, piece_taken, piece_stopped, choice_clause}
 use Rattle.heesch_encode.proofs.families.take_first.Goals as goal
@@ -25,7 +25,7 @@ take-requires g c =
     let vars = c.args.universe.now.vars in
     let at : Cell = get_or c.as_slice-c-items.result.now c.loop-c.c-index zero_cell in
     let is = choice_clause vars at c.covered_by.result.now c.write_choice.new.clause.items c.as_slice.result.now c.covered_by.ensures c.in_ok-write_choice.ensures c.as_slice.ensures.value in
-    subst (λ n. IsClause n c.as_slice.result.now) (sym (c.loop-c.invariant.vars ∙ c.requires.vars)) (subst (IsClause (length vars)) (sym is) (clause_form vars no_variable (covers 1 at)))
+    clause_after (length vars) c.args.collector.now c.loop-c.collector (flat_map (first_piece vars) (take c.loop-c.c-index c.as_slice-c-items.result.now)) c.as_slice.result.now c.requires.vars c.loop-c.invariant (subst (IsClause (length vars)) (sym is) (clause_form vars no_variable (covers 1 at)))
 
 pub returns-in_err-take : goal.returns-in_err-take
 returns-in_err-take g c =

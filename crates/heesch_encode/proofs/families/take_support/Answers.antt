@@ -11,6 +11,7 @@ use Rattle.std.specs.Prelude.{nat_lt, ◌==◌, ◌&&◌, Contains}
 use Rattle.heesch_grid.specs.Placement.{touch}
 use Rattle.heesch_encode.proofs.ClauseLists.{clause_form}
 use Rattle.heesch_encode.proofs.Numbered.{no_entry}
+use Rattle.heesch_encode.proofs.Takings.{wider}
 use Rattle.heesch_encode.proofs.Pieces.{some_at, not_supporting, supporting_rising, supporting_small, support_clause, support_is}
 use Rattle.heesch_encode.proofs.families.take_support.Goals as goal
 
@@ -38,7 +39,7 @@ take-requires g c =
     let level : of ≡ v.level = c.level_of-of.ensures v number in
     let tile = c.shape-tile.ensures ∙ c.placement_of.ensures.tile v number in
     let is = support_clause geometry vars n of v c.shape-tile.result.now c.deref-2.result.now c.write_implication.new.clause.items c.deref-3.result.now number level c.if-of-lt2.false tile (c.deref-2.ensures.value ∙ c.in_ok-list_supporting.ensures.listed) c.in_ok-write_implication.ensures c.deref-3.ensures.value in
-    subst (λ m. IsClause m c.deref-3.result.now) (sym c.requires.vars) (subst (IsClause (length vars)) (sym is) (clause_form vars (is_numbered n) (λ (y : ℕ × Variable). (y.1.level + 1 == v.level) && touch geometry y.1.tile v.tile)))
+    wider (length vars) c.args.collector.now.formula.vars c.deref-3.result.now c.requires.vars (subst (IsClause (length vars)) (sym is) (clause_form vars (is_numbered n) (λ (y : ℕ × Variable). (y.1.level + 1 == v.level) && touch geometry y.1.tile v.tile)))
 
 pub returns-clause-taken : goal.returns-clause-taken
 returns-clause-taken g c =

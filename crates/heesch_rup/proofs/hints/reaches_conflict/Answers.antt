@@ -1,7 +1,7 @@
 use Rattle.std.proofs.Common.{◌++◌, ◌<◌, List, All, vec_len, get_or, sym, subst, arith}
 use Rattle.heesch_cnf.specs.declared.literal.Lit.{Lit}
 use Rattle.heesch_cnf.specs.Literals.{held}
-use Rattle.heesch_rup.proofs.Steps.{have_places_numbered, has_place}
+use Rattle.heesch_rup.proofs.Hinted.{have_places_numbered, has_place}
 use Rattle.heesch_rup.proofs.hints.reaches_conflict.Goals as goal
 
 pub status_of-requires : goal.status_of-requires

@@ -3,7 +3,7 @@ use Rattle.std.proofs.lemmas.List.{drop_all}
 use Rattle.heesch_cnf.specs.declared.literal.Lit.{Lit}
 use Rattle.heesch_cnf.specs.Literals.{held, with_true, opposite}
 use Rattle.heesch_cnf.specs.Lines.{refuting}
-use Rattle.heesch_rup.proofs.Steps.{refuting-drop_more}
+use Rattle.heesch_rup.proofs.Hinted.{refuting-drop_more}
 use Rattle.heesch_rup.proofs.hints.refute.Goals as goal
 
 pub loop-i-init : goal.loop-i-init

@@ -9,7 +9,7 @@ returns c =
     let clauses = c.args.formula.now.clauses ++ c.args.added.now.clauses in
     let values = held c.args.assignment.now.values.items in
     let n = vec_len c.args.occurrences.now.earlier in
-    let none_at = subst (λ b. MatchBool b (SomeFalsified values clauses n) (NoneFalsifiedAt values clauses n c.slot_of.result)) c.if-any_falsified.false c.any_falsified.ensures in
-    let none_empty = subst (NoneFalsifiedAt values clauses n) c.slot_of.ensures none_at in
-    new_when_none c.args.formula.now.vars values clauses n c.args.clause.now c.requires.refuted c.requires.clause (omega (arith, c.requires.lists.within)) none_empty
+    let counts = c.args.occurrences.now.counts.items in
+    let none_empty = subst (λ b. MatchBool b (SomeFalsified values clauses n) (NoneFalsifiedAt counts values clauses n 0)) c.if-any_falsified.false c.any_falsified.ensures in
+    new_when_none counts c.args.formula.now.vars values clauses n c.args.clause.now c.requires.refuted c.requires.clause (omega (arith, c.requires.lists.within)) none_empty
     (λ j d lt. c.loop-lit.invariant j d (omega arith))

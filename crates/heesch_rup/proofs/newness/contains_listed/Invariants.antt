@@ -1,9 +1,10 @@
 use Rattle.std.proofs.Common.{◌++◌, ℕ, ◌<◌, get_or, vec_len}
 use Rattle.heesch_cnf.specs.declared.literal.Lit.{Lit}
 use Rattle.heesch_cnf.specs.Literals.{held}
-use Rattle.heesch_rup.specs.Listed.{lit_slot, NoneFalsifiedAt}
+use Rattle.heesch_cnf.specs.Flat.{code_of}
+use Rattle.heesch_rup.specs.Listed.{NoneFalsifiedAt}
 use Rattle.heesch_rup.proofs.newness.contains_listed.Given as goal
 
 abbrev pub invariant-loop-lit : goal.invariant-loop-lit
 invariant-loop-lit l =
-    (j : ℕ) (d : Lit) → j < l.lit-index → NoneFalsifiedAt (held l.assignment.values.items) (l.formula.clauses ++ l.added.clauses) (vec_len l.occurrences.earlier) (lit_slot (get_or l.clause j d))
+    (j : ℕ) (d : Lit) → j < l.lit-index → NoneFalsifiedAt l.occurrences.counts.items (held l.assignment.values.items) (l.formula.clauses ++ l.added.clauses) (vec_len l.occurrences.earlier) (code_of (get_or l.clause j d))

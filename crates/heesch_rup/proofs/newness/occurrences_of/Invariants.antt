@@ -5,6 +5,7 @@ use Rattle.heesch_rup.proofs.newness.occurrences_of.Given as goal
 abbrev pub invariant-loop-place : goal.invariant-loop-place
 invariant-loop-place l = record {
   room : vec_len l.listed.last ≡ 2 * l.formula.vars + 2;
+  counts : vec_len l.listed.counts ≡ 2 * l.formula.vars + 2;
   count : vec_len l.listed.earlier ≡ l._place;
   lists : ListsFirst (l.formula.clauses ++ l.added.clauses) l.listed;
 }

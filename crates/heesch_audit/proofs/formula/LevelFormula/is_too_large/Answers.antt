@@ -10,5 +10,5 @@ returns-in-Some g c =
     let shape = c.args.shape.now in
     let self = c.args.self.now in
     let e = c.in-Some.field-0 in
-    let at : IsFormulaAt geometry shape self.level self.limits.size e.universe e.formula = search rules in
-    refused (not_too_large geometry g.met.G.Grid.laws shape c.requires.shape.is_shape.polyform self.level self.limits.size e.universe e.formula at)
+    let at : IsFormulaAt self.limits.version geometry shape self.level self.limits.size e.universe e.formula = search rules in
+    refused (not_too_large self.limits.version geometry g.met.G.Grid.laws shape c.requires.shape.is_shape.polyform self.level self.limits.size e.universe e.formula at)

@@ -1,5 +1,5 @@
 use Rattle.std.proofs.Common.{map, string_bytes}
-use Rattle.heesch_words.specs.Options.{Workers, Turns, Levels, Domain, Size}
+use Rattle.heesch_words.specs.Options.{Workers, Turns, Levels, Domain, Size, Version}
 use Rattle.heesch_words.proofs.OptionRows.{number_read, number_refused, brief_read, brief_refused}
 use Rattle.heesch_words.proofs.options.Options.read_one.Goals as goal
 
@@ -50,9 +50,18 @@ returns-in-text-5-clause-usage c =
 
 pub returns-in-text-6-clause-ok : goal.returns-in-text-6-clause-ok
 returns-in-text-6-clause-ok c =
-    brief_read c.set_once.result (λ others. map string_bytes others.now) c.args.name.now (map string_bytes c.args.words.now) c.args.self.now c.set_once.new.place
-    c.in-text-6.is c.set_once.ensures.ok
+    number_read Version c.read_once-in-text-6.result (λ others. map string_bytes others.now) c.args.name.now (map string_bytes c.args.words.now) c.args.self.now c.read_once-in-text-6.new.place
+    c.in-text-6.is c.read_once-in-text-6.ensures.ok
 
 pub returns-in-text-6-clause-usage : goal.returns-in-text-6-clause-usage
 returns-in-text-6-clause-usage c =
-    brief_refused c.set_once.result c.args.name.now (map string_bytes c.args.words.now) c.args.self.now c.in-text-6.is c.set_once.ensures.usage
+    number_refused Version c.read_once-in-text-6.result c.args.name.now (map string_bytes c.args.words.now) c.args.self.now c.in-text-6.is c.read_once-in-text-6.ensures.usage
+
+pub returns-in-text-7-clause-ok : goal.returns-in-text-7-clause-ok
+returns-in-text-7-clause-ok c =
+    brief_read c.set_once.result (λ others. map string_bytes others.now) c.args.name.now (map string_bytes c.args.words.now) c.args.self.now c.set_once.new.place
+    c.in-text-7.is c.set_once.ensures.ok
+
+pub returns-in-text-7-clause-usage : goal.returns-in-text-7-clause-usage
+returns-in-text-7-clause-usage c =
+    brief_refused c.set_once.result c.args.name.now (map string_bytes c.args.words.now) c.args.self.now c.in-text-7.is c.set_once.ensures.usage

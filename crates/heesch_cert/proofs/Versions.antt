@@ -1,0 +1,20 @@
+-- What holds of the corona formula of both versions.
+use Rattle.std.proofs.Common.{ℕ, ◌≤◌, List, length, arith}
+use Rattle.heesch_grid.specs.declared.Cell.{Cell}
+use Rattle.heesch_grid.specs.Geometry.{Geometry}
+use Rattle.heesch_grid.specs.CoronaFormula.{Variable, IsUniverse}
+use Rattle.heesch_cnf.specs.declared.literal.Lit.{Lit}
+use Rattle.heesch_cnf.specs.declared.version.Version.{Version}
+use Rattle.heesch_cnf.specs.declared.version.Version.TheVariants.{One, Two}
+use Rattle.heesch_grid.proofs.VersionFacts as grid
+use Rattle.heesch_cert.specs.Literals.{literals}
+use Rattle.heesch_cert.specs.Formulas.{version_number, IsCountedFormula}
+
+-- its universe
+pub universe_of : (version : Version) (g : Geometry) (shape : List Cell) (j : ℕ) (vars : List Variable) (count : ℕ) (clauses : List (List Lit)) → IsCountedFormula version g shape j vars count clauses → IsUniverse g shape j vars
+universe_of version g shape j vars count clauses formula = grid.universe_of literals (version_number version) g shape j vars count clauses formula
+
+-- the variables of the universe are among those of the formula
+pub universe_within : (version : Version) (g : Geometry) (shape : List Cell) (j : ℕ) (vars : List Variable) (count : ℕ) (clauses : List (List Lit)) → IsCountedFormula version g shape j vars count clauses → length vars ≤ count
+universe_within One g shape j vars count clauses formula = let e = formula.1 in omega arith
+universe_within Two g shape j vars count clauses formula = let e = formula.count_is in omega arith

@@ -1,0 +1,22 @@
+-- Which sizes a catalogue may be of.
+use Rattle.std.specs.Prelude.{ℕ, ◌≤◌, ⊤}
+use Rattle.heesch_grid.specs.declared.GridName.{GridName}
+use Rattle.heesch_grid.specs.declared.GridName.TheVariants.{Square, Hex, Iamond}
+use Rattle.heesch_cnf.specs.declared.version.Version.{Version}
+use Rattle.heesch_cnf.specs.declared.version.Version.TheVariants.{One, Two}
+use Rattle.heesch_cert.specs.declared.header.Subject.{Subject}
+use Rattle.heesch_cert.specs.declared.header.Subject.TheVariants.{Size, Given}
+
+-- the greatest size of a catalogue of this version
+abbrev pub most_cells : Version → GridName → ℕ
+most_cells One Square = 12
+most_cells One Hex = 10
+most_cells One Iamond = 15
+most_cells Two Square = 14
+most_cells Two Hex = 12
+most_cells Two Iamond = 18
+
+-- a catalogue of this version is of the polyforms of a size in its range, or of those that are given
+abbrev pub IsSubject : Version → GridName → Subject → Type 0
+IsSubject version grid (Size n) = (1 ≤ n) × (n ≤ most_cells version grid)
+IsSubject version grid Given = ⊤

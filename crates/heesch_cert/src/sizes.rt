@@ -1,0 +1,20 @@
+//! Which sizes a catalogue may be of.
+ghost use Rattle.std.specs.Prelude.{◌≡◌};
+ghost use Rattle.heesch_cert.specs.Sizes.{most_cells};
+
+use heesch_cnf::Version;
+use heesch_grid::GridName;
+
+/// The greatest size of a catalogue of this version: the number of cells of its polyforms.
+pub fn most_cells(version: Version, grid: GridName) -> u32
+    ensures { result ≡ most_cells version grid }
+{
+    match (version, grid) {
+        (Version::One, GridName::Square) => 12,
+        (Version::One, GridName::Hex) => 10,
+        (Version::One, GridName::Iamond) => 15,
+        (Version::Two, GridName::Square) => 14,
+        (Version::Two, GridName::Hex) => 12,
+        (Version::Two, GridName::Iamond) => 18,
+    }
+}

@@ -1,0 +1,67 @@
+use Rattle.std.proofs.Common.{◌++◌, Err, length, subst}
+use Rattle.std.proofs.lemmas.Result.{err_from_is_err_and}
+use Rattle.heesch_grid.specs.CoronaFormula.{first_clauses, covering_clauses, support_clauses}
+use Rattle.heesch_grid.proofs.AroundFacts.{cells_around, around_given}
+use Rattle.heesch_cert.specs.Literals.{literals}
+use Rattle.heesch_encode.specs.Taking.{Takes, IsTaken}
+use Rattle.heesch_encode.proofs.Takings.{Clauses, takes_more, taken_after, stopped_before, keeps_vars}
+use Rattle.heesch_encode.proofs.Pieces.{covering_family, support_family}
+use Rattle.heesch_encode.proofs.families.take_common.Goals as goal
+
+pub take_family-requires-clause-vars : goal.take_family-requires-clause-vars
+take_family-requires-clause-vars g c =
+    let geometry = g.G.Grid.geometry in
+    let met = g.met.G.Grid in
+    let around = cells_around geometry in
+    let vars = c.args.universe.now.vars in
+    keeps_vars (length vars) c.args.collector.now c.take_first.new.collector (first_clauses literals around c.args.shape.now vars) c.requires.vars (c.in_ok-take_first.ensures around (around_given geometry met.laws))
+
+pub returns-in_err-take_family-clause-taken : goal.returns-in_err-take_family-clause-taken
+returns-in_err-take_family-clause-taken g c =
+    let geometry = g.G.Grid.geometry in
+    let vars = c.args.universe.now.vars in
+    let shape = c.args.shape.now in
+    let j = c.args.level in
+    let p = err_from_is_err_and c.from_residual-in_err-take_family.result c.from_residual-in_err-take_family.ensures.1 in
+    let e = c.in_err-take_family.field-0.0 in
+    let a = c.args.collector.now in
+    let b = c.take_first.new.collector in
+    let d = c.take_family.new.collector in
+    λ around gives.
+    let first : Clauses = first_clauses literals around shape vars in
+    let covering : Clauses = covering_clauses literals around shape j vars in
+    let support : Clauses = support_clauses literals geometry vars in
+    let stop : IsTaken (Err e) b d covering = subst (IsTaken (Err e) b d) (covering_family geometry around shape j vars) (c.in_err-take_family.ensures.taken around gives) in
+    rw (p.1, p.2) (stopped_before e a d (first ++ covering) support (taken_after (Err e) a b d first covering (c.in_ok-take_first.ensures around gives) stop))
+
+pub take_family-requires-2-clause-vars : goal.take_family-requires-2-clause-vars
+take_family-requires-2-clause-vars g c =
+    let geometry = g.G.Grid.geometry in
+    let met = g.met.G.Grid in
+    let around = cells_around geometry in
+    let gives = around_given geometry met.laws in
+    let vars = c.args.universe.now.vars in
+    let shape = c.args.shape.now in
+    let j = c.args.level in
+    let b = c.take_first.new.collector in
+    let d = c.take_family.new.collector in
+    let second : Takes b d (covering_clauses literals around shape j vars) = subst (Takes b d) (covering_family geometry around shape j vars) (c.in_ok-take_family.ensures.taken around gives) in
+    keeps_vars (length vars) b d (covering_clauses literals around shape j vars) (keeps_vars (length vars) c.args.collector.now b (first_clauses literals around shape vars) c.requires.vars (c.in_ok-take_first.ensures around gives)) second
+
+pub returns-clause-taken : goal.returns-clause-taken
+returns-clause-taken g c =
+    let geometry = g.G.Grid.geometry in
+    let vars = c.args.universe.now.vars in
+    let shape = c.args.shape.now in
+    let j = c.args.level in
+    let a = c.args.collector.now in
+    let b = c.take_first.new.collector in
+    let d = c.take_family.new.collector in
+    let f = c.take_family-2.new.collector in
+    λ around gives.
+    let first : Clauses = first_clauses literals around shape vars in
+    let covering : Clauses = covering_clauses literals around shape j vars in
+    let support : Clauses = support_clauses literals geometry vars in
+    let second : Takes b d covering = subst (Takes b d) (covering_family geometry around shape j vars) (c.in_ok-take_family.ensures.taken around gives) in
+    let third : IsTaken c.take_family-2.result d f support = subst (IsTaken c.take_family-2.result d f) (support_family geometry around shape j vars) (c.take_family-2.ensures.taken around gives) in
+    taken_after c.take_family-2.result a d f (first ++ covering) support (takes_more a b d first covering (c.in_ok-take_first.ensures around gives) second) third

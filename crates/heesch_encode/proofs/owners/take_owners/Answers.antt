@@ -1,0 +1,53 @@
+use Rattle.std.proofs.Common.{◌≡◌, ◌+◌, ◌-◌, ◌<◌, ◌≤◌, All, Err, get_or, length, pos, sym, ap, ◌∙◌, subst, arith}
+use Rattle.std.specs.Prelude.{flat_map}
+use Rattle.std.specs.List.{enumerate_from}
+use Rattle.std.proofs.lemmas.List.Sums.{sum_by_more}
+use Rattle.std.proofs.lemmas.Result.{err_from_is_err_and}
+use Rattle.heesch_grid.specs.declared.Cell.{Cell}
+use Rattle.heesch_grid.specs.Cells.{cell}
+use Rattle.heesch_grid.specs.OwnerFormula.{digits, owner_count, rank_clauses}
+use Rattle.heesch_cert.specs.Literals.{literals}
+use Rattle.heesch_encode.specs.Taking.{Takes, IsTaken}
+use Rattle.heesch_encode.proofs.Holders.{cell_clauses, holders_range, owners_taken, owners_stopped}
+use Rattle.heesch_encode.proofs.owners.take_owners.Goals as goal
+
+abbrev zero_cell : Cell
+zero_cell = cell (pos 0) (pos 0)
+
+pub take_ranks-requires-clause-holders : goal.take_ranks-requires-clause-holders
+take_ranks-requires-clause-holders g c =
+    let vars = c.args.universe.now.vars in
+    let at : Cell = get_or c.args.owned.now c.loop-c.c-index zero_cell in
+    let start = c.loop-c.invariant.start in
+    subst (All (λ n. (1 ≤ n) × (n < c.loop-c.start))) (sym c.holders_of-holders.ensures) (λ k d l. let r = holders_range vars at k d l in (r.0, omega (arith, r.1, start)))
+
+pub returns-in_err-take_ranks : goal.returns-in_err-take_ranks
+returns-in_err-take_ranks g c =
+    let vars = c.args.universe.now.vars in
+    let cells = c.args.owned.now in
+    let i = c.loop-c.c-index in
+    let at : Cell = get_or cells i zero_cell in
+    let start = c.loop-c.start in
+    let count : c.digits_of_ranks-count.result ≡ owner_count vars at = c.digits_of_ranks-count.ensures.digits ∙ ap (λ ns. digits (length ns - 1)) c.holders_of-holders.ensures in
+    let is : flat_map (rank_clauses literals start c.digits_of_ranks-count.result) (enumerate_from 0 c.holders_of-holders.result.now) ≡ cell_clauses vars start at = λ k. flat_map (rank_clauses literals start (count k)) (enumerate_from 0 (c.holders_of-holders.ensures k)) in
+    let p = err_from_is_err_and c.from_residual.result c.from_residual.ensures.1 in
+    let e = c.in_err-take_ranks.field-0.0 in
+    rw (p.1, p.2)
+    (owners_stopped vars (length vars + 1) start cells i zero_cell c.loop-c-test.true c.loop-c.invariant.start e c.args.collector.now c.loop-c.collector c.take_ranks.new.collector c.loop-c.invariant.taken
+    (subst (IsTaken (Err e) c.loop-c.collector c.take_ranks.new.collector) is c.in_err-take_ranks.ensures))
+
+pub loop-c-preserved : goal.loop-c-preserved
+loop-c-preserved g c =
+    let vars = c.args.universe.now.vars in
+    let cells = c.args.owned.now in
+    let i = c.loop-c.c-index in
+    let at : Cell = get_or cells i zero_cell in
+    let start = c.loop-c.start in
+    let count : c.digits_of_ranks-count.result ≡ owner_count vars at = c.digits_of_ranks-count.ensures.digits ∙ ap (λ ns. digits (length ns - 1)) c.holders_of-holders.ensures in
+    let is : flat_map (rank_clauses literals start c.digits_of_ranks-count.result) (enumerate_from 0 c.holders_of-holders.result.now) ≡ cell_clauses vars start at = λ k. flat_map (rank_clauses literals start (count k)) (enumerate_from 0 (c.holders_of-holders.ensures k)) in
+    let so_far = c.loop-c.invariant.start in
+    let more = sum_by_more (owner_count vars) cells i zero_cell c.loop-c-test.true in
+    record {
+      start = omega (arith, so_far, more, count);
+      taken = owners_taken vars (length vars + 1) start cells i zero_cell c.loop-c-test.true c.loop-c.invariant.start c.args.collector.now c.loop-c.collector c.take_ranks.new.collector c.loop-c.invariant.taken (subst (Takes c.loop-c.collector c.take_ranks.new.collector) is c.in_ok-take_ranks.ensures);
+    }

@@ -1,0 +1,8 @@
+use Rattle.std.specs.Prelude.{ℕ, Option, Some, None, List}
+use Rattle.heesch_cnf.specs.declared.log.Line.{Line}
+use Rattle.heesch_cnf.specs.declared.log.Line.TheVariants.{Learn, Given}
+
+-- the hints of a line, and none where its clause is given
+abbrev pub hints_of : Line → Option (List ℕ)
+hints_of (Learn clause hints) = Some hints
+hints_of (Given clause) = None
