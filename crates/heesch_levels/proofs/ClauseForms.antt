@@ -68,6 +68,13 @@ module _ {V : Type 0} (negated asserted : ℕ × V → Bool) where
         rising = adjacent_of (clause_of literals negated asserted vars) r.rising;
       }
 
+-- a clause over some variables is one over more
+pub wider_clause : (n m : ℕ) (clause : List Lit) → n ≤ m → IsClause n clause → IsClause m clause
+wider_clause n m clause more c = record {
+  in_range = All-weaker (λ (l : Lit). (1 ≤ l.var) × (l.var ≤ n)) (λ (l : Lit). (1 ≤ l.var) × (l.var ≤ m)) (λ l h. let b = h.1 in (h.0, omega (arith, b, more))) clause c.in_range;
+  rising = c.rising;
+}
+
 -- an assignment under which a clause is not true makes each of its literals false
 pub made_false : (values : ℕ → Bool) (clause : List Lit) → clause_holds literals values clause ≡ false → IsMadeFalse values clause
 made_false values clause f = All-from_members (λ (l : Lit). values l.var ≡ not l.positive) clause each

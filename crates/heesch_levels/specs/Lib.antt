@@ -1,3 +1,4 @@
 pub mod Answer
+pub mod Wall
 pub mod Searching
 pub mod Steps

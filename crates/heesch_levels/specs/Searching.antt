@@ -1,6 +1,9 @@
 -- The state of a search, and how it ends.
-use Rattle.std.specs.Prelude.{◌≡◌, ℕ, Bool, Option, Some, None, List, [], ◌∷◌, map, All, IsTrue, IsFalse}
+use Rattle.std.specs.Prelude.{◌≡◌, ◌≤◌, ℕ, Bool, Option, Some, None, List, [], ◌∷◌, map, length, All, MatchOption, IsTrue, IsFalse}
+use Rattle.heesch_grid.specs.declared.Cell.{Cell}
+use Rattle.heesch_grid.specs.Clauses.{formula_size}
 use Rattle.heesch_grid.specs.Geometry.{Geometry}
+use Rattle.heesch_grid.specs.Polyform.{IsPolyform}
 use Rattle.heesch_cnf.specs.Lines.{clauses_with, Refutes, IsSpent}
 use Rattle.heesch_cnf.specs.Meaning.{given_clauses}
 use Rattle.heesch_cdcl.specs.Problem.{Problem, IsSolver, IsModel}
@@ -14,15 +17,16 @@ use Rattle.heesch_cuts.specs.Chosen.{IsOpen}
 use Rattle.heesch_levels.specs.declared.searching.Ending.{Ending}
 use Rattle.heesch_levels.specs.declared.searching.Ending.TheVariants.{Model, Refuted, Spent}
 
--- the solver has the corona formula of the universe, and was given the clauses of these lawful cuts, in order; none where holes are allowed
-pub record IsSearch (g : Geometry) (hole_free : Bool) (turns : ℕ) (u : Levels) (p : Problem) (cuts : List Cut) : Type 0 where
+-- the solver has a formula over the variables of the universe and maybe more, and was given the clauses of these lawful cuts, in order, none where holes are allowed; behind a cut some model of the formula is known
+pub record IsSearch (g : Geometry) (hole_free : Bool) (turns : ℕ) (u : Levels) (p : Problem) (cuts : List Cut) (holed : Option (List Bool)) : Type 0 where
   pub universe : IsUniverseOf g u
-  pub formula : IsCountedFormula g u.shape u.level u.vars p.vars p.clauses
+  pub within : length u.vars ≤ p.vars
   pub valid : IsSolver p
   pub turns_are : p.turns ≡ turns
   pub lawful : All (IsLawful g u.shape u.level u.vars) cuts
   pub given : given_clauses p.log.lines ≡ map (cut_clause u.vars) cuts
   pub no_cut : IsFalse hole_free → cuts ≡ []
+  pub some_model : MatchOption holed (cuts ≡ []) (IsModel p.vars p.clauses)
 
 -- a model, which leaves no hole where that is asked; a log that refutes; or a log that is spent, over which no final line holds
 abbrev pub IsEnding : Geometry → Bool → Levels → Problem → Ending → Type 0
@@ -30,9 +34,30 @@ IsEnding g hole_free u p (Model values) = IsModel p.vars (clauses_with p.clauses
 IsEnding g hole_free u p Refuted = Refutes p.vars p.clauses p.log
 IsEnding g hole_free u p Spent = IsSpent p.vars p.clauses p.turns p.log × NoFinal (clauses_with p.clauses p.log.lines)
 
+-- where a clause of the formula is empty, the end is the number of the first such clause, without a line
+abbrev pub IsAtOnce : Problem → Ending → Type 0
+IsAtOnce p ending = (n : ℕ) → IsFirstEmpty p.clauses n → (ending ≡ Refuted) × ((p.log.last ≡ Some (n ∷ [])) × (p.log.lines ≡ []))
+
 -- where a clause of the formula is empty, the search ends at once with the number of the first such clause, and no line is added
 abbrev pub EndsAtOnce : Problem → Problem → Ending → Type 0
 EndsAtOnce old new ending = (n : ℕ) → IsFirstEmpty old.clauses n → (ending ≡ Refuted) × ((new.log.last ≡ Some (n ∷ [])) × (new.log.lines ≡ old.log.lines))
+
+-- the search of a polyform and a level from 1 has ended so, at once where a clause of the formula is empty
+pub record IsEnded (g : Geometry) (hole_free : Bool) (turns : ℕ) (u : Levels) (p : Problem) (cuts : List Cut) (holed : Option (List Bool)) (ending : Ending) : Type 0 where
+  pub polyform : IsPolyform g u.shape
+  pub some : 1 ≤ u.level
+  pub search : IsSearch g hole_free turns u p cuts holed
+  pub ends : IsEnding g hole_free u p ending
+  pub at_once : IsAtOnce p ending
+
+-- the universe, the problem, the turns and whether holes are forbidden are those of a search at this level, over E(S, j) of at most `size` literals
+pub record IsUnder (g : Geometry) (shape : List Cell) (j : ℕ) (hole_free : Bool) (turns size : ℕ) (u : Levels) (p : Problem) (is_free : Bool) (most : ℕ) : Type 0 where
+  pub shape_is : u.shape ≡ shape
+  pub level_is : u.level ≡ j
+  pub free_is : is_free ≡ hole_free
+  pub turns_are : most ≡ turns
+  pub formula : IsCountedFormula g u.shape u.level u.vars p.vars p.clauses
+  pub fits : formula_size p.clauses ≤ size
 
 -- the search goes on only where no clause of the formula is empty
 abbrev pub TurnsAtOnce : Problem → Problem → Option Ending → Type 0

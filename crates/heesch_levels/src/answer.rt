@@ -1,22 +1,16 @@
 //! What the search at one level answers.
-ghost use Rattle.std.specs.Prelude.{◌≡◌, ◌≢◌, ◌≤◌, ◌<◌, ◌^◌, true, length, IfOk};
+ghost use Rattle.std.specs.Prelude.{◌≡◌, ◌≢◌, ◌≤◌, true, IfOk};
 ghost use Rattle.heesch_grid.specs.Polyform.{IsCanonicalListOf};
 ghost use Rattle.heesch_cert.specs.Proofs.{IsTooLarge};
 ghost use Rattle.heesch_levels.specs.Answer.{IsLevelAnswer, NamesEmptyClauses};
+ghost use Rattle.heesch_levels.specs.Wall.{ShowsHoles, level_answer};
 
-use crate::layers::layers_of;
-use crate::searching::{Ending, Search};
+use crate::ended::ended_at;
 use heesch_cert::{Layers, Proof};
-use heesch_cnf::FlatFormula;
-use heesch_encode::{EncodeStop, encode_flat};
 use heesch_grid::Grid;
 use heesch_io::NoMemory;
 use heesch_shape::Shape;
 use std::alloc::Global;
-
-/// A formula with this many clauses counts as want of memory. None comes to it: all clauses but some hundred have a
-/// literal, and there are at most 60,000,000 literals.
-const CLAUSES_MAX: usize = 1 << 30;
 
 /// How the search for so many coronas ended.
 #[derive(Drop)]
@@ -31,11 +25,19 @@ pub enum LevelAnswer {
     TooLarge,
 }
 
-/// Whether the formula has fewer clauses than count as want of memory.
-fn has_room(formula: &FlatFormula) -> bool
-    ensures { result ≡ true → length formula.now.clauses < 2 ^ 30 }
-{
-    formula.len() < CLAUSES_MAX
+/// How the search for so many hole-free coronas ended.
+#[derive(Drop)]
+pub enum WallAnswer {
+    /// They exist: a layer for each, with its tiles in rising order of their cell lists, each by its least isometry.
+    Coronas { layers: Layers },
+    /// There are none, with holes or without: the proof refutes the corona formula without cuts.
+    Refuted { proof: Proof },
+    /// There are none without holes, by a proof that has cuts; and these have a hole.
+    Holed { proof: Proof, layers: Layers },
+    /// The proof has as many steps as there are turns.
+    Spent { proof: Proof },
+    /// The corona formula has more literals than it may have.
+    TooLarge,
 }
 
 /// Searches for j coronas of the shape, hole-free ones where `hole_free`, by a solver on the corona formula of level j.
@@ -66,29 +68,39 @@ pub fn level<G: Grid>(
     ensures too_large { IfOk result (λ answer. IsTooLarge G.geometry shape.now j size → answer ≡ LevelAnswer.TooLarge) }
     ensures at_once { IfOk result (λ answer. answer ≢ LevelAnswer.TooLarge → NamesEmptyClauses G.geometry shape.now j answer) }
 {
-    // Reading the cells tells the proof that they are a polyform.
-    let _cells = shape.cells();
-    let encoded = match encode_flat(alloc, shape, j, size) {
-        Ok(encoded) => encoded,
-        Err(EncodeStop::TooLarge) => return Ok(LevelAnswer::TooLarge),
-        Err(EncodeStop::NoMemory) => return Err(NoMemory),
-    };
-    if !has_room(&encoded.formula) {
-        return Err(NoMemory);
+    match ended_at(alloc, shape, j, hole_free, turns, size)? {
+        Some(ended) => ended.into_answer(alloc),
+        None => Ok(LevelAnswer::TooLarge),
     }
-    let mut search = Search::open(alloc, encoded, turns)?;
-    match search.run(alloc, shape, hole_free)? {
-        Ending::Model { values } => {
-            let layers = layers_of(alloc, &search.universe, values.as_slice(), j)?;
-            Ok(LevelAnswer::Coronas { layers })
-        }
-        Ending::Refuted => {
-            let proof = search.into_proof(alloc)?;
-            Ok(LevelAnswer::Refuted { proof })
-        }
-        Ending::Spent => {
-            let proof = search.into_proof(alloc)?;
-            Ok(LevelAnswer::Spent { proof })
-        }
+}
+
+/// Searches for j hole-free coronas of the shape, as `level` does, and where there are none tells whether there are any
+/// with holes.
+///
+/// There are some exactly where the refutation has a cut: each cut was made against a model, whose layers are j coronas
+/// with a hole. Those of the first such model are answered, and it is the one that the search with holes allowed ends
+/// with; so behind `Refuted` or `Holed` that search need not be made at this level.
+///
+/// The condition and the cost are those of `level`, and behind a refutation with cuts one more look at each variable for
+/// each level.
+pub fn wall<G: Grid>(
+    alloc: Global,
+    shape: &Shape<G>,
+    j: u32,
+    turns: u32,
+    size: u32,
+) -> Result<WallAnswer, NoMemory>
+    requires level { (1 ≤ j) × (j ≤ 6) }
+    requires turns { (1 ≤ turns) × (turns ≤ 1000000) }
+    requires size { (1 ≤ size) × (size ≤ 60000000) }
+    requires canonical { IsCanonicalListOf G.geometry shape.now shape.now }
+    ensures answer { IfOk result (λ answer. IsLevelAnswer G.geometry shape.now j true turns size (level_answer answer)) }
+    ensures holes { IfOk result (ShowsHoles G.geometry shape.now j) }
+    ensures too_large { IfOk result (λ answer. IsTooLarge G.geometry shape.now j size → answer ≡ WallAnswer.TooLarge) }
+    ensures at_once { IfOk result (λ answer. answer ≢ WallAnswer.TooLarge → NamesEmptyClauses G.geometry shape.now j (level_answer answer)) }
+{
+    match ended_at(alloc, shape, j, true, turns, size)? {
+        Some(ended) => ended.into_wall(alloc),
+        None => Ok(WallAnswer::TooLarge),
     }
 }

@@ -1,10 +1,9 @@
 //! The layers of a model.
-ghost use Rattle.std.specs.Prelude.{◌≡◌, ◌≤◌, ℕ, IfOk, length};
+ghost use Rattle.std.specs.Prelude.{◌≤◌, IfOk, length};
 ghost use Rattle.std.specs.List.{AllZip};
 ghost use Rattle.heesch_cnf.specs.Clauses.{assignment_of};
 ghost use Rattle.heesch_grid.specs.Placement.{IsLeastIsometry};
 ghost use Rattle.heesch_grid.specs.Statements.{chosen_layer, chosen_layers};
-ghost use Rattle.heesch_place.specs.Universes.{IsUniverseOf};
 
 use heesch_cert::{Isos, Layers};
 use heesch_grid::Grid;
@@ -19,7 +18,7 @@ fn layer_of<G: Grid>(
     values: &[bool],
     level: u32,
 ) -> Result<Isos, NoMemory>
-    requires { length values.now ≡ length universe.now.vars }
+    requires { length universe.now.vars ≤ length values.now }
     ensures { IfOk result (λ layer. AllZip (λ by tile. IsLeastIsometry G.geometry universe.now.shape tile by) layer (chosen_layer (assignment_of values.now) universe.now.vars level)) }
 {
     let mut layer = Seq::new(alloc);
@@ -40,7 +39,7 @@ pub fn layers_of<G: Grid>(
     values: &[bool],
     level: u32,
 ) -> Result<Layers, NoMemory>
-    requires { length values.now ≡ length universe.now.vars }
+    requires { length universe.now.vars ≤ length values.now }
     ensures { IfOk result (λ layers. AllZip (λ layer placed. AllZip (λ by tile. IsLeastIsometry G.geometry universe.now.shape tile by) layer placed) layers.layers (chosen_layers (assignment_of values.now) universe.now.vars level)) }
 {
     let mut layers = Seq::new(alloc);

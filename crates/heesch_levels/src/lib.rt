@@ -2,11 +2,12 @@
 #![tactic(auto)]
 
 mod answer;
+mod ended;
 mod layers;
 mod searching;
 mod steps;
 
-pub use answer::{LevelAnswer, level};
+pub use answer::{LevelAnswer, WallAnswer, level, wall};
 
 #[cfg(test)]
 mod tests;

@@ -9,9 +9,10 @@ decreases-loop-ending g l = l.self.turns - length l.self.solver.log.lines
 
 abbrev pub invariant-loop-ending : goal.invariant-loop-ending
 invariant-loop-ending g l = record {
-  search : IsSearch g.G.Grid.geometry l.hole_free l.self.turns l.self.universe l.self.solver l.self.cuts.items;
+  search : IsSearch g.G.Grid.geometry l.self.hole_free l.self.turns l.self.universe l.self.solver l.self.cuts.items l.self.holed;
   universe : l.self.universe ≡ l.initial.self.universe;
   turns : l.self.turns ≡ l.initial.self.turns;
+  hole_free : l.self.hole_free ≡ l.initial.self.hole_free;
   same : SameProblem l.initial.self.solver l.self.solver;
   at_once : (n : ℕ) → IsFirstEmpty l.initial.self.solver.clauses n → l.self.solver.log.lines ≡ l.initial.self.solver.log.lines;
 }
