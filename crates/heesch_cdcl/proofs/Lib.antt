@@ -7,5 +7,6 @@ pub mod MarkLemmas
 pub mod Assembled
 pub mod Facts
 pub mod Resolving
+pub mod ReadSteps
 pub mod Learnt
 pub mod Counting

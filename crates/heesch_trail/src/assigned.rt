@@ -65,6 +65,13 @@ fn reason_of_number(number: u32) -> Option<u32>
     if number == 0 { None } else { Some(number) }
 }
 
+/// Whether the clause has just two literals.
+fn is_binary(clause: &[PackedLit]) -> bool
+    ensures { result ≡ true → length clause.now ≡ 2 }
+{
+    clause.len() == 2
+}
+
 /// The values of as many literals, which are open.
 fn opens(alloc: Global, count: usize) -> Result<Vec<Truth>, NoMemory>
     ensures { IfOk result (λ v. v.items ≡ replicate count Open) }
@@ -243,7 +250,7 @@ impl Assigned {
         })
     }
 
-    /// Which literals of a clause aren't false: none, the only one, or the first two.
+    /// Which literals of a clause aren't false: none, the only one, or the first two, and whether there are no others.
     fn read_clause(&self, clause: &[PackedLit]) -> Reading
         requires form { IsClause self.now.vars clause.now }
         ensures { IsReading (values_of self.now.steps) clause.now result }
@@ -253,7 +260,7 @@ impl Assigned {
             if !self.is_false(*lit) {
                 match left {
                     None => left = Some(*lit),
-                    Some(one) => return Reading::Two(Pair { one, other: *lit }),
+                    Some(one) => return Reading::Two(Pair { one, other: *lit }, is_binary(clause)),
                 }
             }
         }
@@ -281,7 +288,7 @@ impl Assigned {
         ensures { IsOther (values_of self.now.steps) clause.now lit result }
     {
         for other in clause {
-            if *other != lit && !self.is_false(*other) {
+            if !self.is_false(*other) && *other != lit {
                 return Some(*other);
             }
         }
@@ -298,14 +305,6 @@ impl Assigned {
     {
         let _ = self.formula.len();
         self.other_in(self.formula.clause(index), lit)
-    }
-
-    /// Whether the clause of an index, which counts from 0, has just two literals. The cost is one look-up.
-    pub fn is_binary(&self, index: usize) -> bool
-        requires { index < length self.now.clauses }
-        ensures { result ≡ true → length (slice_index_or self.now.clauses index []) ≡ 2 }
-    {
-        self.formula.clause(index).len() == 2
     }
 
     /// The opposite of the literal that was made true at a place, from 0. The cost is one look-up.

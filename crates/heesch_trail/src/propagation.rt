@@ -3,7 +3,7 @@ ghost use Rattle.heesch_cnf.specs.Literals.{lit_value};
 ghost use Rattle.heesch_cnf.specs.Clauses.{left_of};
 ghost use Rattle.heesch_trail.specs.Fixpoint.{HasTrue};
 ghost use Rattle.heesch_cnf.specs.Flat.{code_of};
-ghost use Rattle.heesch_trail.specs.Watches.{AreWhole, IsSound, index_of, list_of};
+ghost use Rattle.heesch_trail.specs.Watches.{AreWhole, IsSound, index_of, list_of, pair_of};
 ghost use Rattle.heesch_trail.specs.Seen.{AreSeen, GoesOn, IsEnd, IsVisit, IsVisitBy, AreVisitedBy, AreRead, StaySeen};
 ghost use Rattle.heesch_trail.specs.Readings.{IsOther};
 ghost use Rattle.heesch_trail.specs.State.{IsTrail, Continues, IsPropagated, values_of};
@@ -65,13 +65,15 @@ fn settle(assigned: &mut Assigned, index: u32, lit: PackedLit) -> Result<Visit, 
     Ok(Visit::HasTrue)
 }
 
-/// Reads the clause of an index: watches it by two literals that aren't false, or makes the assignment that follows from it.
+/// Reads the clause of an index, which this pair watched: watches it by two literals that aren't false, or makes the assignment that follows from it.
 /// The cost is at most the clause's length.
 fn read_watched(
     assigned: &mut Assigned,
     watches: &mut Watches,
     index: u32,
+    watched: &Option<Pair>,
 ) -> Result<Visit, NoMemory>
+    requires watched { watched.now ≡ pair_of watches.old.pairs index }
     requires within { index < length assigned.old.clauses }
     requires whole { AreWhole assigned.old.vars assigned.old.clauses watches.old }
     ensures goes_on { GoesOn assigned.old watches.old assigned.new watches.new }
@@ -83,27 +85,28 @@ fn read_watched(
             follow(assigned, index, lit)?;
             Ok(Visit::HasTrue)
         }
-        Reading::Two(pair) => {
-            let binary = assigned.is_binary(index as usize);
-            watches.watch(index, pair, binary)?;
+        Reading::Two(pair, binary) => {
+            watches.watch(index, watched, pair, binary)?;
             Ok(Visit::Watched)
         }
     }
 }
 
-/// Reads the clause of an index, and counts this.
+/// Reads the clause of an index, which this pair watched, and counts this.
 fn visit_clause(
     assigned: &mut Assigned,
     watches: &mut Watches,
     index: u32,
+    watched: &Option<Pair>,
 ) -> Result<Visit, NoMemory>
+    requires watched { watched.now ≡ pair_of watches.old.pairs index }
     requires within { index < length assigned.old.clauses }
     requires whole { AreWhole assigned.old.vars assigned.old.clauses watches.old }
     ensures goes_on { GoesOn assigned.old watches.old assigned.new watches.new }
     ensures found { IfOk result (IsVisit assigned.new watches.new index) }
 {
     watches.note_visit();
-    read_watched(assigned, watches, index)
+    read_watched(assigned, watches, index, watched)
 }
 
 /// Visits the clause of an index that may be watched by a false literal. It is read only where the literal watches it and the
@@ -204,14 +207,15 @@ fn visit_first(
     ensures found { IfOk result (IsVisit assigned.new watches.new index) }
 {
     let _ = assigned.vars();
-    if let Some(pair) = watches.pair(index as usize)
+    let watched = watches.pair(index as usize);
+    if let Some(pair) = &watched
         && !assigned.is_false(pair.one)
         && !assigned.is_false(pair.other)
     {
         watches.note_visit();
         return Ok(Visit::Watched);
     }
-    visit_clause(assigned, watches, index)
+    visit_clause(assigned, watches, index, &watched)
 }
 
 /// Visits the clauses from `fresh` on that aren't watched by literals that aren't false; `fresh` goes on past each that was

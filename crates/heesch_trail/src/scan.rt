@@ -1,10 +1,10 @@
 use crate::pair::Pair;
 use heesch_cnf::PackedLit;
 
-/// Which literals of a clause aren't false.
+/// Which literals of a clause aren't false; where there are two, also whether the clause has no others.
 #[derive(Debug, Clone, Copy)]
 pub enum Reading {
     Nothing,
     One(PackedLit),
-    Two(Pair),
+    Two(Pair, bool),
 }

@@ -42,11 +42,10 @@ impl Trail {
         ensures opened { IfOk result (λ t. t ≡ record { vars = formula.vars; clauses = formula.clauses; steps = [] }) }
         ensures valid { IfOk result IsTrail }
     {
-        let vars = formula.vars();
-        let count = formula.len();
+        let watches = Watches::open(alloc, &formula)?;
         Ok(Trail {
             assigned: Assigned::over(alloc, formula)?,
-            watches: Watches::open(alloc, vars, count)?,
+            watches,
             head: 0,
             fresh: 0,
             marks: Vec::new(alloc),

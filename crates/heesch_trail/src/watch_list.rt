@@ -1,4 +1,4 @@
-ghost use Rattle.std.specs.Prelude.{◌≡◌, ◌<◌, [], ◌∷◌, ◌++◌, length, OnOk, OnErr};
+ghost use Rattle.std.specs.Prelude.{◌≡◌, ◌<◌, [], ◌∷◌, ◌++◌, length, IfOk, OnOk, OnErr};
 ghost use Rattle.heesch_trail.specs.Watches.{IsWithout};
 
 use crate::entry::Entry;
@@ -22,13 +22,13 @@ impl Model for WatchList {
 }
 
 impl WatchList {
-    /// No entries. It takes no memory.
-    pub fn new(alloc: Global) -> WatchList
-        ensures { result ≡ [] }
+    /// No entries, with room for so many.
+    pub fn with_room(alloc: Global, room: usize) -> Result<WatchList, NoMemory>
+        ensures { IfOk result (λ list. list ≡ []) }
     {
-        WatchList {
-            entries: Vec::new(alloc),
-        }
+        Ok(WatchList {
+            entries: Vec::with_capacity(alloc, room)?,
+        })
     }
 
     /// The entries. It takes no memory.

@@ -5,7 +5,7 @@ ghost use Rattle.heesch_trail.specs.Watches.{Watching, list_of, pair_of, AreKept
 use crate::entry::Entry;
 use crate::pair::Pair;
 use crate::watch_list::WatchList;
-use heesch_cnf::{Lit, PackedLit};
+use heesch_cnf::{FlatFormula, Lit, PackedLit};
 use heesch_io::NoMemory;
 use std::alloc::Global;
 use std::marker::Model;
@@ -31,7 +31,7 @@ impl Model for Watches {
 fn nones<T: Drop>(alloc: Global, count: usize) -> Result<Vec<Option<T>>, NoMemory>
     ensures { IfOk result (λ v. v.items ≡ replicate count None) }
 {
-    let mut places = Vec::new(alloc);
+    let mut places = Vec::with_capacity(alloc, count)?;
     for _ in 0..count {
         if places.push(None).is_err() {
             return Err(NoMemory);
@@ -40,24 +40,52 @@ fn nones<T: Drop>(alloc: Global, count: usize) -> Result<Vec<Option<T>>, NoMemor
     Ok(places)
 }
 
-fn no_lists(alloc: Global, vars: u32) -> Result<Vec<WatchList>, NoMemory>
-    ensures { IfOk result (λ v. v.items ≡ replicate (2 * vars + 2) []) }
+/// One clause more has the literal.
+fn count_one(counts: &mut [u32], lit: PackedLit)
+    ensures { length counts.new ≡ length counts.old }
 {
-    let mut lists = Vec::new(alloc);
-    for _ in 0..2 * vars as usize + 2 {
-        lists.push(WatchList::new(alloc))?;
+    if let Some(count) = counts.get_mut(lit.code()) {
+        *count = count.wrapping_add(1);
+    }
+}
+
+/// By its code, how many clauses have a literal as their first or second one.
+fn counts(alloc: Global, formula: &FlatFormula) -> Result<Vec<u32>, NoMemory>
+    ensures { IfOk result (λ v. length v.items ≡ 2 * formula.now.vars + 2) }
+{
+    let mut counts = vec![in alloc; 0u32; 2 * formula.vars() as usize + 2]?;
+    for index in 0..formula.len() {
+        let clause = formula.clause(index);
+        for lit in &clause[..clause.len().min(2)] {
+            count_one(&mut counts, *lit);
+        }
+    }
+    Ok(counts)
+}
+
+/// The lists of all literals, without entries, each with room for the clauses that the literal watches at first, and for some
+/// that it watches later: a list that is just full doubles with the next entry.
+fn lists_for(alloc: Global, formula: &FlatFormula) -> Result<Vec<WatchList>, NoMemory>
+    ensures { IfOk result (λ v. v.items ≡ replicate (2 * formula.now.vars + 2) []) }
+{
+    let counts = counts(alloc, formula)?;
+    let mut lists = Vec::with_capacity(alloc, counts.len())?;
+    for code in 0..counts.len() {
+        let count = counts[code] as usize;
+        let list = WatchList::with_room(alloc, count + count / 8)?;
+        lists.push(list).map_err(|_| NoMemory)?;
     }
     Ok(lists)
 }
 
 impl Watches {
-    /// As many clauses, which aren't watched, over these variables. The cost is the number of both.
-    pub fn open(alloc: Global, vars: u32, count: usize) -> Result<Watches, NoMemory>
-        ensures { IfOk result (λ w. w ≡ record { pairs = replicate count None; lists = replicate (2 * vars + 2) [] }) }
+    /// The clauses of the formula, which aren't watched. The cost is the number of these and of the variables.
+    pub fn open(alloc: Global, formula: &FlatFormula) -> Result<Watches, NoMemory>
+        ensures { IfOk result (λ w. w ≡ record { pairs = replicate (length formula.now.clauses) None; lists = replicate (2 * formula.now.vars + 2) [] }) }
     {
         Ok(Watches {
-            pairs: nones(alloc, count)?,
-            lists: no_lists(alloc, vars)?,
+            pairs: nones(alloc, formula.len())?,
+            lists: lists_for(alloc, formula)?,
             visits: 0,
         })
     }
@@ -112,9 +140,17 @@ impl Watches {
         self.lists[lit.code()].push(entry)
     }
 
-    /// The literal's list names the clause of the index.
+    fn set_pair(&mut self, index: u32, pair: Pair)
+        requires { index < length self.old.pairs }
+        ensures { self.new ≡ record self.old { pairs = set self.old.pairs index (Some pair) } }
+    {
+        self.pairs[index as usize] = Some(pair);
+    }
+
+    /// The literal's list names the clause of the index, which this pair watched before.
     fn enlist(
         &mut self,
+        watched: &Option<Pair>,
         lit: PackedLit,
         index: u32,
         beside: PackedLit,
@@ -122,6 +158,7 @@ impl Watches {
     ) -> Result<(), NoMemory>
         requires fits { code_of lit < length self.old.lists }
         requires small { index < 2 ^ 31 }
+        requires watched { watched.now ≡ pair_of self.old.pairs index }
         requires listed { IsListed self.old index }
         ensures pairs { self.new.pairs ≡ self.old.pairs }
         ensures room { length self.new.lists ≡ length self.old.lists }
@@ -130,7 +167,7 @@ impl Watches {
         ensures there { IfOk result (λ _. Names (list_of self.new.lists lit) index) }
         ensures more { (e : Entry) → Contains (list_of self.new.lists lit) e → Contains (list_of self.old.lists lit) e ⊎ IsEntry index beside binary e }
     {
-        if let Some(pair) = self.pair(index as usize)
+        if let Some(pair) = watched
             && pair.beside(lit).is_some()
         {
             return Ok(());
@@ -138,9 +175,16 @@ impl Watches {
         self.push(lit, Entry::new(index, beside, binary))
     }
 
-    /// The pair watches the clause of an index from now on, which has no other literals where it is binary; at want of memory
-    /// it is watched as before. The cost is that of two writes, as an average over many calls.
-    pub fn watch(&mut self, index: u32, pair: Pair, binary: bool) -> Result<(), NoMemory>
+    /// The pair watches the clause of an index from now on, in place of the one before; the clause has no other literals where
+    /// it is binary. At want of memory it is watched as before. The cost is that of two writes, as an average over many calls.
+    pub fn watch(
+        &mut self,
+        index: u32,
+        watched: &Option<Pair>,
+        pair: Pair,
+        binary: bool,
+    ) -> Result<(), NoMemory>
+        requires watched { watched.now ≡ pair_of self.old.pairs index }
         requires place { index < length self.old.pairs }
         requires small { index < 2 ^ 31 }
         requires one { code_of pair.one < length self.old.lists }
@@ -155,9 +199,9 @@ impl Watches {
         ensures other_there { IfOk result (λ _. Names (list_of self.new.lists pair.other) index) }
         ensures more { AreMore pair index binary self.old.lists self.new.lists }
     {
-        self.enlist(pair.one, index, pair.other, binary)?;
-        self.enlist(pair.other, index, pair.one, binary)?;
-        self.pairs[index as usize] = Some(pair);
+        self.enlist(watched, pair.one, index, pair.other, binary)?;
+        self.enlist(watched, pair.other, index, pair.one, binary)?;
+        self.set_pair(index, pair);
         Ok(())
     }
 

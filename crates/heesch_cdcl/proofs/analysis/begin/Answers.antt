@@ -1,7 +1,8 @@
 use Rattle.std.proofs.Common.{false, true, ◌≡◌, sym, subst, ◌∙◌}
 use Rattle.heesch_cdcl.specs.Marking.{MarksClause, AreMarks}
 use Rattle.heesch_cdcl.proofs.MarkLemmas.{AreMarks-clear, AreListed-clear}
-use Rattle.heesch_cdcl.proofs.Resolving.{Begun-conflict, form_of}
+use Rattle.heesch_cdcl.proofs.Resolving.{Begun-conflict}
+use Rattle.heesch_cdcl.proofs.ReadSteps.{form_of}
 use Rattle.heesch_cdcl.proofs.analysis.begin.Goals as goal
 
 pub mark-requires-clause-form : goal.mark-requires-clause-form

@@ -1,7 +1,8 @@
 use Rattle.std.proofs.Common.{◌≡◌, false, true, [], ◌∷◌, ◌++◌, reverse, ap, sym, subst, ◌∙◌, arith, rules}
 use Rattle.heesch_trail.specs.State.{level_of}
 use Rattle.heesch_cdcl.specs.Marking.{MarksClause, AreMarks, marked}
-use Rattle.heesch_cdcl.proofs.Resolving.{Resolving-skip, Resolving-read, form_of, read_step, read_mark, read_here, reason_is, reason_says, has_reason, some_pending}
+use Rattle.heesch_cdcl.proofs.Resolving.{Resolving-skip, reason_says, has_reason}
+use Rattle.heesch_cdcl.proofs.ReadSteps.{Resolving-read, form_of, read_step, read_mark, read_here, reason_is, some_pending}
 use Rattle.heesch_cdcl.proofs.analysis.resolve_at.Goals as goal
 
 pub index-requires : goal.index-requires

@@ -2,7 +2,8 @@ use Rattle.std.proofs.Common.{◌≡◌, ◌+◌, false, true, [], ◌∷◌, �
 use Rattle.heesch_cdcl.specs.Marking.{MarksClause, AreMarks}
 use Rattle.heesch_cdcl.specs.Resolved.{IsDerived}
 use Rattle.heesch_cdcl.proofs.MarkLemmas.{marked-same}
-use Rattle.heesch_cdcl.proofs.Resolving.{Derived-same, Derived-skip, Derived-read, form_of, read_step, pending_stays, reason_is, reason_says}
+use Rattle.heesch_cdcl.proofs.Resolving.{Derived-same, Derived-skip, reason_says}
+use Rattle.heesch_cdcl.proofs.ReadSteps.{Derived-read, form_of, read_step, pending_stays, reason_is}
 use Rattle.heesch_cdcl.proofs.analysis.shorten_at.Goals as goal
 use Rattle.heesch_cdcl.proofs.analysis.shorten_at.Goals.{After-follows}
 

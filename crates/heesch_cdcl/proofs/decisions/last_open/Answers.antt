@@ -2,7 +2,7 @@ use Rattle.std.proofs.Common.{◌-◌, sym, ap, ◌∙◌, arith}
 use Rattle.heesch_cnf.specs.declared.literal.Lit.{Lit}
 use Rattle.heesch_trail.specs.State.{values_of}
 use Rattle.heesch_cdcl.proofs.Facts.{none_if}
-use Rattle.heesch_cdcl.proofs.Resolving.{form_of}
+use Rattle.heesch_cdcl.proofs.ReadSteps.{form_of}
 use Rattle.heesch_cdcl.proofs.decisions.last_open.Goals as goal
 
 pub value-requires : goal.value-requires

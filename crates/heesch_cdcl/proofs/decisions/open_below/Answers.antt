@@ -1,6 +1,6 @@
 use Rattle.std.proofs.Common.{◌≤◌, sym, subst}
 use Rattle.heesch_cnf.specs.declared.literal.Lit.{Lit}
-use Rattle.heesch_cdcl.proofs.Resolving.{form_of}
+use Rattle.heesch_cdcl.proofs.ReadSteps.{form_of}
 use Rattle.heesch_cdcl.proofs.decisions.open_below.Goals as goal
 
 pub value_of-requires : goal.value_of-requires

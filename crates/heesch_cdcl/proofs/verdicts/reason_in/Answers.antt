@@ -1,5 +1,5 @@
 use Rattle.std.proofs.Common.{◌∙◌, sym}
-use Rattle.heesch_cdcl.proofs.Resolving.{reason_number, form_of}
+use Rattle.heesch_cdcl.proofs.ReadSteps.{reason_number, form_of}
 use Rattle.heesch_cdcl.proofs.verdicts.reason_in.Goals as goal
 
 pub clause-requires : goal.clause-requires

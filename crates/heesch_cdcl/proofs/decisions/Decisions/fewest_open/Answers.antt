@@ -4,7 +4,7 @@ use Rattle.std.proofs.lemmas.List.Elements.{All-weaker, All-contains}
 use Rattle.std.specs.List.{Contains}
 use Rattle.heesch_cnf.specs.Lines.{IsNumber}
 use Rattle.heesch_trail.specs.declared.step.Step.{Step}
-use Rattle.heesch_cdcl.proofs.Resolving.{made-in_range}
+use Rattle.heesch_cdcl.proofs.ReadSteps.{made-in_range}
 use Rattle.heesch_cdcl.proofs.decisions.Decisions.fewest_open.Goals as goal
 
 pub fewest_in-best-requires-clause-numbers : goal.fewest_in-best-requires-clause-numbers

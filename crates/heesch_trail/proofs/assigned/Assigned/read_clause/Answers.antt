@@ -14,7 +14,9 @@ is_false-requires c =
 
 pub returns-in-Some : goal.returns-in-Some
 returns-in-Some c =
-    let values = values_of c.args.self.now.steps in
-    subst (λ (l : Lit). let pair : Pair = record { one = c.in-Some.one; other = l } in AreLeft values c.args.clause.now pair) (sym c.lit-item.is)
-    (Left-two c.args.self.now.vars values c.args.clause.now c.loop-lit.lit-index c.lit-item.result c.in-Some.one c.requires.form c.loop-lit-test.true
-    (c.loop-lit.invariant ∙ ap option_to_list c.in-Some.is) (subst (λ (l : Lit). is_false_value (lit_value values l) ≡ false) c.lit-item.is (sym c.is_false.ensures ∙ c.if-not-is_false.true)))
+    let values = values_of c.args.self.now.steps in (
+      subst (λ (l : Lit). let pair : Pair = record { one = c.in-Some.one; other = l } in AreLeft values c.args.clause.now pair) (sym c.lit-item.is)
+          (Left-two c.args.self.now.vars values c.args.clause.now c.loop-lit.lit-index c.lit-item.result c.in-Some.one c.requires.form c.loop-lit-test.true
+          (c.loop-lit.invariant ∙ ap option_to_list c.in-Some.is) (subst (λ (l : Lit). is_false_value (lit_value values l) ≡ false) c.lit-item.is (sym c.is_false.ensures ∙ c.if-not-is_false.true))),
+      c.is_binary.ensures,
+    )

@@ -15,14 +15,14 @@ returns-in_err-enlist-2-clause-more c =
 
 pub returns-clause-kept : goal.returns-clause-kept
 returns-clause-kept c place e has =
-    subst (λ (w : Watching). Contains (get_or w.lists place []) e) (sym c.self.view_is) (c.enlist-2.ensures.kept place e (c.enlist.ensures.kept place e has))
+    subst (λ (w : Watching). Contains (get_or w.lists place []) e) (sym c.set_pair.ensures) (c.enlist-2.ensures.kept place e (c.enlist.ensures.kept place e has))
 
 pub returns-clause-one_there : goal.returns-clause-one_there
 returns-clause-one_there c =
-    subst (λ (w : Watching). Names (list_of w.lists c.args.pair.one) c.args.index) (sym c.self.view_is)
+    subst (λ (w : Watching). Names (list_of w.lists c.args.pair.one) c.args.index) (sym c.set_pair.ensures)
     (Names-kept c.enlist.new.self.lists c.enlist-2.new.self.lists c.args.pair.one c.args.index c.enlist-2.ensures.kept c.in_ok-enlist.ensures.there)
 
 pub returns-clause-more : goal.returns-clause-more
 returns-clause-more c =
-    subst (λ (w : Watching). AreMore c.args.pair c.args.index c.args.binary c.args.self.now.lists w.lists) (sym c.self.view_is)
+    subst (λ (w : Watching). AreMore c.args.pair c.args.index c.args.binary c.args.self.now.lists w.lists) (sym c.set_pair.ensures)
     (More-both c.args.pair c.args.index c.args.binary c.args.self.now.lists c.enlist.new.self.lists c.enlist-2.new.self.lists c.enlist.ensures.others c.enlist.ensures.more c.enlist-2.ensures.others c.enlist-2.ensures.more)
