@@ -1,14 +1,15 @@
 mod Digits
 mod FieldLaws
-pub mod FirstWords
 mod LineAnswers
-pub mod LinesAgain
 mod LinesRead
-pub mod ListLaws
 mod Literals
-pub mod Newlines
 mod Numbers
-pub mod OneList
+mod Scans
 mod Steps
 mod WordLaws
 mod WordLoop
+pub mod FirstWords
+pub mod LinesAgain
+pub mod ListLaws
+pub mod Newlines
+pub mod OneList

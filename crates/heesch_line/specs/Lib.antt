@@ -2,3 +2,4 @@ pub mod Forms
 pub mod LineReading
 pub mod Lists
 pub mod Reading
+pub mod Scanning

@@ -6,6 +6,7 @@ mod fields;
 pub mod laws;
 mod line_reading;
 mod list;
+mod list_line;
 mod names;
 #[cfg(test)]
 mod tests;
@@ -14,3 +15,4 @@ mod words;
 pub use fault::LineFault;
 pub use line_reading::read_line;
 pub use list::{ListLines, ListStop, read_lines, read_list};
+pub use list_line::ListLine;

@@ -1,4 +1,4 @@
-use crate::{LineFault, ListStop, read_line, read_list};
+use crate::{LineFault, ListLine, ListStop, read_line, read_list};
 use std::alloc::Global;
 use std::test::Fail;
 
@@ -140,5 +140,45 @@ fn the_10001st_line_is_one_too_many(rt: HostRuntime) -> Result<(), Fail> {
     text.push(b'x')?;
     let stop = read_list(rt.alloc(), &text).err();
     assert_eq!(rt; stop, Some(ListStop::TooManyShapes { line: 10_001 }));
+    Ok(())
+}
+
+/// The number of cells that are kept of a line, which is taken byte by byte.
+fn kept(alloc: Global, text: &[u8]) -> Result<usize, LineFault> {
+    let mut line = ListLine::new(alloc);
+    for byte in text {
+        line.take(*byte)?;
+    }
+    let cells = line.finish()?;
+    Ok(cells.len())
+}
+
+#[test]
+fn a_line_is_taken_byte_by_byte(rt: HostRuntime) -> Result<(), Fail> {
+    let alloc = rt.alloc();
+    for (text, expected) in [("", 0), ("0,0", 1), ("-100000,-100000 5,6", 2)] {
+        assert_eq!(rt; kept(alloc, text.as_bytes()), Ok(expected), "at {text}");
+    }
+    for text in [
+        " ",
+        "0,0 ",
+        " 0,0",
+        "0,0  1,0",
+        "0,-0",
+        "0,0x",
+        "x",
+        "0,0000000000000000000000",
+    ] {
+        let found = kept(alloc, text.as_bytes());
+        assert_eq!(rt; found, Err(LineFault::NotALine), "at {text}");
+    }
+    let mut long = Vec::new(alloc);
+    for _ in 0..1000 {
+        long.extend_from_slice(b"7,7 ")?;
+    }
+    long.extend_from_slice(b"7,7")?;
+    assert_eq!(rt; kept(alloc, &long), Ok(33));
+    long.push(b',')?;
+    assert_eq!(rt; kept(alloc, &long), Err(LineFault::NotALine));
     Ok(())
 }
