@@ -2,28 +2,29 @@
 use Rattle.std.proofs.Common.{◌≤◌, ℕ, List, arith}
 use Rattle.heesch_cert.specs.declared.header.Subject.TheVariants.{Size, Given}
 use Rattle.heesch_grid.specs.declared.GridName.{GridName}
-use Rattle.heesch_grid.specs.declared.GridName.TheVariants.{Square, Hex, Iamond}
 use Rattle.heesch_words.specs.declared.requests.Request.{Request}
 use Rattle.heesch_words.specs.declared.requests.Request.TheVariants.{List as ListRequest, Plain as PlainRequest, Classify as ClassifyRequest, Check as CheckRequest, Table as TableRequest, Sample as SampleRequest}
-use Rattle.heesch_words.specs.Requests.{Asks, most_cells}
+use Rattle.heesch_cnf.specs.declared.version.Version.{Version}
+use Rattle.heesch_cnf.specs.declared.version.Version.TheVariants.{Two}
+use Rattle.heesch_cert.specs.Sizes.{most_cells}
+use Rattle.heesch_words.specs.Requests.{Asks}
+use Rattle.heesch_line.proofs.FieldLaws.{few_cells}
 use Rattle.heesch_words.proofs.Ranges.{asked_in_range as words_in_range}
 use Rattle.heesch_app.specs.Ranges.{IsInRange}
 
-few_cells : (grid : GridName) (n : ℕ) → n ≤ most_cells grid → n ≤ 31
-few_cells Square n h = omega arith
-few_cells Hex n h = omega arith
-few_cells Iamond n h = omega arith
+at_most_31 : (version : Version) (grid : GridName) (n : ℕ) → n ≤ most_cells version grid → n ≤ 31
+at_most_31 version grid n h = let few = few_cells version grid in omega (arith, few, h)
 
 pub asked_in_range : (words : List (List ℕ)) (request : Request) → Asks words request → IsInRange request
 asked_in_range words (ListRequest grid n workers) asks =
     let (size, some, few) = words_in_range words (ListRequest grid n workers) asks in
-    (size.0, few_cells grid n size.1, some, few)
+    (size.0, at_most_31 Two grid n size.1, some, few)
 asked_in_range words (PlainRequest grid n workers) asks =
     let (size, some, few) = words_in_range words (PlainRequest grid n workers) asks in
-    (size.0, few_cells grid n size.1, some, few)
+    (size.0, at_most_31 Two grid n size.1, some, few)
 asked_in_range words (ClassifyRequest grid (Size n) limits workers brief) asks =
     let (size, limits_are, some, few) = words_in_range words (ClassifyRequest grid (Size n) limits workers brief) asks in
-    ((size.0, few_cells grid n size.1), limits_are, some, few)
+    ((size.0, at_most_31 limits.version grid n size.1), limits_are, some, few)
 asked_in_range words (ClassifyRequest grid Given limits workers brief) asks =
     let (_, limits_are, some, few) = words_in_range words (ClassifyRequest grid Given limits workers brief) asks in
     (tt, limits_are, some, few)

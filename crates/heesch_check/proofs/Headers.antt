@@ -11,13 +11,16 @@ use Rattle.heesch_cert.specs.declared.header.Subject.{Subject}
 use Rattle.heesch_cert.specs.declared.header.Subject.TheVariants.{Size, Given}
 use Rattle.heesch_cert.specs.declared.limits.Limits.{Limits}
 use Rattle.heesch_cert.specs.Limits.{AreLimits}
-use Rattle.heesch_words.specs.Requests.{most_cells}
+use Rattle.heesch_cnf.specs.declared.version.Version.{Version}
+use Rattle.heesch_cnf.specs.declared.version.Version.TheVariants.{One, Two}
+use Rattle.heesch_cert.specs.Sizes.{IsSubject}
+use Rattle.heesch_line.proofs.FieldLaws.{few_cells}
 use Rattle.heesch_text.specs.declared.line.Line.{Line}
 use Rattle.heesch_text.specs.declared.line.Line.TheVariants as lines
-use Rattle.heesch_text.specs.Names.{subject_text}
+use Rattle.heesch_text.specs.Names.{version_text, subject_text}
 use Rattle.heesch_text.specs.Lines.{limits_text, words_of, text_of}
 use Rattle.heesch_text.specs.Catalogue.{header_text}
-use Rattle.heesch_line.specs.Forms.{IsSubject, IsLine, HasNoNewline}
+use Rattle.heesch_line.specs.Forms.{IsLine, HasNoNewline}
 use Rattle.heesch_line.proofs.LinesAgain.{words_tell}
 use Rattle.heesch_line.proofs.Newlines.{no_newline}
 use Rattle.heesch_reader.specs.declared.item.Item.{Item}
@@ -84,14 +87,13 @@ grid_length Square = omega arith
 grid_length Hex = omega arith
 grid_length Iamond = omega arith
 
-few_cells : (grid : GridName) → most_cells grid ≤ 15
-few_cells Square = omega arith
-few_cells Hex = omega arith
-few_cells Iamond = omega arith
+version_length : (version : Version) → length (version_text version) ≤ 3
+version_length One = omega arith
+version_length Two = omega arith
 
-subject_length : (grid : GridName) (subject : Subject) → IsSubject grid subject → length (subject_text subject) ≤ 10
-subject_length grid (Size n) is = let low = few_cells grid in let high = is.1 in length-decimal-le 10 n (omega arith) (omega (arith, low, high)) (omega (arith, low, high))
-subject_length grid Given is = omega arith
+subject_length : (version : Version) (grid : GridName) (subject : Subject) → IsSubject version grid subject → length (subject_text subject) ≤ 10
+subject_length version grid (Size n) is = let low = few_cells version grid in let high = is.1 in length-decimal-le 10 n (omega arith) (omega (arith, low, high)) (omega (arith, low, high))
+subject_length version grid Given is = omega arith
 
 limits_length : (l : Limits) → AreLimits l → length (limits_text l) ≤ 80
 limits_length l are =
@@ -109,9 +111,9 @@ pub header_length : (h : Header) → IsLine (lines.Header h) → length (words_o
 header_length h form =
     let a = brief_length h.brief in
     let b = grid_length h.grid in
-    let c = subject_length h.grid h.subject form.0 in
+    let c = subject_length h.limits.version h.grid h.subject form.0 in
     let d = limits_length h.limits form.1 in
-    joined (if h.brief then codes "brief" else codes "heesch") (codes " 1 ") (grid_word h.grid) (codes " ") (subject_text h.subject) (limits_text h.limits) a (omega arith) b (omega arith) c d
+    joined (if h.brief then codes "brief" else codes "heesch") (version_text h.limits.version) (grid_word h.grid) (codes " ") (subject_text h.subject) (limits_text h.limits) a (version_length h.limits.version) b (omega arith) c d
   where
     joined : (a b c d e f : List ℕ) → length a ≤ 6 → length b ≤ 3 → length c ≤ 6 → length d ≤ 1 → length e ≤ 10 → length f ≤ 80 → length ((a ++ b ++ c ++ d ++ e) ++ f) ≤ 200
     joined a b c d e f p q r s t u = simp length-append (omega arith)

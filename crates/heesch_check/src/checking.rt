@@ -4,7 +4,7 @@ ghost use Rattle.heesch_cert.specs.declared.header.Header.{Header as CatalogueHe
 ghost use Rattle.heesch_cert.specs.Limits.{AreLimits};
 ghost use Rattle.heesch_grid.specs.Names.{geometry_of};
 ghost use Rattle.heesch_io.specs.Causes.{Rose};
-ghost use Rattle.heesch_line.specs.Forms.{IsSubject};
+ghost use Rattle.heesch_cert.specs.Sizes.{IsSubject};
 ghost use Rattle.heesch_stream.specs.Input.{IsAllOf};
 ghost use Rattle.heesch_check.specs.Answers.{IsChecked};
 ghost use Rattle.heesch_check.specs.Judging.{HasShapes};
@@ -154,7 +154,7 @@ fn judge_of<G: Grid + Send + Sync, T: Threads + Sync, H: Gate + Sync>(
     gate: &H,
 ) -> Result<Judge<G>, NoMemory>
     requires grid { geometry_of header.grid ≡ G.geometry }
-    requires subject { IsSubject header.grid header.subject }
+    requires subject { IsSubject header.limits.version header.grid header.subject }
     requires workers { (1 ≤ workers) × (workers ≤ 64) }
     ensures header { IfOk result (λ judge. judge.header ≡ header) }
     ensures shapes { IfOk result (λ judge. HasShapes header header.subject judge.shapes) }
