@@ -28,7 +28,7 @@ fn single_triangles_have_the_entries_worked_by_hand(rt: HostRuntime) -> Result<(
             "verdict tiles halfturn domain 2 classes 1\nlattice 1 1 0\ntile 0 0 0 class 1 by 0 0 0\ntile 3 0 0 class 1 by 1 0 -1\nend 1\n",
         ),
         (
-            "--domain 1 --levels 1",
+            "--domain 1 --levels 1 --version 1",
             "turns 20000 levels 1 domain 1 size 60000000",
             "verdict undecided levels 1\n",
         ),
@@ -45,7 +45,8 @@ fn single_triangles_have_the_entries_worked_by_hand(rt: HostRuntime) -> Result<(
     ] {
         let line = format!(in alloc; "classify iamond 1 {options}")?;
         let rest = if lines.contains("end") { "" } else { corona };
-        let text = format!(in alloc; "heesch 1 iamond 1 {limits}\nshape 1,1\n{lines}{rest}")?;
+        let version = if options.ends_with("version 1") { 1 } else { 2 };
+        let text = format!(in alloc; "heesch {version} iamond 1 {limits}\nshape 1,1\n{lines}{rest}")?;
         let held = written(&rt, alloc, &line)?;
         assert_eq!(rt; held.as_slice(), text.as_bytes(), "{line}");
     }
@@ -53,7 +54,7 @@ fn single_triangles_have_the_entries_worked_by_hand(rt: HostRuntime) -> Result<(
 }
 
 pub(crate) const FIVE_TETROMINOES: &str =
-    "brief 1 square 4 turns 20000 levels 3 domain 4 size 60000000
+    "brief 2 square 4 turns 20000 levels 3 domain 4 size 60000000
 shape 0,0 1,0 2,0 3,0
 verdict tiles translation domain 1 classes 1
 shape 0,0 1,0 2,0 0,1

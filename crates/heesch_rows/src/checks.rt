@@ -23,7 +23,7 @@ layer 0,0,-1 0,1,-1 1,0,-1 1,1,-1 1,2,-1 0,-1,0 0,1,0 1,0,0 1,1,0 0,-1,1 0,0,1 1
 end 1
 ";
 
-const HOLED: &str = "heesch 1 square given turns 20000 levels 3 domain 4 size 60000000
+const HOLED: &str = "heesch 2 square given turns 20000 levels 3 domain 4 size 60000000
 shape 0,0 1,0 2,0 0,1 2,1 0,2 1,2
 verdict heesch 0 nontiler 1
 coronas 0

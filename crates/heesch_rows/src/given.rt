@@ -35,7 +35,7 @@ fn given_shapes_are_classified_in_their_order(rt: HostRuntime) -> Result<(), Fai
             bytes_of(alloc, input)?,
             room(alloc, 1_000)?,
         )?;
-        let text = format!(in alloc; "heesch 1 {grid} given {HEADER}\n{entries}")?;
+        let text = format!(in alloc; "heesch 2 {grid} given {HEADER}\n{entries}")?;
         assert_eq!(rt; status, Status::Done, "{input}");
         assert_eq!(rt; sink.held.as_slice(), text.as_bytes(), "{input}");
     }
