@@ -1,4 +1,5 @@
 mod Beginnings
+mod GivenInputs
 mod GivenLists
 mod GivenOnce
 mod Headline

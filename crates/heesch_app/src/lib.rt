@@ -12,6 +12,8 @@ mod reading;
 mod reply;
 mod status;
 mod tables;
+#[cfg(test)]
+mod tests;
 mod tilings;
 
 pub use program::run;
