@@ -10,7 +10,8 @@ use Rattle.std.proofs.lemmas.Str.{IsUtf8-from_ascii}
 use Rattle.std.proofs.lemmas.Str.Parse.{IsNumeralModel, numerals_by_value, tells_by_index, parse_plain}
 use Rattle.std.proofs.lemmas.Fmt.{decimal_digit, decimal-digits_value, digits_decimal, decimal_nonempty, first_decimal, decimal_injective, IsAscii-decimal, parse-decimal}
 use Rattle.heesch_cnf.specs.declared.literal.Lit.{Lit}
-use Rattle.heesch_dimacs.specs.Words.{lit_text, IsLiteral, HasNo}
+use Rattle.heesch_text.specs.Fields.{lit_text}
+use Rattle.heesch_dimacs.specs.Words.{IsLiteral, HasNo}
 use Rattle.heesch_dimacs.specs.Lines.{begins_number}
 use Rattle.heesch_dimacs.proofs.Bytes.{digits_have_no}
 

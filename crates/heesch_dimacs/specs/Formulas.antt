@@ -4,7 +4,7 @@ use Rattle.std.specs.List.{flat_map}
 use Rattle.heesch_cnf.specs.declared.literal.Lit.{Lit}
 use Rattle.heesch_cnf.specs.Clauses.{IsSatisfied, Satisfies}
 use Rattle.heesch_cnf.specs.Lines.{numbered, IsNumber}
-use Rattle.heesch_dimacs.specs.Words.{lit_text}
+use Rattle.heesch_text.specs.Fields.{lit_text}
 
 -- a literal, and a space after it
 abbrev pub lit_word : Lit → List ℕ

@@ -3,7 +3,7 @@ use Rattle.std.specs.Prelude.{◌≡◌, ℕ, ◌≤◌, ◌==◌, Bool, true, f
 use Rattle.std.specs.List.{flat_map, AllByRecursion}
 use Rattle.heesch_cnf.specs.declared.literal.Lit.{Lit}
 use Rattle.heesch_cnf.specs.Clauses.{assignment_of}
-use Rattle.heesch_dimacs.specs.Words.{spaced, lit_text}
+use Rattle.heesch_text.specs.Fields.{spaced, lit_text}
 use Rattle.heesch_dimacs.specs.Words.{IsLiteral, HasNoNewline}
 
 -- nothing, or a space first
