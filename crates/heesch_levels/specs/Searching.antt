@@ -4,6 +4,7 @@ use Rattle.heesch_grid.specs.declared.Cell.{Cell}
 use Rattle.heesch_grid.specs.Clauses.{formula_size}
 use Rattle.heesch_grid.specs.Geometry.{Geometry}
 use Rattle.heesch_grid.specs.Polyform.{IsPolyform}
+use Rattle.heesch_cnf.specs.declared.version.Version.{Version}
 use Rattle.heesch_cnf.specs.Lines.{clauses_with, Refutes, IsSpent}
 use Rattle.heesch_cnf.specs.Meaning.{given_clauses}
 use Rattle.heesch_cdcl.specs.Problem.{Problem, IsSolver, IsModel}
@@ -50,13 +51,13 @@ pub record IsEnded (g : Geometry) (hole_free : Bool) (turns : ℕ) (u : Levels) 
   pub ends : IsEnding g hole_free u p ending
   pub at_once : IsAtOnce p ending
 
--- the universe, the problem, the turns and whether holes are forbidden are those of a search at this level, over E(S, j) of at most `size` literals
-pub record IsUnder (g : Geometry) (shape : List Cell) (j : ℕ) (hole_free : Bool) (turns size : ℕ) (u : Levels) (p : Problem) (is_free : Bool) (most : ℕ) : Type 0 where
+-- the universe, the problem, the turns and whether holes are forbidden are those of a search at this level, over E(S, j) of the version, of at most `size` literals
+pub record IsUnder (version : Version) (g : Geometry) (shape : List Cell) (j : ℕ) (hole_free : Bool) (turns size : ℕ) (u : Levels) (p : Problem) (is_free : Bool) (most : ℕ) : Type 0 where
   pub shape_is : u.shape ≡ shape
   pub level_is : u.level ≡ j
   pub free_is : is_free ≡ hole_free
   pub turns_are : most ≡ turns
-  pub formula : IsCountedFormula g u.shape u.level u.vars p.vars p.clauses
+  pub formula : IsCountedFormula version g u.shape u.level u.vars p.vars p.clauses
   pub fits : formula_size p.clauses ≤ size
 
 -- the search goes on only where no clause of the formula is empty

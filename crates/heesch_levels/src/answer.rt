@@ -7,6 +7,7 @@ ghost use Rattle.heesch_levels.specs.Wall.{ShowsHoles, level_answer};
 
 use crate::ended::ended_at;
 use heesch_cert::{Layers, Proof};
+use heesch_cnf::Version;
 use heesch_grid::Grid;
 use heesch_io::NoMemory;
 use heesch_shape::Shape;
@@ -40,7 +41,8 @@ pub enum WallAnswer {
     TooLarge,
 }
 
-/// Searches for j coronas of the shape, hole-free ones where `hole_free`, by a solver on the corona formula of level j.
+/// Searches for j coronas of the shape, hole-free ones where `hole_free`, by a solver on the corona formula of level j in
+/// this version.
 ///
 /// `TooLarge` comes exactly where the formula has more than `size` literals. `Refuted` comes only where there are no such
 /// coronas, and at once, without a step, where a clause of the formula is empty. `Spent` comes only where the proof has
@@ -59,16 +61,17 @@ pub fn level<G: Grid>(
     hole_free: bool,
     turns: u32,
     size: u32,
+    version: Version,
 ) -> Result<LevelAnswer, NoMemory>
     requires level { (1 ≤ j) × (j ≤ 6) }
     requires turns { (1 ≤ turns) × (turns ≤ 1000000) }
     requires size { (1 ≤ size) × (size ≤ 60000000) }
     requires canonical { IsCanonicalListOf G.geometry shape.now shape.now }
-    ensures answer { IfOk result (IsLevelAnswer G.geometry shape.now j hole_free turns size) }
-    ensures too_large { IfOk result (λ answer. IsTooLarge G.geometry shape.now j size → answer ≡ LevelAnswer.TooLarge) }
-    ensures at_once { IfOk result (λ answer. answer ≢ LevelAnswer.TooLarge → NamesEmptyClauses G.geometry shape.now j answer) }
+    ensures answer { IfOk result (IsLevelAnswer version G.geometry shape.now j hole_free turns size) }
+    ensures too_large { IfOk result (λ answer. IsTooLarge version G.geometry shape.now j size → answer ≡ LevelAnswer.TooLarge) }
+    ensures at_once { IfOk result (λ answer. answer ≢ LevelAnswer.TooLarge → NamesEmptyClauses version G.geometry shape.now j answer) }
 {
-    match ended_at(alloc, shape, j, hole_free, turns, size)? {
+    match ended_at(alloc, shape, j, hole_free, turns, size, version)? {
         Some(ended) => ended.into_answer(alloc),
         None => Ok(LevelAnswer::TooLarge),
     }
@@ -89,17 +92,18 @@ pub fn wall<G: Grid>(
     j: u32,
     turns: u32,
     size: u32,
+    version: Version,
 ) -> Result<WallAnswer, NoMemory>
     requires level { (1 ≤ j) × (j ≤ 6) }
     requires turns { (1 ≤ turns) × (turns ≤ 1000000) }
     requires size { (1 ≤ size) × (size ≤ 60000000) }
     requires canonical { IsCanonicalListOf G.geometry shape.now shape.now }
-    ensures answer { IfOk result (λ answer. IsLevelAnswer G.geometry shape.now j true turns size (level_answer answer)) }
+    ensures answer { IfOk result (λ answer. IsLevelAnswer version G.geometry shape.now j true turns size (level_answer answer)) }
     ensures holes { IfOk result (ShowsHoles G.geometry shape.now j) }
-    ensures too_large { IfOk result (λ answer. IsTooLarge G.geometry shape.now j size → answer ≡ WallAnswer.TooLarge) }
-    ensures at_once { IfOk result (λ answer. answer ≢ WallAnswer.TooLarge → NamesEmptyClauses G.geometry shape.now j (level_answer answer)) }
+    ensures too_large { IfOk result (λ answer. IsTooLarge version G.geometry shape.now j size → answer ≡ WallAnswer.TooLarge) }
+    ensures at_once { IfOk result (λ answer. answer ≢ WallAnswer.TooLarge → NamesEmptyClauses version G.geometry shape.now j (level_answer answer)) }
 {
-    match ended_at(alloc, shape, j, true, turns, size)? {
+    match ended_at(alloc, shape, j, true, turns, size, version)? {
         Some(ended) => ended.into_wall(alloc),
         None => Ok(WallAnswer::TooLarge),
     }

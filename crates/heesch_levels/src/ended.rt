@@ -3,6 +3,7 @@ ghost use Rattle.std.specs.Prelude.{◌≡◌, ◌≤◌, ◌<◌, ◌^◌, ℕ,
 ghost use Rattle.heesch_grid.specs.declared.Cell.{Cell};
 ghost use Rattle.heesch_grid.specs.Geometry.{Geometry};
 ghost use Rattle.heesch_grid.specs.Polyform.{IsCanonicalListOf, IsPolyform};
+ghost use Rattle.heesch_cnf.specs.declared.version.Version.{Version as Numbered};
 ghost use Rattle.heesch_cdcl.specs.Problem.{IsModel};
 ghost use Rattle.heesch_cert.specs.Formulas.{IsCountedFormula};
 ghost use Rattle.heesch_cert.specs.Proofs.{IsTooLarge};
@@ -15,7 +16,7 @@ use crate::answer::{LevelAnswer, WallAnswer};
 use crate::layers::layers_of;
 use crate::searching::{Ending, Search};
 use heesch_cert::Layers;
-use heesch_cnf::FlatFormula;
+use heesch_cnf::{FlatFormula, Version};
 use heesch_encode::{EncodeStop, encode_flat};
 use heesch_grid::Grid;
 use heesch_io::NoMemory;
@@ -48,18 +49,19 @@ pub fn ended_at<G: Grid>(
     hole_free: bool,
     turns: u32,
     size: u32,
+    version: Version,
 ) -> Result<Option<Ended<G>>, NoMemory>
     requires level { (1 ≤ j) × (j ≤ 6) }
     requires turns { (1 ≤ turns) × (turns ≤ 1000000) }
     requires size { (1 ≤ size) × (size ≤ 60000000) }
     requires canonical { IsCanonicalListOf G.geometry shape.now shape.now }
     ensures ended { IfOk result (λ e. IfSome e (λ e. IsEnded G.geometry e.search.hole_free e.search.turns e.search.universe e.search.solver e.search.cuts.items e.search.holed e.ending)) }
-    ensures under { IfOk result (λ e. IfSome e (λ e. IsUnder G.geometry shape.now j hole_free turns size e.search.universe e.search.solver e.search.hole_free e.search.turns)) }
-    ensures too_large { IfOk result (λ e. IfNone e (IsTooLarge G.geometry shape.now j size)) }
+    ensures under { IfOk result (λ e. IfSome e (λ e. IsUnder version G.geometry shape.now j hole_free turns size e.search.universe e.search.solver e.search.hole_free e.search.turns)) }
+    ensures too_large { IfOk result (λ e. IfNone e (IsTooLarge version G.geometry shape.now j size)) }
 {
     // Reading the cells tells the proof that they are a polyform.
     let _cells = shape.cells();
-    let encoded = match encode_flat(alloc, shape, j, size) {
+    let encoded = match encode_flat(alloc, shape, j, size, version) {
         Ok(encoded) => encoded,
         Err(EncodeStop::TooLarge) => return Ok(None),
         Err(EncodeStop::NoMemory) => return Err(NoMemory),
@@ -75,8 +77,8 @@ pub fn ended_at<G: Grid>(
 /// The answer of the search with holes forbidden, with coronas that have a hole, if they are known.
 fn wall_of(answer: LevelAnswer, holed: Option<Layers>) -> WallAnswer
     ensures same { level_answer result ≡ answer }
-    ensures holes { (g : Geometry) (shape : List Cell) (j turns size : ℕ)
-        → IsLevelAnswer g shape j true turns size answer
+    ensures holes { (version : Numbered) (g : Geometry) (shape : List Cell) (j turns size : ℕ)
+        → IsLevelAnswer version g shape j true turns size answer
         → MatchOption holed (RefutesWithoutCut answer) (SpellsCoronas g shape j false)
         → ShowsHoles g shape j result }
 {
@@ -98,7 +100,7 @@ impl<G: Grid> Search<G> {
         requires some { 1 ≤ self.now.universe.level }
         requires search { IsSearch G.geometry self.now.hole_free self.now.turns self.now.universe self.now.solver self.now.cuts.items self.now.holed }
         requires model { IsModel self.now.solver.vars self.now.solver.clauses values.now }
-        ensures { (hole_free : Bool) → IsCountedFormula G.geometry self.now.universe.shape self.now.universe.level self.now.universe.vars self.now.solver.vars self.now.solver.clauses
+        ensures { (version : Numbered) (hole_free : Bool) → IsCountedFormula version G.geometry self.now.universe.shape self.now.universe.level self.now.universe.vars self.now.solver.vars self.now.solver.clauses
             → (IsTrue hole_free → IsOpen G.geometry self.now.universe values.now)
             → IfOk result (SpellsCoronas G.geometry self.now.universe.shape self.now.universe.level hole_free) }
     {
@@ -110,7 +112,7 @@ impl<G: Grid> Ended<G> {
     /// Where a refutation has a cut, the layers of the model that the first one was made against.
     fn holed_layers(&self, alloc: Global) -> Result<Option<Layers>, NoMemory>
         requires { IsEnded G.geometry self.now.search.hole_free self.now.search.turns self.now.search.universe self.now.search.solver self.now.search.cuts.items self.now.search.holed self.now.ending }
-        ensures { IsCountedFormula G.geometry self.now.search.universe.shape self.now.search.universe.level self.now.search.universe.vars self.now.search.solver.vars self.now.search.solver.clauses
+        ensures { (version : Numbered) → IsCountedFormula version G.geometry self.now.search.universe.shape self.now.search.universe.level self.now.search.universe.vars self.now.search.solver.vars self.now.search.solver.clauses
             → IfOk result (λ holed. MatchOption holed (self.now.ending ≡ Ending.Refuted → self.now.search.cuts.items ≡ []) (SpellsCoronas G.geometry self.now.search.universe.shape self.now.search.universe.level false)) }
     {
         match (&self.ending, &self.search.holed) {
@@ -125,9 +127,9 @@ impl<G: Grid> Ended<G> {
     /// What the end says of the level.
     pub fn into_answer(self, alloc: Global) -> Result<LevelAnswer, NoMemory>
         requires { IsEnded G.geometry self.search.hole_free self.search.turns self.search.universe self.search.solver self.search.cuts.items self.search.holed self.ending }
-        ensures answer { (shape : List Cell) (j : ℕ) (hole_free : Bool) (turns size : ℕ)
-            → IsUnder G.geometry shape j hole_free turns size self.search.universe self.search.solver self.search.hole_free self.search.turns
-            → IfOk result (λ answer. IsLevelAnswer G.geometry shape j hole_free turns size answer × NamesEmptyClauses G.geometry shape j answer) }
+        ensures answer { (version : Numbered) (shape : List Cell) (j : ℕ) (hole_free : Bool) (turns size : ℕ)
+            → IsUnder version G.geometry shape j hole_free turns size self.search.universe self.search.solver self.search.hole_free self.search.turns
+            → IfOk result (λ answer. IsLevelAnswer version G.geometry shape j hole_free turns size answer × NamesEmptyClauses version G.geometry shape j answer) }
         ensures no_cut { (self.ending ≡ Ending.Refuted → self.search.cuts.items ≡ []) → IfOk result RefutesWithoutCut }
     {
         let Ended { search, ending } = self;
@@ -150,10 +152,10 @@ impl<G: Grid> Ended<G> {
     /// What the end of a search with holes forbidden says of the level.
     pub fn into_wall(self, alloc: Global) -> Result<WallAnswer, NoMemory>
         requires { IsEnded G.geometry self.search.hole_free self.search.turns self.search.universe self.search.solver self.search.cuts.items self.search.holed self.ending }
-        ensures answer { (shape : List Cell) (j turns size : ℕ)
-            → IsUnder G.geometry shape j true turns size self.search.universe self.search.solver self.search.hole_free self.search.turns
-            → IfOk result (λ answer. IsLevelAnswer G.geometry shape j true turns size (level_answer answer)
-            × NamesEmptyClauses G.geometry shape j (level_answer answer)
+        ensures answer { (version : Numbered) (shape : List Cell) (j turns size : ℕ)
+            → IsUnder version G.geometry shape j true turns size self.search.universe self.search.solver self.search.hole_free self.search.turns
+            → IfOk result (λ answer. IsLevelAnswer version G.geometry shape j true turns size (level_answer answer)
+            × NamesEmptyClauses version G.geometry shape j (level_answer answer)
             × ShowsHoles G.geometry shape j answer) }
     {
         let holed = self.holed_layers(alloc)?;

@@ -5,8 +5,9 @@ ghost use Rattle.heesch_grid.specs.Cells.{has};
 ghost use Rattle.heesch_grid.specs.Polyform.{IsCanonicalListOf};
 ghost use Rattle.heesch_grid.specs.Vectors.{IsWithin};
 
-use crate::{LevelAnswer, level};
+use crate::{LevelAnswer, WallAnswer, level, wall};
 use heesch_cert::{Layers, Proof};
+use heesch_cnf::Version;
 use heesch_grid::{Cell, Grid, Hex, Iamond, Iso, Square};
 use heesch_shape::{Shape, ShapeFault};
 use std::alloc::Global;
@@ -27,7 +28,7 @@ fn found<G: Grid>(alloc: Global, cells: &[Cell], size: u32) -> Result<LevelAnswe
     requires within { (c : Cell) → has cells.now c ≡ true → IsWithin 100000 c }
 {
     let shape: Shape<G> = canonical_of(cells)?;
-    Ok(level(alloc, &shape, 1, true, 20_000, size)?)
+    Ok(level(alloc, &shape, 1, true, 20_000, size, Version::One)?)
 }
 
 fn refutation(answer: LevelAnswer) -> Option<Proof> {
@@ -40,6 +41,16 @@ fn refutation(answer: LevelAnswer) -> Option<Proof> {
 fn layers(answer: LevelAnswer) -> Option<Layers> {
     match answer {
         LevelAnswer::Coronas { layers } => Some(layers),
+        _ => None,
+    }
+}
+
+fn with_holes(answer: WallAnswer) -> Option<Layers> {
+    match answer {
+        WallAnswer::Holed {
+            proof: _proof,
+            layers,
+        } => Some(layers),
         _ => None,
     }
 }
@@ -125,5 +136,26 @@ fn single_triangle(rt: HostRuntime) -> Result<(), Fail> {
 fn formula_too_large(rt: HostRuntime) -> Result<(), Fail> {
     let answer = found::<Iamond>(rt.alloc(), &[Cell { a: 1, b: 1 }], 11)?;
     assert!(rt; is_too_large(answer));
+    Ok(())
+}
+
+/// This heptomino can be surrounded, but never without a hole.
+#[test]
+fn surrounded_with_holes(rt: HostRuntime) -> Result<(), Fail> {
+    let heptomino = [
+        Cell { a: 1, b: 0 },
+        Cell { a: 0, b: 1 },
+        Cell { a: 1, b: 1 },
+        Cell { a: 2, b: 1 },
+        Cell { a: 3, b: 1 },
+        Cell { a: 1, b: 2 },
+        Cell { a: 1, b: 3 },
+    ];
+    let shape: Shape<Square> = canonical_of(&heptomino)?;
+    for version in [Version::One, Version::Two] {
+        let answer = wall(rt.alloc(), &shape, 1, 20_000, 60_000_000, version)?;
+        let layers = with_holes(answer).ok_or("no coronas with holes")?;
+        assert_eq!(rt; layers.layers.len(), 1);
+    }
     Ok(())
 }

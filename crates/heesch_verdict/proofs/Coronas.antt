@@ -1,6 +1,6 @@
 -- The ends of the searches for coronas.
-use Rattle.std.proofs.Common.{◌≡◌, ◌+◌, refl, sym, subst, ℕ, List, [], true, false}
-use Rattle.std.specs.Prelude.{Option}
+use Rattle.std.proofs.Common.{◌≡◌, ◌+◌, ◌-◌, ◌≤◌, refl, sym, subst, ℕ, List, [], true, false, arith}
+use Rattle.std.specs.Prelude.{Option, Some, None}
 use Rattle.std.proofs.lemmas.List.Elements.{All-nil}
 use Rattle.heesch_grid.specs.declared.Cell.{Cell}
 use Rattle.heesch_grid.specs.declared.isometries.Iso.{Iso}
@@ -9,15 +9,18 @@ use Rattle.heesch_grid.specs.Geometry.{Geometry}
 use Rattle.heesch_grid.specs.Listing.{IsRising}
 use Rattle.heesch_cert.specs.declared.limits.Limits.{Limits}
 use Rattle.heesch_cert.specs.declared.entry.Layers.{Layers}
-use Rattle.heesch_cert.specs.declared.entry.Bare.TheVariants.{Refuted as BareRefuted, Spent as BareSpent, Size as BareSize}
+use Rattle.heesch_cert.specs.declared.entry.Bare.{Bare}
+use Rattle.heesch_cert.specs.declared.entry.Bare.TheVariants.{Absent as NoBare, Same as BareSame, Refuted as BareRefuted, Spent as BareSpent, Size as BareSize, Open as BareOpen}
+use Rattle.heesch_cert.specs.declared.entry.Wall.{Wall}
+use Rattle.heesch_cert.specs.declared.entry.Wall.TheVariants.{Absent as NoWall, Refuted as WallRefuted, Spent as WallSpent, Size as WallSize}
 use Rattle.heesch_cert.specs.declared.proof.Proof.{Proof}
 use Rattle.heesch_cert.specs.declared.verdict.Verdict.{Verdict}
 use Rattle.heesch_cert.specs.Proofs.{IsTooLarge}
-use Rattle.heesch_cert.specs.TrueEntry.{BareShows, FitsVerdict, OpenShows, WallShows, first_number, last_number}
+use Rattle.heesch_cert.specs.TrueEntry.{BareShows, IsWallRefuted, FitsVerdict, OpenShows, WallShows, first_number, last_number}
 use Rattle.heesch_levels.specs.Answer.{SpellsCoronas, RefutesLevel, IsSpentLevel}
 use Rattle.heesch_verdict.specs.declared.bare.Opened.{Opened}
 use Rattle.heesch_verdict.specs.declared.walled.Walled.{Walled}
-use Rattle.heesch_verdict.specs.Ends.{IsLevelEnd, IsOpenEnd, IsOpened, IsSearched, IsWalled}
+use Rattle.heesch_verdict.specs.Ends.{EndsOpen, HoledBehind, IsLevelEnd, IsOpenEnd, IsOpened, OpenFits, IsSearched, IsWalled}
 
 -- no layers are no coronas
 pub no_layers : (g : Geometry) (shape : List Cell) (layers : List (List Iso)) → layers ≡ [] → SpellsCoronas g shape 0 true (record { layers = layers })
@@ -32,14 +35,51 @@ no_layers g shape layers is =
     })
 
 module _ (g : Geometry) (limits : Limits) (shape : List Cell) (h m : ℕ) (wider : Option Layers) (ends : IsLevelEnd limits h m wider) (shows : OpenShows g shape wider) where
-  pub ends_refuted : (proof : Proof) → RefutesLevel g shape m false limits.size proof → IsOpenEnd g limits shape h (record { m = m; bare = BareRefuted proof; wider = wider })
+  pub ends_refuted : (proof : Proof) → RefutesLevel limits.version g shape m false limits.size proof → IsOpenEnd g limits shape h (record { m = m; bare = BareRefuted proof; wider = wider })
   ends_refuted proof r = record { ends = ends; shows = (r.refutes, r.no_cut refl); wider = shows }
 
-  pub ends_spent : (proof : Proof) → IsSpentLevel g shape m false limits.turns limits.size proof → IsOpenEnd g limits shape h (record { m = m; bare = BareSpent proof; wider = wider })
+  pub ends_spent : (proof : Proof) → IsSpentLevel limits.version g shape m false limits.turns limits.size proof → IsOpenEnd g limits shape h (record { m = m; bare = BareSpent proof; wider = wider })
   ends_spent proof r = record { ends = ends; shows = (r.is_spent, r.no_cut refl); wider = shows }
 
-  pub ends_large : IsTooLarge g shape m limits.size → IsOpenEnd g limits shape h (record { m = m; bare = BareSize; wider = wider })
+  pub ends_large : IsTooLarge limits.version g shape m limits.size → IsOpenEnd g limits shape h (record { m = m; bare = BareSize; wider = wider })
   ends_large r = record { ends = ends; shows = r; wider = shows }
+
+-- coronas with holes allowed, as what the search for more of them has found
+pub open_shows : (g : Geometry) (shape : List Cell) (n : ℕ) (layers : Layers) → SpellsCoronas g shape n false layers → OpenShows g shape (Some layers)
+open_shows g shape n layers s = (s.tiles, s.spelled, s.coronas)
+
+-- the level above them is the end of it
+pub level_end : (g : Geometry) (limits : Limits) (shape : List Cell) (h m : ℕ) (layers : Layers) → h + 2 ≤ m → m ≤ limits.levels → SpellsCoronas g shape (m - 1) false layers → IsLevelEnd limits h m (Some layers)
+level_end g limits shape h m layers above below s = (omega (arith, above), below, ((λ e. absurd (omega (arith, above, e))), s.count))
+
+-- or the limit is
+pub ends_open : (g : Geometry) (limits : Limits) (shape : List Cell) (h : ℕ) (layers : Layers) → h + 1 ≤ limits.levels → SpellsCoronas g shape limits.levels false layers → IsOpenEnd g limits shape h (record { m = limits.levels; bare = BareOpen; wider = Some layers })
+ends_open g limits shape h layers below s = record {
+  ends = (below, (layers, refl, s.count));
+  shows = tt;
+  wider = open_shows g shape limits.levels layers s;
+}
+
+-- the search with holes allowed, behind a refutation with cuts
+module _ (limits : Limits) (h m : ℕ) (wider : Option Layers) where
+  fits_open : (wall : Wall) → IsWallRefuted wall → (bare : Bare) → EndsOpen limits h m wider bare → OpenFits limits h m wall wider bare
+  fits_open wall r NoBare e = absurd e
+  fits_open wall r BareSame e = absurd e
+  fits_open wall r (BareRefuted proof) e = (r, e)
+  fits_open wall r (BareSpent proof) e = (r, e)
+  fits_open wall r BareSize e = (r, e)
+  fits_open wall r BareOpen e = (r, e)
+
+pub opened_behind : (g : Geometry) (limits : Limits) (shape : List Cell) (h j : ℕ) (wall : Wall) (layers : Layers) → HoledBehind g shape j wall (Some layers) → (opened : Opened) → IsOpenEnd g limits shape h opened → IsOpened g limits shape h wall opened
+opened_behind g limits shape h j NoWall layers behind opened e = absurd (let bad : Some layers ≡ None = behind in cc)
+opened_behind g limits shape h j (WallSpent proof) layers behind opened e = absurd (let bad : Some layers ≡ None = behind in cc)
+opened_behind g limits shape h j WallSize layers behind opened e = absurd (let bad : Some layers ≡ None = behind in cc)
+opened_behind g limits shape h j (WallRefuted proof) layers behind opened e = record {
+  fits = fits_open limits h opened.m opened.wider (WallRefuted proof) tt opened.bare e.ends;
+  same = ((λ is. absurd (subst (EndsOpen limits h opened.m opened.wider) is e.ends)), (λ none. absurd (behind.0 none)));
+  shows = e.shows;
+  wider = e.wider;
+}
 
 -- the verdict of the ends that were found
 pub searched : (g : Geometry) (limits : Limits) (shape : List Cell) (verdict : Verdict) (walled : Walled) (opened : Opened) → IsWalled g limits shape walled → IsOpened g limits shape walled.h walled.wall opened → FitsVerdict limits walled.wall opened.bare opened.wider verdict → first_number verdict ≡ walled.h → BareShows g limits shape (last_number verdict) opened.bare

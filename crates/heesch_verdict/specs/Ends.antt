@@ -1,5 +1,5 @@
 -- How the searches for coronas ended.
-use Rattle.std.specs.Prelude.{◌≡◌, ◌≤◌, ◌+◌, ℕ, true, Option, Some, None, List, length}
+use Rattle.std.specs.Prelude.{◌≡◌, ◌≤◌, ◌+◌, ℕ, true, false, Option, Some, None, List, length}
 use Rattle.heesch_grid.specs.declared.Cell.{Cell}
 use Rattle.heesch_grid.specs.Geometry.{Geometry}
 use Rattle.heesch_cert.specs.declared.limits.Limits.{Limits}
@@ -8,6 +8,7 @@ use Rattle.heesch_cert.specs.declared.entry.Wall.{Wall}
 use Rattle.heesch_cert.specs.declared.entry.Wall.TheVariants.{Absent as NoWall, Refuted as WallRefuted, Spent as WallSpent, Size as WallSize}
 use Rattle.heesch_cert.specs.declared.entry.Bare.{Bare}
 use Rattle.heesch_cert.specs.declared.entry.Bare.TheVariants.{Absent as NoBare, Same as BareSame, Refuted as BareRefuted, Spent as BareSpent, Size as BareSize, Open as BareOpen}
+use Rattle.heesch_cert.specs.Proofs.{HasNoCut}
 use Rattle.heesch_cert.specs.TrueEntry.{IsWallRefuted, IsBelow, FitsVerdict, WallShows, BareShows, SameWhereNoCut, OpenShows, first_number, last_number}
 use Rattle.heesch_levels.specs.Answer.{SpellsCoronas}
 use Rattle.heesch_verdict.specs.declared.walled.Walled.{Walled}
@@ -21,11 +22,18 @@ EndsAt limits h (WallRefuted proof) = h + 1 ≤ limits.levels
 EndsAt limits h (WallSpent proof) = h + 1 ≤ limits.levels
 EndsAt limits h WallSize = h + 1 ≤ limits.levels
 
--- h hole-free coronas, and how the search for one more ended
+-- behind a refutation with cuts, j coronas with holes allowed; elsewhere nothing, and a refutation is without cuts
+abbrev pub HoledBehind : Geometry → List Cell → ℕ → Wall → Option Layers → Type 0
+HoledBehind g shape j (WallRefuted proof) (Some layers) = (¬ HasNoCut proof) × SpellsCoronas g shape j false layers
+HoledBehind g shape j (WallRefuted proof) None = HasNoCut proof
+HoledBehind g shape j _ holed = holed ≡ None
+
+-- h hole-free coronas, how the search for one more ended, and what that tells of coronas with holes
 pub record IsWalled (g : Geometry) (limits : Limits) (shape : List Cell) (walled : Walled) : Type 0 where
   pub coronas : SpellsCoronas g shape walled.h true walled.free
   pub shows : WallShows g limits shape (walled.h + 1) walled.wall
   pub ends : EndsAt limits walled.h walled.wall
+  pub holed : HoledBehind g shape (walled.h + 1) walled.wall walled.holed
 
 -- m is above h and at most the limit, and below it coronas were found
 abbrev pub IsLevelEnd : Limits → ℕ → ℕ → Option Layers → Type 0

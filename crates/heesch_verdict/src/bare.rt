@@ -1,10 +1,10 @@
 //! The search for coronas with holes allowed, after a refutation with holes forbidden.
-ghost use Rattle.std.specs.Prelude.{◌≤◌, ◌+◌, IfOk};
+ghost use Rattle.std.specs.Prelude.{◌≤◌, ◌+◌, false, IfOk};
 ghost use Rattle.heesch_cert.specs.Limits.{AreLimits};
 ghost use Rattle.heesch_verdict.specs.Shapes.{IsCanonicalShape};
-ghost use Rattle.heesch_verdict.specs.Ends.{EndsAt, IsOpenEnd, IsOpened};
+ghost use Rattle.heesch_levels.specs.Answer.{SpellsCoronas};
+ghost use Rattle.heesch_verdict.specs.Ends.{EndsAt, HoledBehind, IsOpenEnd, IsOpened};
 
-use crate::steps::has_no_cut;
 use heesch_cert::{Bare, Layers, Limits, Wall};
 use heesch_grid::Grid;
 use heesch_io::NoMemory;
@@ -21,60 +21,75 @@ pub struct Opened {
     pub wider: Option<Layers>,
 }
 
-/// Coronas with holes allowed of level h + 1, h + 2 and so on up to the limit, until a search
-/// doesn't find them.
+/// Coronas with holes allowed of level h + 2, h + 3 and so on up to the limit, until a search
+/// doesn't find them. Those of level h + 1 are known.
 fn holes_allowed<G: Grid>(
     alloc: Global,
     shape: &Shape<G>,
     limits: Limits,
     h: u32,
+    holed: Layers,
 ) -> Result<Opened, NoMemory>
     requires shape { IsCanonicalShape G.geometry shape.now }
     requires limits { AreLimits limits }
     requires below { h + 1 ≤ limits.levels }
+    requires holed { SpellsCoronas G.geometry shape.now (h + 1) false holed }
     ensures { IfOk result (IsOpenEnd G.geometry limits shape.now h) }
 {
-    let mut wider = None;
-    for m in h + 1..limits.levels + 1 {
-        let bare = match level(alloc, shape, m, false, limits.turns, limits.size)? {
+    let mut wider = holed;
+    for m in h + 2..limits.levels + 1 {
+        let answer = level(
+            alloc,
+            shape,
+            m,
+            false,
+            limits.turns,
+            limits.size,
+            limits.version,
+        )?;
+        let bare = match answer {
             LevelAnswer::Coronas { layers } => {
-                wider = Some(layers);
+                wider = layers;
                 continue;
             }
             LevelAnswer::Refuted { proof } => Bare::Refuted { proof },
             LevelAnswer::Spent { proof } => Bare::Spent { proof },
             LevelAnswer::TooLarge => Bare::Size,
         };
-        return Ok(Opened { m, bare, wider });
+        return Ok(Opened {
+            m,
+            bare,
+            wider: Some(wider),
+        });
     }
     Ok(Opened {
         m: limits.levels,
         bare: Bare::Open,
-        wider,
+        wider: Some(wider),
     })
 }
 
-/// What the search with holes allowed finds behind a wall. There is none to make where the wall
-/// isn't a refutation, or is one without cuts.
+/// What the search with holes allowed finds behind a wall, and behind the h + 1 coronas that one with
+/// cuts found. There is none to make where the wall isn't a refutation, or is one without cuts.
 pub fn open_behind<G: Grid>(
     alloc: Global,
     shape: &Shape<G>,
     limits: Limits,
     h: u32,
     wall: &Wall,
+    holed: Option<Layers>,
 ) -> Result<Opened, NoMemory>
     requires shape { IsCanonicalShape G.geometry shape.now }
     requires limits { AreLimits limits }
     requires ends { EndsAt limits h wall.now }
+    requires holed { HoledBehind G.geometry shape.now (h + 1) wall.now holed }
     ensures { IfOk result (IsOpened G.geometry limits shape.now h wall.now) }
 {
+    if let Some(layers) = holed {
+        return holes_allowed(alloc, shape, limits, h, layers);
+    }
     let bare = match wall {
-        Wall::Refuted { proof } => {
-            if !has_no_cut(proof) {
-                return holes_allowed(alloc, shape, limits, h);
-            }
-            Bare::Same
-        }
+        Wall::Refuted { .. } => Bare::Same,
         _ => Bare::Absent,
     };
     Ok(Opened {

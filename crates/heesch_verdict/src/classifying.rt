@@ -27,10 +27,11 @@ use std::alloc::Global;
 /// counts. The places of a cover are reduced: their translations lie inside the triple.
 ///
 /// Where no cover is found, hole-free coronas are sought at level 1, 2 and so on. Where they end with
-/// a refutation that has cuts, coronas with holes allowed are sought from that level on: without
-/// them the refutation says nothing of tilings. Only where a limit leaves the verdict undecided is
-/// each triple settled by the logged search, which shows how the search of each ended. If that finds
-/// a cover, which is so only for an open triple, the shape tiles by it.
+/// a refutation that has cuts, the same search has found coronas with holes at that level, and such
+/// coronas are sought from the next one on: without them the refutation says nothing of tilings. Only
+/// where a limit leaves the verdict undecided is each triple settled by the logged search, which shows
+/// how the search of each ended. If that finds a cover, which is so only for an open triple, the shape
+/// tiles by it.
 ///
 /// Where the kind is Periodic, each triple before the written one has no cover, or its logged search
 /// spent its turns. `NoMemory` comes only where memory was refused.
@@ -38,7 +39,7 @@ use std::alloc::Global;
 /// Coronas and the Heesch number are Kaplan's ("Heesch Numbers of Unmarked Polyforms", 2021), the
 /// kinds of tilings and their classes Myers's.
 ///
-/// The cost is that of the searches: at most one without a log for each triple of these domains, two
+/// The cost is that of the searches: at most one without a log for each triple of these domains, one
 /// for each level, and a logged one for each triple, which a shape with a Heesch number has none of
 /// and one that tiles for open triples alone. Each has all the turns of the limit for itself, and
 /// none is made twice.

@@ -33,8 +33,13 @@ pub fn search_coronas<G: Grid>(
     requires limits { AreLimits limits }
     ensures { IfOk result (IsSearched G.geometry limits shape.now) }
 {
-    let Walled { h, free, wall } = hole_free(alloc, shape, limits)?;
-    let Opened { m, bare, wider } = open_behind(alloc, shape, limits, h, &wall)?;
+    let Walled {
+        h,
+        free,
+        wall,
+        holed,
+    } = hole_free(alloc, shape, limits)?;
+    let Opened { m, bare, wider } = open_behind(alloc, shape, limits, h, &wall, holed)?;
     Ok(Searched {
         verdict: verdict_of(h, &wall, m, &bare),
         free,

@@ -1,23 +1,11 @@
 //! The steps of proofs.
-ghost use Rattle.std.specs.Prelude.{◌≡◌, [], true, ◌↔◌, All, IfOk, map};
+ghost use Rattle.std.specs.Prelude.{◌≡◌, [], All, IfOk, map};
 ghost use Rattle.heesch_cert.specs.Proofs.{HasNoCut, HasNoGiven, IsLearnLine, IsLearnStep, line_of_step, log_of};
 
 use heesch_cert::{Proof, Step};
 use heesch_cnf::{Line, Log};
 use heesch_io::{NoMemory, Seq};
 use std::alloc::Global;
-
-/// Whether no step of the proof is a cut.
-pub fn has_no_cut(proof: &Proof) -> bool
-    ensures { (result ≡ true) ↔ HasNoCut proof.now }
-{
-    for step in proof.steps.as_slice() {
-        if let Step::Cut { .. } = step {
-            return false;
-        }
-    }
-    true
-}
 
 /// The step of a line that is learnt.
 fn step_of(line: Line) -> Step

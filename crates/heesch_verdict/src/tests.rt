@@ -7,6 +7,7 @@ ghost use Rattle.heesch_grid.specs.Vectors.{IsWithin};
 
 use crate::classify;
 use heesch_cert::{Bare, Evidence, Kind, Limits, Member, Phase, Verdict, Wall};
+use heesch_cnf::Version;
 use heesch_grid::{Cell, Grid, Iamond, Iso, Square};
 use heesch_lattice::Triple;
 use heesch_shape::{Shape, ShapeFault};
@@ -17,6 +18,7 @@ const LIMITS: Limits = Limits {
     levels: 3,
     domain: 4,
     size: 60_000_000,
+    version: Version::One,
 };
 
 /// The limits under which nothing but one corona is sought.

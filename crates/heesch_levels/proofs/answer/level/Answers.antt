@@ -14,26 +14,26 @@ returns-in-Some-clause-answer g c =
     let geometry = g.G.Grid.geometry in
     let a = c.args in
     let s = c.in-Some.ended.search in
-    let under : IsUnder geometry a.shape.now a.j a.hole_free a.turns a.size s.universe s.solver s.hole_free s.turns = at_some _ _ _ c.in-Some.is c.in_ok-ended.ensures.under in
-    IfOk-weaker c.into_answer.result (λ (answer : LevelAnswer). IsLevelAnswer geometry a.shape.now a.j a.hole_free a.turns a.size answer × NamesEmptyClauses geometry a.shape.now a.j answer) (λ (answer : LevelAnswer). IsLevelAnswer geometry a.shape.now a.j a.hole_free a.turns a.size answer)
-    (λ answer says. says.0) (c.into_answer.ensures.answer a.shape.now a.j a.hole_free a.turns a.size under)
+    let under : IsUnder a.version geometry a.shape.now a.j a.hole_free a.turns a.size s.universe s.solver s.hole_free s.turns = at_some _ _ _ c.in-Some.is c.in_ok-ended.ensures.under in
+    IfOk-weaker c.into_answer.result (λ (answer : LevelAnswer). IsLevelAnswer a.version geometry a.shape.now a.j a.hole_free a.turns a.size answer × NamesEmptyClauses a.version geometry a.shape.now a.j answer) (λ (answer : LevelAnswer). IsLevelAnswer a.version geometry a.shape.now a.j a.hole_free a.turns a.size answer)
+    (λ answer says. says.0) (c.into_answer.ensures.answer a.version a.shape.now a.j a.hole_free a.turns a.size under)
 
 pub returns-in-Some-clause-at_once : goal.returns-in-Some-clause-at_once
 returns-in-Some-clause-at_once g c =
     let geometry = g.G.Grid.geometry in
     let a = c.args in
     let s = c.in-Some.ended.search in
-    let under : IsUnder geometry a.shape.now a.j a.hole_free a.turns a.size s.universe s.solver s.hole_free s.turns = at_some _ _ _ c.in-Some.is c.in_ok-ended.ensures.under in
-    IfOk-weaker c.into_answer.result (λ (answer : LevelAnswer). IsLevelAnswer geometry a.shape.now a.j a.hole_free a.turns a.size answer × NamesEmptyClauses geometry a.shape.now a.j answer) (λ (answer : LevelAnswer). answer ≢ TooLarge → NamesEmptyClauses geometry a.shape.now a.j answer)
-    (λ answer says other. says.1) (c.into_answer.ensures.answer a.shape.now a.j a.hole_free a.turns a.size under)
+    let under : IsUnder a.version geometry a.shape.now a.j a.hole_free a.turns a.size s.universe s.solver s.hole_free s.turns = at_some _ _ _ c.in-Some.is c.in_ok-ended.ensures.under in
+    IfOk-weaker c.into_answer.result (λ (answer : LevelAnswer). IsLevelAnswer a.version geometry a.shape.now a.j a.hole_free a.turns a.size answer × NamesEmptyClauses a.version geometry a.shape.now a.j answer) (λ (answer : LevelAnswer). answer ≢ TooLarge → NamesEmptyClauses a.version geometry a.shape.now a.j answer)
+    (λ answer says other. says.1) (c.into_answer.ensures.answer a.version a.shape.now a.j a.hole_free a.turns a.size under)
 
 pub returns-in-Some-clause-too_large : goal.returns-in-Some-clause-too_large
 returns-in-Some-clause-too_large g c =
     let geometry = g.G.Grid.geometry in
     let a = c.args in
     let s = c.in-Some.ended.search in
-    let under : IsUnder geometry a.shape.now a.j a.hole_free a.turns a.size s.universe s.solver s.hole_free s.turns = at_some _ _ _ c.in-Some.is c.in_ok-ended.ensures.under in
+    let under : IsUnder a.version geometry a.shape.now a.j a.hole_free a.turns a.size s.universe s.solver s.hole_free s.turns = at_some _ _ _ c.in-Some.is c.in_ok-ended.ensures.under in
     let ended : IsEnded geometry s.hole_free s.turns s.universe s.solver s.cuts.items s.holed c.in-Some.ended.ending = at_some _ _ _ c.in-Some.is c.in_ok-ended.ensures.ended in
-    let none = fits_under geometry a.shape.now a.j a.hole_free a.turns a.size s.universe s.solver s.hole_free s.turns under g.met.G.Grid.laws s.cuts.items s.holed c.in-Some.ended.ending ended in
-    IfOk-weaker c.into_answer.result (λ (answer : LevelAnswer). IsLevelAnswer geometry a.shape.now a.j a.hole_free a.turns a.size answer × NamesEmptyClauses geometry a.shape.now a.j answer) (λ (answer : LevelAnswer). IsTooLarge geometry a.shape.now a.j a.size → answer ≡ TooLarge)
-    (λ answer says large. absurd (none large)) (c.into_answer.ensures.answer a.shape.now a.j a.hole_free a.turns a.size under)
+    let none = fits_under a.version geometry a.shape.now a.j a.hole_free a.turns a.size s.universe s.solver s.hole_free s.turns under g.met.G.Grid.laws s.cuts.items s.holed c.in-Some.ended.ending ended in
+    IfOk-weaker c.into_answer.result (λ (answer : LevelAnswer). IsLevelAnswer a.version geometry a.shape.now a.j a.hole_free a.turns a.size answer × NamesEmptyClauses a.version geometry a.shape.now a.j answer) (λ (answer : LevelAnswer). IsTooLarge a.version geometry a.shape.now a.j a.size → answer ≡ TooLarge)
+    (λ answer says large. absurd (none large)) (c.into_answer.ensures.answer a.version a.shape.now a.j a.hole_free a.turns a.size under)

@@ -2,12 +2,15 @@ use Rattle.std.proofs.Common.{◌≡◌, ◌∙◌, ◌≤◌, sym, ap, subst, a
 use Rattle.heesch_grid.specs.Clauses.{formula_size}
 use Rattle.heesch_grid.specs.Polyform.{IsPolyform}
 use Rattle.heesch_place.specs.Universes.{Levels}
+use Rattle.heesch_cert.proofs.Versions.{universe_within}
 use Rattle.heesch_levels.specs.Searching.{IsSearch}
 use Rattle.heesch_levels.proofs.LevelFacts.{at_once_from, formula_kept}
 use Rattle.heesch_levels.proofs.ended.ended_at.Goals as goal
 
 pub open-requires-clause-within : goal.open-requires-clause-within
-open-requires-clause-within g c = let e = c.in-Ok.ensures.formula.count_is in omega arith
+open-requires-clause-within g c =
+    let e = c.in-Ok.encoded in
+    universe_within c.args.version g.G.Grid.geometry c.args.shape.now c.args.j e.universe.vars e.formula.vars e.formula.clauses c.in-Ok.ensures.formula
 
 pub run-requires-clause-search : goal.run-requires-clause-search
 run-requires-clause-search g c =
@@ -46,6 +49,6 @@ returns-clause-under g c =
       level_is = ap (λ (u : Levels). u.level) same ∙ made.level;
       free_is = run.hole_free ∙ opened.hole_free;
       turns_are = run.turns ∙ opened.turns;
-      formula = formula_kept geometry c.args.shape.now c.args.j e.universe s.universe e.formula.vars s.solver.vars e.formula.clauses s.solver.clauses made.shape made.level made.formula same (run.same.vars ∙ opened.vars) clauses;
+      formula = formula_kept c.args.version geometry c.args.shape.now c.args.j e.universe s.universe e.formula.vars s.solver.vars e.formula.clauses s.solver.clauses made.shape made.level made.formula same (run.same.vars ∙ opened.vars) clauses;
       fits = subst (λ cs. formula_size cs ≤ c.args.size) (sym clauses) made.fits;
     }

@@ -1,5 +1,6 @@
-use Rattle.heesch_cert.specs.TrueEntry.{IsBelow, OpenShows}
+use Rattle.std.proofs.Common.{◌-◌, false}
+use Rattle.heesch_levels.specs.Answer.{SpellsCoronas}
 use Rattle.heesch_verdict.proofs.bare.holes_allowed.Given as goal
 
 abbrev pub invariant-loop-m : goal.invariant-loop-m
-invariant-loop-m g l = record { below : IsBelow l.h l.m l.wider; shows : OpenShows g.G.Grid.geometry l.shape l.wider }
+invariant-loop-m g l = SpellsCoronas g.G.Grid.geometry l.shape (l.m - 1) false l.wider
