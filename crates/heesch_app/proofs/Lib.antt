@@ -1,5 +1,4 @@
 mod Beginnings
-mod GivenInputs
 mod GivenLists
 mod GivenOnce
 mod Headline

@@ -1,19 +1,16 @@
 -- Shapes from input: what a list text gives, and its first fault.
-use Rattle.std.specs.Prelude.{◌≡◌, ◌≢◌, ◌⊎◌, ℕ, ◌+◌, ◌<◌, ◌≤◌, List, [], ◌++◌, length, codes, decimal, All, ⊤}
-use Rattle.std.specs.List.{AllByRecursion, AllZip}
+use Rattle.std.specs.Prelude.{◌≡◌, ◌⊎◌, ℕ, ◌+◌, ◌<◌, ◌≤◌, List, ◌++◌, length, codes, decimal, All}
+use Rattle.std.specs.List.{AllZip}
 use Rattle.heesch_grid.specs.declared.Cell.{Cell}
 use Rattle.heesch_grid.specs.Cells.{IsCellListOf}
 use Rattle.heesch_grid.specs.Geometry.{Geometry}
 use Rattle.heesch_grid.specs.Polyform.{IsPolyform, IsCanonicalListOf}
 use Rattle.heesch_line.specs.declared.list.ListStop.{ListStop}
 use Rattle.heesch_line.specs.declared.list.ListStop.TheVariants.{NotText, TooManyShapes, NoMemory}
-use Rattle.heesch_line.specs.Forms.{HasNoNewline}
 use Rattle.heesch_line.specs.Lists.{AreCells, IsListText, GoesOn, StopsAfter}
 use Rattle.heesch_shape.specs.declared.faults.ShapeFault.{ShapeFault}
 use Rattle.heesch_shape.specs.Faults.{IsFault, IsFaultless, number_of}
-use Rattle.heesch_stream.specs.Taking.{input_max}
 use Rattle.heesch_text.specs.Fields.{cells_text}
-use Rattle.heesch_text.specs.Shapes.{list_text}
 
 -- the canonical list of the polyform of at most 32 cells that has these cells, which may stand in any order
 pub record IsCanonicalOf (g : Geometry) (cells canonical : List Cell) : Type 0 where
@@ -23,13 +20,12 @@ pub record IsCanonicalOf (g : Geometry) (cells canonical : List Cell) : Type 0 w
   pub few : length shape ≤ 32
   pub is_canonical : IsCanonicalListOf g shape canonical
 
--- the text is a list of shapes in at most so many bytes, and these are their canonical lists, in their order
-pub record AreGivenWithin (most : ℕ) (g : Geometry) (text : List ℕ) (shapes : List (List Cell)) : Type 0 where
+-- the text is a list of shapes, and these are their canonical lists, in their order
+pub record AreGiven (g : Geometry) (text : List ℕ) (shapes : List (List Cell)) : Type 0 where
   pub given : List (List Cell)
   pub listed : IsListText text given
   pub are_shapes : All (IsFaultless g) given
   pub canonical : AllZip (IsCanonicalOf g) given shapes
-  pub few : length text ≤ most
 
 -- the number of a list text's own fault
 abbrev pub stop_number : ListStop → ℕ
@@ -43,18 +39,8 @@ stop_line (NotText line) = line
 stop_line (TooManyShapes line) = line
 stop_line NoMemory = 0
 
--- behind the lines of these shapes, the line ends with its newline within the first bytes of the text, so many, or the text has no more
-abbrev pub EndsWithin : ℕ → List ℕ → List (List Cell) → List ℕ → Type 0
-EndsWithin most text given line = (length text ≤ most) ⊎ (length (list_text given) + length line < most)
-
--- where the line that stops the list to be one is faulty, it ends there
-abbrev pub StopsWithin : ℕ → (text : List ℕ) (given : List (List Cell)) (stop : ListStop) → StopsAfter text given stop → Type 0
-StopsWithin most text given (NotText line) stops = EndsWithin most text given stops.line
-StopsWithin most text given (TooManyShapes line) stops = ⊤
-StopsWithin most text given NoMemory stops = ⊥
-
 -- the lines before this one are shapes, and its cells are none, for the reason of this number
-pub record HasShapeFault (most : ℕ) (g : Geometry) (text : List ℕ) (line number : ℕ) : Type 0 where
+pub record HasShapeFault (g : Geometry) (text : List ℕ) (line number : ℕ) : Type 0 where
   pub given : List (List Cell)
   pub cells : List Cell
   pub goes_on : GoesOn text given (cells_text cells)
@@ -65,44 +51,19 @@ pub record HasShapeFault (most : ℕ) (g : Geometry) (text : List ℕ) (line num
   pub is_fault : IsFault g cells fault
   pub line_is : line ≡ length given + 1
   pub number_is : number ≡ number_of fault
-  pub ends : EndsWithin most text given (cells_text cells)
 
 -- the lines before this one are shapes, and it is no line of a list, or one too many
-pub record HasListFault (most : ℕ) (g : Geometry) (text : List ℕ) (line number : ℕ) : Type 0 where
+pub record HasListFault (g : Geometry) (text : List ℕ) (line number : ℕ) : Type 0 where
   pub given : List (List Cell)
   pub stop : ListStop
   pub stops : StopsAfter text given stop
   pub shapes : All (IsFaultless g) given
   pub line_is : line ≡ stop_line stop
   pub number_is : number ≡ stop_number stop
-  pub ends : StopsWithin most text given stop stops
-
--- the text has more bytes than these many, which are the lines of fewer than 10,000 shapes, and then bytes of this line
-pub record IsTooLong (most : ℕ) (g : Geometry) (text : List ℕ) (line number : ℕ) : Type 0 where
-  pub given : List (List Cell)
-  pub begun : List ℕ
-  pub behind : List ℕ
-  pub text_is : text ≡ (list_text given ++ begun) ++ behind
-  pub length_is : length (list_text given ++ begun) ≡ most
-  pub more : behind ≢ []
-  pub one_line : HasNoNewline begun
-  pub cells_are : AllByRecursion AreCells given
-  pub shapes : All (IsFaultless g) given
-  pub in_time : length given < 10000
-  pub line_is : line ≡ length given + 1
-  pub number_is : number ≡ 8
-
--- the first line at fault, from 1, and the number of its fault, where so many bytes are read
-abbrev pub HasFaultWithin : ℕ → Geometry → List ℕ → ℕ → ℕ → Type 0
-HasFaultWithin most g text line number = HasShapeFault most g text line number ⊎ HasListFault most g text line number ⊎ IsTooLong most g text line number
-
--- the text is a list of shapes, and these are their canonical lists, in their order
-abbrev pub AreGiven : Geometry → List ℕ → List (List Cell) → Type 0
-AreGiven g text shapes = AreGivenWithin input_max g text shapes
 
 -- the first line at fault, from 1, and the number of its fault
 abbrev pub HasFault : Geometry → List ℕ → ℕ → ℕ → Type 0
-HasFault g text line number = HasFaultWithin input_max g text line number
+HasFault g text line number = HasShapeFault g text line number ⊎ HasListFault g text line number
 
 -- `bad input LINE FAULT`
 abbrev pub bad_input_text : ℕ → ℕ → List ℕ

@@ -1,102 +1,63 @@
 //! The catalogue of the shapes of a list text.
-ghost use Rattle.std.specs.Prelude.{◌≡◌, ◌≤◌, Err, IfOk};
-ghost use Rattle.heesch_catalogue.specs.Catalogues.{IsCatalogue};
+ghost use Rattle.std.specs.Prelude.{◌≡◌, ◌≤◌, IfOk};
 ghost use Rattle.heesch_cert.specs.Limits.{AreLimits};
 ghost use Rattle.heesch_grid.specs.Names.{geometry_of};
-ghost use Rattle.heesch_io.specs.Causes.{Rose};
-ghost use Rattle.heesch_app.specs.Given.{AreCanonicalShapes};
-ghost use Rattle.heesch_app.specs.Outputs.{OfInput, IsGivenAnswer};
+ghost use Rattle.heesch_app.specs.Outputs.{IsGivenAnswer};
 
 use crate::Status;
 use crate::bad_input::bad_input;
 use crate::given::{GivenStop, shapes_given};
-use crate::reading::ReadStop;
 use crate::reply::Reply;
 use heesch_catalogue::{entries_of, text_of};
 use heesch_cert::Header;
 use heesch_grid::{Grid, GridName, Hex, Iamond, Square};
-use heesch_io::{NoMemory, Source};
+use heesch_io::NoMemory;
 use heesch_pool::Gate;
-use heesch_shape::Shape;
-use heesch_stream::INPUT_MAX;
 use std::alloc::Global;
 use std::thread::Threads;
 
-/// The catalogue text, under the header, of the shapes of the list text that the source has left, in their order, each by
-/// its canonical list; or the first fault of the text, up to which alone it is read.
-pub fn given_catalogue<T: Threads + Sync, R: Source, H: Gate + Sync>(
+/// The catalogue text, under the header, of the shapes of a list text in their order, each by its canonical list; or the
+/// first fault of the text.
+pub fn given_catalogue<T: Threads + Sync, H: Gate + Sync>(
     rt: &T,
     alloc: Global,
     header: &Header,
-    source: &mut R,
+    input: &[u8],
     workers: u32,
     gate: &H,
-) -> Result<Reply, ReadStop>
+) -> Result<Reply, NoMemory>
     requires limits { AreLimits header.now.limits }
     requires workers { (1 ≤ workers) × (workers ≤ 64) }
-    ensures ok { IfOk result (λ r. OfInput (R.left source.old) (IsGivenAnswer (geometry_of header.now.grid) header.now r.status r.text.items)) }
-    ensures failed { result ≡ Err ReadStop.Failed → Rose (R.faults source.old) (R.faults source.new) }
+    ensures { IfOk result (λ r. IsGivenAnswer (geometry_of header.now.grid) header.now r.status r.text.items input.now) }
 {
     match header.grid {
-        GridName::Square => {
-            catalogue_of::<Square, T, R, H>(rt, alloc, header, source, workers, gate)
-        }
-        GridName::Hex => catalogue_of::<Hex, T, R, H>(rt, alloc, header, source, workers, gate),
-        GridName::Iamond => {
-            catalogue_of::<Iamond, T, R, H>(rt, alloc, header, source, workers, gate)
-        }
+        GridName::Square => catalogue_of::<Square, T, H>(rt, alloc, header, input, workers, gate),
+        GridName::Hex => catalogue_of::<Hex, T, H>(rt, alloc, header, input, workers, gate),
+        GridName::Iamond => catalogue_of::<Iamond, T, H>(rt, alloc, header, input, workers, gate),
     }
 }
 
-fn catalogue_of<G: Grid + Send + Sync, T: Threads + Sync, R: Source, H: Gate + Sync>(
+fn catalogue_of<G: Grid + Send + Sync, T: Threads + Sync, H: Gate + Sync>(
     rt: &T,
     alloc: Global,
     header: &Header,
-    source: &mut R,
+    input: &[u8],
     workers: u32,
     gate: &H,
-) -> Result<Reply, ReadStop>
+) -> Result<Reply, NoMemory>
     requires limits { AreLimits header.now.limits }
     requires workers { (1 ≤ workers) × (workers ≤ 64) }
-    ensures ok { IfOk result (λ r. OfInput (R.left source.old) (IsGivenAnswer G.geometry header.now r.status r.text.items)) }
-    ensures failed { result ≡ Err ReadStop.Failed → Rose (R.faults source.old) (R.faults source.new) }
+    ensures { IfOk result (λ r. IsGivenAnswer G.geometry header.now r.status r.text.items input.now) }
 {
-    match shapes_given::<G, R, INPUT_MAX>(alloc, source) {
-        Ok(shapes) => {
-            match text_of_shapes(rt, alloc, header, &shapes, workers, gate) {
-                Ok(text) => Ok(Reply {
-                    status: Status::Done,
-                    text,
-                }),
-                Err(NoMemory) => Err(ReadStop::NoMemory),
-            }
-        }
-        Err(GivenStop::Fault { line, number }) => {
-            match bad_input(alloc, line, number) {
-                Ok(reply) => Ok(reply),
-                Err(NoMemory) => Err(ReadStop::NoMemory),
-            }
-        }
-        Err(GivenStop::Failed) => Err(ReadStop::Failed),
-        Err(GivenStop::NoMemory) => Err(ReadStop::NoMemory),
-    }
-}
-
-/// The catalogue text of shapes that are their own canonical lists.
-fn text_of_shapes<G: Grid + Send + Sync, T: Threads + Sync, H: Gate + Sync>(
-    rt: &T,
-    alloc: Global,
-    header: &Header,
-    shapes: &[Shape<G>],
-    workers: u32,
-    gate: &H,
-) -> Result<Vec<u8>, NoMemory>
-    requires canonical { AreCanonicalShapes G.geometry shapes.now }
-    requires limits { AreLimits header.now.limits }
-    requires workers { (1 ≤ workers) × (workers ≤ 64) }
-    ensures { IfOk result (λ text. IsCatalogue G.geometry header.now shapes.now text.items) }
-{
-    let entries = entries_of(rt, alloc, shapes, header.limits, workers, gate)?;
+    let shapes = match shapes_given::<G>(alloc, input) {
+        Ok(shapes) => shapes,
+        Err(GivenStop::Fault { line, number }) => return bad_input(alloc, line, number),
+        Err(GivenStop::NoMemory) => return Err(NoMemory),
+    };
+    let entries = entries_of(rt, alloc, &shapes, header.limits, workers, gate)?;
     let text = text_of(alloc, header, &entries)?;
-    Ok(text)
+    Ok(Reply {
+        status: Status::Done,
+        text,
+    })
 }

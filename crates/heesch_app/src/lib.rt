@@ -12,8 +12,6 @@ mod reading;
 mod reply;
 mod status;
 mod tables;
-#[cfg(test)]
-mod tests;
 mod tilings;
 
 pub use program::run;

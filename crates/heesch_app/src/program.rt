@@ -14,7 +14,7 @@ use crate::Status;
 use crate::checks::checked_reply;
 use crate::given_catalogue::given_catalogue;
 use crate::listing::listing;
-use crate::reading::ReadStop;
+use crate::reading::{ReadStop, read_all};
 use crate::reply::Reply;
 use crate::tables::table_reply;
 use crate::tilings::plain_listing;
@@ -142,7 +142,12 @@ fn reply<T: Threads + Sync, R: Source, H: Gate + Sync>(
             };
             match subject {
                 Subject::Size { n } => Reply::done(catalogue(rt, alloc, &header, n, workers, gate)),
-                Subject::Given => given_catalogue(rt, alloc, &header, source, workers, gate),
+                Subject::Given => {
+                    let input = read_all(alloc, source)?;
+                    given_catalogue(rt, alloc, &header, &input, workers, gate).map_err(
+                        |_| ReadStop::NoMemory,
+                    )
+                }
             }
         }
     }

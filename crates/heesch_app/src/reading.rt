@@ -1,10 +1,41 @@
-//! Why a request that reads has no reply.
+//! All bytes of a source.
+ghost use Rattle.std.specs.Prelude.{◌≡◌, ◌≤◌, Err, IfOk};
+ghost use Rattle.heesch_io.specs.Causes.{Rose};
+ghost use Rattle.heesch_stream.specs.Input.{IsAllOf};
 
-/// Why there is no reply.
+use heesch_io::Source;
+use std::alloc::Global;
+
+/// The most bytes that are read. Memory for more is never there.
+const INPUT_MAX: usize = 1_099_511_627_776;
+
+/// Why reading ended before the end of input.
 #[derive(Clone, Copy, Debug, PartialEq, Eq)]
 pub enum ReadStop {
     /// The source failed.
     Failed,
-    /// Memory was refused.
+    /// Memory was refused, or the input has `INPUT_MAX` bytes or more.
     NoMemory,
+}
+
+/// All bytes that the source has left. The cost is linear in their number.
+pub fn read_all<R: Source>(alloc: Global, source: &mut R) -> Result<Vec<u8>, ReadStop>
+    ensures ok { IfOk result (λ bytes. IsAllOf (R.left source.old) bytes.items) }
+    ensures failed { result ≡ Err ReadStop.Failed → Rose (R.faults source.old) (R.faults source.new) }
+    ensures later { R.faults source.old ≤ R.faults source.new }
+{
+    let mut bytes = Vec::new(alloc);
+    let mut piece = [0; 4096];
+    while bytes.len() < INPUT_MAX {
+        let Ok(count) = source.read(&mut piece) else {
+            return Err(ReadStop::Failed);
+        };
+        if count == 0 {
+            return Ok(bytes);
+        }
+        if bytes.extend_from_slice(&piece[..count]).is_err() {
+            return Err(ReadStop::NoMemory);
+        }
+    }
+    Err(ReadStop::NoMemory)
 }

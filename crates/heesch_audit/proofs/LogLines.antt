@@ -1,17 +1,8 @@
 -- The lines of steps, one after the other.
-use Rattle.std.proofs.Common.{◌≡◌, sym, ap, subst, refl, ◌∙◌, ℕ, zero, suc, ◌+◌, ◌<◌, List, [], ◌∷◌, ◌++◌, map, length, take, get_or, All, arith, inl, inr}
+use Rattle.std.proofs.Common.{◌≡◌, sym, ap, subst, ◌∙◌, ℕ, ◌+◌, ◌<◌, List, [], ◌∷◌, ◌++◌, map, length, take, get_or, All, arith, inl, inr}
 use Rattle.std.proofs.lemmas.Bool.{cases_lt}
-use Rattle.std.proofs.lemmas.List.{get_or_default, map-append, take_more, take_all}
-use Rattle.std.proofs.lemmas.List.Elements.{All-head, All-tail, All-contains, All-push, Contains-get_or}
-use Rattle.heesch_grid.specs.CoronaFormula.{Variable}
-use Rattle.heesch_cnf.specs.declared.literal.Lit.{Lit}
-use Rattle.heesch_cnf.specs.declared.log.Line.{Line}
-use Rattle.heesch_cnf.specs.declared.log.Line.TheVariants.{Learn as LearnLine, Given}
-use Rattle.heesch_cert.specs.Cuts.{cut_clause}
-use Rattle.heesch_cert.specs.declared.proof.Step.{Step}
-use Rattle.heesch_cert.specs.declared.proof.Step.TheVariants.{Learn, Cut}
-use Rattle.heesch_cert.specs.Proofs.{IsLearnStep, line_of_step}
-use Rattle.heesch_audit.specs.Logs.{given_clause, line_with, lines_with}
+use Rattle.std.proofs.lemmas.List.{get_or_default, map-append, take_more}
+use Rattle.std.proofs.lemmas.List.Elements.{All-contains, All-push, Contains-get_or}
 
 module _ {S L : Type 0} (P : S → Type 0) (f : S → L) (steps : List S) (i : ℕ) (s : S) (below : i < length steps) (is : s ≡ get_or steps i s) where
   more : take (i + 1) steps ≡ take i steps ++ s ∷ []
@@ -35,29 +26,3 @@ each_more P xs i x below is p before k d l =
           let same : i ≡ k = omega (arith, top, l) in
           subst (λ n. P (get_or xs n d)) same (subst P (is ∙ get_or_default xs i x d below) p)
     ]
-
--- there is a line for each step
-pub lines_with-length : (steps : List Step) (given : List (List Lit)) → length (lines_with steps given) ≡ length steps
-lines_with-length [] given = refl
-lines_with-length (s ∷ ss) [] = ap suc (lines_with-length ss [])
-lines_with-length (s ∷ ss) (c ∷ cs) = ap suc (lines_with-length ss cs)
-
--- the line of a place
-pub lines_with-at : (steps : List Step) (given : List (List Lit)) (i : ℕ) (s : Step) (d : Line) → i < length steps → get_or (lines_with steps given) i d ≡ line_with (get_or steps i s) (get_or given i [])
-lines_with-at [] given i s d lt = absurd (omega (arith, lt))
-lines_with-at (x ∷ xs) [] zero s d lt = refl
-lines_with-at (x ∷ xs) [] (suc i) s d lt = lines_with-at xs [] i s d (omega (arith, lt))
-lines_with-at (x ∷ xs) (c ∷ cs) zero s d lt = refl
-lines_with-at (x ∷ xs) (c ∷ cs) (suc i) s d lt = lines_with-at xs cs i s d (omega (arith, lt))
-
--- with what their steps give, these are the lines of the steps
-pub lines_of_given : (vars : List Variable) (steps : List Step) → lines_with steps (map (given_clause vars) steps) ≡ map (line_of_step vars) steps
-lines_of_given vars [] = refl
-lines_of_given vars (Learn clause hints ∷ ss) = ap (λ (ls : List Line). LearnLine clause hints ∷ ls) (lines_of_given vars ss)
-lines_of_given vars (Cut cut ∷ ss) = ap (λ (ls : List Line). Given (cut_clause vars cut) ∷ ls) (lines_of_given vars ss)
-
--- learnt steps ask for no clause
-pub lines_of_learnt : (steps : List Step) → All IsLearnStep steps → lines_with steps [] ≡ map (line_of_step []) steps
-lines_of_learnt [] all = refl
-lines_of_learnt (Learn clause hints ∷ ss) all = ap (λ (ls : List Line). LearnLine clause hints ∷ ls) (lines_of_learnt ss (All-tail IsLearnStep (Learn clause hints) ss all))
-lines_of_learnt (Cut cut ∷ ss) all = absurd (All-head IsLearnStep (Cut cut) ss all)

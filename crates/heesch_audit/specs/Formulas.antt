@@ -22,8 +22,8 @@ pub record IsFormulaAt (version : Version) (g : Geometry) (shape : List Cell) (j
   pub fits : formula_size formula.clauses ≤ size
 
 -- it is E(S, j) under the limits, or there is none, since that has more literals than they allow
-abbrev pub IsLevelFormula : Geometry → Limits → List Cell → ℕ → Option FlatEncoded → Type 0
-IsLevelFormula g limits shape j encoded = MatchOption encoded (IsTooLarge limits.version g shape j limits.size) (λ (e : FlatEncoded). IsFormulaAt limits.version g shape j limits.size e.universe e.formula)
+abbrev pub IsLevelFormula : {G : Type 0} → Geometry → Limits → List Cell → ℕ → Option (FlatEncoded G) → Type 0
+IsLevelFormula g limits shape j encoded = MatchOption encoded (IsTooLarge limits.version g shape j limits.size) (λ e. IsFormulaAt limits.version g shape j limits.size e.universe e.formula)
 
 -- the search with holes allowed has an end that a formula is needed for
 abbrev pub AsksFormula : Bare → Type 0

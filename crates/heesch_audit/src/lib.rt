@@ -9,7 +9,6 @@ mod form;
 mod formula;
 mod logs;
 mod near;
-mod prooflog;
 mod shaped;
 mod spelling;
 mod triples;

@@ -46,7 +46,9 @@ fn single_triangles_have_the_entries_worked_by_hand(rt: HostRuntime) -> Result<(
         let line = format!(in alloc; "classify iamond 1 {options}")?;
         let rest = if lines.contains("end") { "" } else { corona };
         let version = if options.ends_with("version 1") { 1 } else { 2 };
-        let text = format!(in alloc; "heesch {version} iamond 1 {limits}\nshape 1,1\n{lines}{rest}")?;
+        let text = format!(in alloc;
+            "heesch {version} iamond 1 {limits}\nshape 1,1\n{lines}{rest}"
+        )?;
         let held = written(&rt, alloc, &line)?;
         assert_eq!(rt; held.as_slice(), text.as_bytes(), "{line}");
     }

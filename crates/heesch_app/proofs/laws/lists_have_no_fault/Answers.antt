@@ -1,6 +1,5 @@
-use Rattle.heesch_stream.specs.Taking.{input_max}
-use Rattle.heesch_app.proofs.GivenOnce.{no_fault_within}
+use Rattle.heesch_app.proofs.GivenOnce.{no_fault}
 use Rattle.heesch_app.proofs.laws.lists_have_no_fault.Goals as goal
 
 pub returns : goal.returns
-returns c = no_fault_within input_max
+returns c = no_fault

@@ -1,8 +1,8 @@
-use Rattle.std.proofs.Common.{◌≡◌, List, subst}
+use Rattle.std.proofs.Common.{subst}
 use Rattle.std.specs.Prelude.{Option, MatchOption}
-use Rattle.heesch_cnf.specs.declared.literal.Lit.{Lit}
-use Rattle.heesch_cert.specs.Proofs.{IsLawfulStep}
-use Rattle.heesch_audit.specs.Logs.{given_clause}
+use Rattle.heesch_cnf.specs.declared.log.Line.{Line}
+use Rattle.heesch_cert.specs.Proofs.{IsLawfulStep, line_of_step}
+use Rattle.heesch_audit.specs.Logs.{IsLineOf}
 use Rattle.heesch_audit.proofs.LogLines.{all_more, lines_more}
 use Rattle.heesch_audit.proofs.logs.lawful_log.Goals as goal
 
@@ -12,10 +12,9 @@ loop-step-preserved g c =
     let steps = c.as_slice-step-items.result.now in
     let i = c.loop-step.step-index in
     let step = c.step-item.result in
-    let clause = c.in-Some.clause in
-    let Lawful = IsLawfulStep g.G.Grid.geometry c.args.shape.now u.level u.vars in
-    let found = subst (λ (o : Option (List Lit)). MatchOption o (¬ IsLawfulStep g.G.Grid.geometry c.args.shape.now u.level u.vars step) (λ ls. IsLawfulStep g.G.Grid.geometry c.args.shape.now u.level u.vars step × (ls ≡ given_clause u.vars step))) c.in-Some.is c.in_ok-clause.ensures in
+    let line = c.in-Some.line in
+    let found = subst (λ (o : Option Line). MatchOption o (¬ IsLawfulStep g.G.Grid.geometry c.args.shape.now u.level u.vars step) (IsLineOf g.G.Grid.geometry c.args.shape.now u.level u.vars step)) c.in-Some.is c.in_ok-line.ensures in
     record {
-      lawful = all_more Lawful (given_clause u.vars) steps i step c.loop-step-test.true c.step-item.is found.0 c.loop-step.invariant.lawful;
-      same = lines_more Lawful (given_clause u.vars) steps i step c.loop-step-test.true c.step-item.is clause c.loop-step.given c.push.new.self found.1 c.loop-step.invariant.same c.in_ok-push.ensures.ok;
+      lawful = all_more (IsLawfulStep g.G.Grid.geometry c.args.shape.now u.level u.vars) (line_of_step u.vars) steps i step c.loop-step-test.true c.step-item.is found.0 c.loop-step.invariant.lawful;
+      same = lines_more (IsLawfulStep g.G.Grid.geometry c.args.shape.now u.level u.vars) (line_of_step u.vars) steps i step c.loop-step-test.true c.step-item.is line c.loop-step.lines c.push.new.self found.1 c.loop-step.invariant.same c.in_ok-push.ensures.ok;
     }
