@@ -1,5 +1,5 @@
 #!/usr/bin/env bash
-# Compares `heesch classify` with a plain Rust program of the same methods (classify.rs), by one worker and the default
+# Compares `heesch classify --version 1` with a plain Rust program of the same methods (classify.rs), by one worker and the default
 # limits, on the catalogues that are named, as `classify.sh square 7 hex 5`: the user seconds of both and their ratio,
 # the bytes of both texts, how many verdict lines differ, and what `heesch check` says of the plain program's text. A
 # line with the verdicts' tally follows, of the plain program.
@@ -24,7 +24,7 @@ while [ $# -ge 2 ]; do
   plain=$(seconds "$work/plain" "$work/classify" "$1" "$2")
   bytes=$(wc -c < "$work/plain")
   if [ -x $program ]; then
-    heesch=$(seconds "$work/heesch" $program classify "$1" "$2")
+    heesch=$(seconds "$work/heesch" $program classify "$1" "$2" --version 1)
     differ=$(diff <(grep ^verdict "$work/heesch") <(grep ^verdict "$work/plain") | grep -c '^>' || true)
     ratio=$(awk -v a="$heesch" -v b="$plain" 'BEGIN { if (b > 0) printf "%.2f", a / b; else printf "-" }')
     echo "$1 $2: heesch $heesch, plain Rust $plain, ratio $ratio, bytes $(wc -c < "$work/heesch") and $bytes," \

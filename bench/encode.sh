@@ -18,7 +18,7 @@ mkdir -p "$bench/src" "$bench/proofs/canonical_of"
 cp ../HANDLES "$work"
 cp encode.rattle "$bench/src/main.rt"
 sed 's/heesch_encode.proofs.tests/bench.proofs/' ../crates/heesch_encode/proofs/tests/canonical_of/Answers.antt > "$bench/proofs/canonical_of/Answers.antt"
-echo 'bench: heesch_encode heesch_place heesch_shape heesch_grid anyhow' >> "$work/crates.txt"
+echo 'bench: heesch_encode heesch_place heesch_cnf heesch_shape heesch_grid anyhow' >> "$work/crates.txt"
 (cd "$bench" && rt run < /dev/null > "$work/log" 2>&1) || { tail -n 20 "$work/log" >&2; exit 1; }
 echo "Rattle:"; "$bench/out/bench"
 echo "plain Rust:"; "$work/encode" 3 0,0 1,0 2,0 0,1 1,1 2,1 0,2
