@@ -2,18 +2,23 @@
 use Rattle.std.proofs.Common.{◌≤◌, ℕ, List, arith}
 use Rattle.heesch_cert.specs.declared.header.Subject.TheVariants.{Size, Given}
 use Rattle.heesch_grid.specs.declared.GridName.{GridName}
+use Rattle.heesch_grid.specs.declared.GridName.TheVariants.{Square, Hex, Iamond}
 use Rattle.heesch_words.specs.declared.requests.Request.{Request}
 use Rattle.heesch_words.specs.declared.requests.Request.TheVariants.{List as ListRequest, Plain as PlainRequest, Classify as ClassifyRequest, Check as CheckRequest, Table as TableRequest, Sample as SampleRequest}
 use Rattle.heesch_cnf.specs.declared.version.Version.{Version}
-use Rattle.heesch_cnf.specs.declared.version.Version.TheVariants.{Two}
+use Rattle.heesch_cnf.specs.declared.version.Version.TheVariants.{One, Two}
 use Rattle.heesch_cert.specs.Sizes.{most_cells}
 use Rattle.heesch_words.specs.Requests.{Asks}
-use Rattle.heesch_line.proofs.FieldLaws.{few_cells}
 use Rattle.heesch_words.proofs.Ranges.{asked_in_range as words_in_range}
 use Rattle.heesch_app.specs.Ranges.{IsInRange}
 
 at_most_31 : (version : Version) (grid : GridName) (n : ℕ) → n ≤ most_cells version grid → n ≤ 31
-at_most_31 version grid n h = let few = few_cells version grid in omega (arith, few, h)
+at_most_31 One Square n h = omega arith
+at_most_31 One Hex n h = omega arith
+at_most_31 One Iamond n h = omega arith
+at_most_31 Two Square n h = omega arith
+at_most_31 Two Hex n h = omega arith
+at_most_31 Two Iamond n h = omega arith
 
 pub asked_in_range : (words : List (List ℕ)) (request : Request) → Asks words request → IsInRange request
 asked_in_range words (ListRequest grid n workers) asks =

@@ -13,8 +13,7 @@ use Rattle.heesch_cert.specs.declared.limits.Limits.{Limits}
 use Rattle.heesch_cert.specs.Limits.{AreLimits}
 use Rattle.heesch_cnf.specs.declared.version.Version.{Version}
 use Rattle.heesch_cnf.specs.declared.version.Version.TheVariants.{One, Two}
-use Rattle.heesch_cert.specs.Sizes.{IsSubject}
-use Rattle.heesch_line.proofs.FieldLaws.{few_cells}
+use Rattle.heesch_cert.specs.Sizes.{most_cells, IsSubject}
 use Rattle.heesch_text.specs.declared.line.Line.{Line}
 use Rattle.heesch_text.specs.declared.line.Line.TheVariants as lines
 use Rattle.heesch_text.specs.Names.{version_text, subject_text}
@@ -90,6 +89,14 @@ grid_length Iamond = omega arith
 version_length : (version : Version) → length (version_text version) ≤ 3
 version_length One = omega arith
 version_length Two = omega arith
+
+few_cells : (version : Version) (grid : GridName) → most_cells version grid ≤ 18
+few_cells One Square = omega arith
+few_cells One Hex = omega arith
+few_cells One Iamond = omega arith
+few_cells Two Square = omega arith
+few_cells Two Hex = omega arith
+few_cells Two Iamond = omega arith
 
 subject_length : (version : Version) (grid : GridName) (subject : Subject) → IsSubject version grid subject → length (subject_text subject) ≤ 10
 subject_length version grid (Size n) is = let low = few_cells version grid in let high = is.1 in length-decimal-le 10 n (omega arith) (omega (arith, low, high)) (omega (arith, low, high))
