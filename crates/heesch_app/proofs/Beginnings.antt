@@ -11,7 +11,7 @@ use Rattle.heesch_grid.specs.Geometry.{Geometry}
 use Rattle.heesch_grid.specs.Names.{geometry_of}
 use Rattle.heesch_text.specs.Catalogue.{catalogue_text, begun_text}
 use Rattle.heesch_words.specs.declared.requests.Request.{Request}
-use Rattle.heesch_words.specs.declared.requests.Request.TheVariants.{List as ListRequest, Plain as PlainRequest, Classify as ClassifyRequest, Check as CheckRequest, Table as TableRequest, Sample as SampleRequest}
+use Rattle.heesch_words.specs.declared.requests.Request.TheVariants.{List as ListRequest, Plain as PlainRequest, Classify as ClassifyRequest, Check as CheckRequest, Table as TableRequest, Sample as SampleRequest, Formula as FormulaRequest, Answer as AnswerRequest}
 use Rattle.heesch_catalogue.specs.Catalogues.{AreEntries, IsCatalogue, IsBegunCatalogue}
 use Rattle.heesch_app.specs.declared.status.Status.{Status}
 use Rattle.heesch_app.specs.Outputs.{IsOutput, IsBegunOutput, IsGivenAnswer, IsBegunGivenAnswer, header_of}
@@ -40,3 +40,5 @@ begins_itself (PlainRequest grid n workers) left status output is = (status, is)
 begins_itself (CheckRequest workers) left status output is = (status, is)
 begins_itself TableRequest left status output is = (status, is)
 begins_itself (SampleRequest grid n count seed limits workers) left status output is = (status, is)
+begins_itself (FormulaRequest grid level size version) left status output is = (status, is)
+begins_itself (AnswerRequest grid level size version) left status output is = (status, is)

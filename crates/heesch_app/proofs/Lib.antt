@@ -1,9 +1,9 @@
 mod Beginnings
 mod GivenLists
-mod GivenOnce
 mod Headline
 mod PlainAnswers
 mod PlainLines
 mod Ranges
 mod ReadingLaws
+mod ToldExchanges
 mod ValidOutputs

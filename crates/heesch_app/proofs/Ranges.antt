@@ -2,23 +2,18 @@
 use Rattle.std.proofs.Common.{◌≤◌, ℕ, List, arith}
 use Rattle.heesch_cert.specs.declared.header.Subject.TheVariants.{Size, Given}
 use Rattle.heesch_grid.specs.declared.GridName.{GridName}
-use Rattle.heesch_grid.specs.declared.GridName.TheVariants.{Square, Hex, Iamond}
 use Rattle.heesch_words.specs.declared.requests.Request.{Request}
-use Rattle.heesch_words.specs.declared.requests.Request.TheVariants.{List as ListRequest, Plain as PlainRequest, Classify as ClassifyRequest, Check as CheckRequest, Table as TableRequest, Sample as SampleRequest}
+use Rattle.heesch_words.specs.declared.requests.Request.TheVariants.{List as ListRequest, Plain as PlainRequest, Classify as ClassifyRequest, Check as CheckRequest, Table as TableRequest, Sample as SampleRequest, Formula as FormulaRequest, Answer as AnswerRequest}
 use Rattle.heesch_cnf.specs.declared.version.Version.{Version}
-use Rattle.heesch_cnf.specs.declared.version.Version.TheVariants.{One, Two}
+use Rattle.heesch_cnf.specs.declared.version.Version.TheVariants.{Two}
 use Rattle.heesch_cert.specs.Sizes.{most_cells}
+use Rattle.heesch_cert.proofs.FewCells.{few_cells}
 use Rattle.heesch_words.specs.Requests.{Asks}
 use Rattle.heesch_words.proofs.Ranges.{asked_in_range as words_in_range}
 use Rattle.heesch_app.specs.Ranges.{IsInRange}
 
 at_most_31 : (version : Version) (grid : GridName) (n : ℕ) → n ≤ most_cells version grid → n ≤ 31
-at_most_31 One Square n h = omega arith
-at_most_31 One Hex n h = omega arith
-at_most_31 One Iamond n h = omega arith
-at_most_31 Two Square n h = omega arith
-at_most_31 Two Hex n h = omega arith
-at_most_31 Two Iamond n h = omega arith
+at_most_31 version grid n h = let few = few_cells version grid in omega (arith, h, few)
 
 pub asked_in_range : (words : List (List ℕ)) (request : Request) → Asks words request → IsInRange request
 asked_in_range words (ListRequest grid n workers) asks =
@@ -36,5 +31,11 @@ asked_in_range words (ClassifyRequest grid Given limits workers brief) asks =
 asked_in_range words (CheckRequest workers) asks = words_in_range words (CheckRequest workers) asks
 asked_in_range words TableRequest asks = tt
 asked_in_range words (SampleRequest grid n count seed limits workers) asks =
-    let (sample, limits_are, some, few) = words_in_range words (SampleRequest grid n count seed limits workers) asks in
+    let (sample, _, limits_are, some, few) = words_in_range words (SampleRequest grid n count seed limits workers) asks in
     (sample.cells.0, sample.cells.1, sample.shapes.1, limits_are, some, few)
+asked_in_range words (FormulaRequest grid level size version) asks =
+    let (formula, _) = words_in_range words (FormulaRequest grid level size version) asks in
+    (formula.level_range.0, formula.level_range.1, formula.size_range.0, formula.size_range.1)
+asked_in_range words (AnswerRequest grid level size version) asks =
+    let (formula, _) = words_in_range words (AnswerRequest grid level size version) asks in
+    (formula.level_range.0, formula.level_range.1, formula.size_range.0, formula.size_range.1)

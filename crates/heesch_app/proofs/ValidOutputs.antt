@@ -36,7 +36,8 @@ use Rattle.heesch_app.specs.declared.status.Status.{Status}
 use Rattle.heesch_app.specs.declared.status.Status.TheVariants.{Done, Invalid, BadInput}
 use Rattle.heesch_app.specs.Checks.{check_status}
 use Rattle.heesch_app.specs.Tables.{table_status}
-use Rattle.heesch_app.specs.Inputs.{AreGiven, IsCanonicalOf}
+use Rattle.heesch_given.specs.Given.{AreGiven, IsCanonicalOf}
+use Rattle.heesch_stream.specs.Taking.{input_max}
 use Rattle.heesch_app.specs.Outputs.{IsOutput, IsAnswer, header_of, WritesValid}
 
 -- ---- the entries are good, each in its place
@@ -93,7 +94,7 @@ few_given g (c ∷ given) (s ∷ shapes) all = ap suc (few_given g given shapes 
 few_given g [] (s ∷ shapes) all = absurd all
 few_given g (c ∷ given) [] all = absurd all
 
-given_valid : (grid : GridName) (limits : Limits) (input : List ℕ) (shapes : List (List Cell)) (text : List ℕ) → IsLine (lines.Header (header_of grid Given limits false)) → AreGiven (geometry_of grid) input shapes
+given_valid : (grid : GridName) (limits : Limits) (input : List ℕ) (shapes : List (List Cell)) (text : List ℕ) → IsLine (lines.Header (header_of grid Given limits false)) → AreGiven input_max (geometry_of grid) input shapes
     → IsCatalogue (geometry_of grid) (header_of grid Given limits false) shapes text → (count : ℕ) × IsValid text count
 given_valid grid limits input shapes text form given (es, are, read, is) =
     let header = header_of grid Given limits false in
@@ -104,7 +105,7 @@ given_valid grid limits input shapes text form given (es, are, read, is) =
 
 header_in_range : (words : List (List ℕ)) (grid : GridName) (subject : Subject) (limits : Limits) (workers : ℕ) → Asks words (ClassifyRequest grid subject limits workers false) → IsLine (lines.Header (header_of grid subject limits false))
 header_in_range words grid (Size n) limits workers asks = let r = asked_in_range words (ClassifyRequest grid (Size n) limits workers false) asks in (r.0, r.1)
-header_in_range words grid Given limits workers asks = let r = asked_in_range words (ClassifyRequest grid Given limits workers false) asks in (tt, r.1)
+header_in_range words grid Given limits workers asks = let r = asked_in_range words (ClassifyRequest grid Given limits workers false) asks in (r.0, r.1)
 
 answer_valid : (words : List (List ℕ)) (left : Option (List ℕ)) (text : List ℕ) (grid : GridName) (subject : Subject) (limits : Limits) (workers : ℕ) → Asks words (ClassifyRequest grid subject limits workers false)
     → IsOutput (ClassifyRequest grid subject limits workers false) left Done text → (count : ℕ) × IsValid text count

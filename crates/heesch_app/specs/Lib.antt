@@ -1,5 +1,5 @@
 pub mod Checks
-pub mod Given
+pub mod Exchanges
 pub mod Inputs
 pub mod Outputs
 pub mod Ranges

@@ -19,19 +19,22 @@ use Rattle.heesch_text.specs.Plains.{plain_list_text}
 use Rattle.heesch_text.specs.Shapes.{list_text}
 use Rattle.heesch_tiling.specs.declared.found.Plain.{Plain}
 use Rattle.heesch_words.specs.declared.requests.Request.{Request}
-use Rattle.heesch_words.specs.declared.requests.Request.TheVariants.{List as ListRequest, Plain as PlainRequest, Classify as ClassifyRequest, Check as CheckRequest, Table as TableRequest, Sample as SampleRequest}
+use Rattle.heesch_words.specs.declared.requests.Request.TheVariants.{List as ListRequest, Plain as PlainRequest, Classify as ClassifyRequest, Check as CheckRequest, Table as TableRequest, Sample as SampleRequest, Formula as FormulaRequest, Answer as AnswerRequest}
 use Rattle.heesch_words.specs.Requests.{Asks}
 use Rattle.heesch_app.specs.declared.status.Status.{Status}
 use Rattle.heesch_app.specs.declared.status.Status.TheVariants.{Done, BadInput}
 use Rattle.heesch_catalogue.specs.Catalogues.{IsCatalogue, IsBegunCatalogue, IsCatalogueOfSize, IsBegunCatalogueOfSize}
-use Rattle.heesch_app.specs.Inputs.{AreGiven, HasFault, bad_input_text}
+use Rattle.heesch_given.specs.Given.{AreGiven, HasFault}
+use Rattle.heesch_app.specs.Inputs.{bad_input_text}
 use Rattle.heesch_app.specs.Checks.{check_status, check_text}
+use Rattle.heesch_app.specs.Exchanges.{IsFormulaAnswer, IsModelAnswer}
 use Rattle.heesch_app.specs.Tables.{table_status, table_text}
 use Rattle.heesch_app.specs.Tilings.{ArePlain}
 use Rattle.heesch_check.specs.Answers.{IsChecked, IsValid}
 use Rattle.heesch_check.specs.declared.answers.Checked.{Checked}
 use Rattle.heesch_sample.specs.Samples.{IsSample}
 use Rattle.heesch_stream.specs.Input.{IsAllOf}
+use Rattle.heesch_stream.specs.Taking.{input_max}
 use Rattle.heesch_tabulate.specs.declared.answers.Tabulated.{Tabulated}
 use Rattle.heesch_tabulate.specs.Tabulating.{IsTabulated}
 
@@ -56,7 +59,16 @@ abbrev pub Reads : Request → Type 0
 Reads (ClassifyRequest grid Given limits workers brief) = ⊤
 Reads (CheckRequest workers) = ⊤
 Reads TableRequest = ⊤
+Reads (FormulaRequest grid level size version) = ⊤
+Reads (AnswerRequest grid level size version) = ⊤
 Reads _ = ⊥
+
+-- the request reads to the end what the source has left
+abbrev pub ReadsToEnd : Request → Type 0
+ReadsToEnd (ClassifyRequest grid Given limits workers brief) = ⊤
+ReadsToEnd (FormulaRequest grid level size version) = ⊤
+ReadsToEnd (AnswerRequest grid level size version) = ⊤
+ReadsToEnd _ = ⊥
 
 -- this holds of the bytes that the source had left, or of some bytes where it doesn't tell them
 abbrev pub OfInput : Option (List ℕ) → (List ℕ → Type 0) → Type 0
@@ -65,14 +77,14 @@ OfInput left P = (input : List ℕ) × IsAllOf left input × P input
 -- what is answered of a list text: the catalogue text of its shapes, or its first fault
 abbrev pub IsGivenAnswer : Geometry → Header → Status → List ℕ → List ℕ → Type 0
 IsGivenAnswer g header status output input =
-    ((status ≡ Done) × ((shapes : List (List Cell)) × AreGiven g input shapes × IsCatalogue g header shapes output))
-    ⊎ ((status ≡ BadInput) × ((line : ℕ) × (number : ℕ) × HasFault g input line number × (output ≡ bad_input_text line number)))
+    ((status ≡ Done) × ((shapes : List (List Cell)) × AreGiven input_max g input shapes × IsCatalogue g header shapes output))
+    ⊎ ((status ≡ BadInput) × ((line : ℕ) × (number : ℕ) × HasFault input_max g input line number × (output ≡ bad_input_text line number)))
 
 -- the same of a beginning: of a catalogue as much as some first entries decide
 abbrev pub IsBegunGivenAnswer : Geometry → Header → List ℕ → List ℕ → Type 0
 IsBegunGivenAnswer g header output input =
-    ((shapes : List (List Cell)) × AreGiven g input shapes × IsBegunCatalogue g header shapes output)
-    ⊎ ((line : ℕ) × (number : ℕ) × HasFault g input line number × (output ≡ bad_input_text line number))
+    ((shapes : List (List Cell)) × AreGiven input_max g input shapes × IsBegunCatalogue g header shapes output)
+    ⊎ ((line : ℕ) × (number : ℕ) × HasFault input_max g input line number × (output ≡ bad_input_text line number))
 
 -- what is answered to `check` of the bytes: that they are a valid catalogue, or their first invalid part
 abbrev pub IsCheckAnswer : Status → List ℕ → List ℕ → Type 0
@@ -92,6 +104,8 @@ IsOutput (ClassifyRequest grid Given limits workers brief) left status output = 
 IsOutput (CheckRequest workers) left status output = OfInput left (IsCheckAnswer status output)
 IsOutput TableRequest left status output = IsTableAnswer left status output
 IsOutput (SampleRequest grid n count seed limits workers) left status output = (status ≡ Done) × IsSample (geometry_of grid) n count seed limits output
+IsOutput (FormulaRequest grid level size version) left status output = OfInput left (IsFormulaAnswer version (geometry_of grid) level size status output)
+IsOutput (AnswerRequest grid level size version) left status output = OfInput left (IsModelAnswer version (geometry_of grid) level size status output)
 
 -- the output is what the request asks to be written, or for a catalogue as much of it as some first entries decide
 abbrev pub IsBegunOutput : Request → Option (List ℕ) → List ℕ → Type 0

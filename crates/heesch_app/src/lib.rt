@@ -3,9 +3,8 @@
 
 mod bad_input;
 mod checks;
-mod given;
+mod exchanges;
 mod given_catalogue;
-pub mod laws;
 mod listing;
 mod program;
 mod reading;

@@ -6,6 +6,7 @@ ghost use Rattle.heesch_app.specs.Outputs.{IsListing};
 
 use heesch_grid::{Grid, GridName, Hex, Iamond, Square};
 use heesch_io::NoMemory;
+use heesch_kite::Kite;
 use heesch_listing::all_shapes;
 use heesch_pool::Gate;
 use heesch_shape::Shape;
@@ -30,6 +31,7 @@ pub fn listing<T: Threads + Sync, H: Gate + Sync>(
         GridName::Square => listing_of::<Square, T, H>(rt, alloc, n, workers, gate),
         GridName::Hex => listing_of::<Hex, T, H>(rt, alloc, n, workers, gate),
         GridName::Iamond => listing_of::<Iamond, T, H>(rt, alloc, n, workers, gate),
+        GridName::Kite => listing_of::<Kite, T, H>(rt, alloc, n, workers, gate),
     }
 }
 

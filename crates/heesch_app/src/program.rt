@@ -2,19 +2,25 @@ ghost use Rattle.std.specs.Prelude.{◌≡◌, ◌≢◌, ◌≤◌, ◌<◌, �
 ghost use Rattle.heesch_cert.specs.declared.header.Subject.{Subject};
 ghost use Rattle.heesch_cert.specs.declared.limits.Limits.{Limits};
 ghost use Rattle.heesch_check.specs.Answers.{IsValid};
+ghost use Rattle.heesch_cnf.specs.declared.version.Version.{Version};
 ghost use Rattle.heesch_grid.specs.declared.GridName.{GridName};
+ghost use Rattle.heesch_grid.specs.Names.{geometry_of};
+ghost use Rattle.std.specs.Io.KnownBytes.{IsAtEnd};
 ghost use Rattle.heesch_io.specs.Causes.{Rose};
-ghost use Rattle.heesch_words.specs.declared.requests.Request.TheVariants.{Classify as ClassifyRequest, Check as CheckRequest, Table as TableRequest};
+ghost use Rattle.heesch_words.specs.declared.requests.Request.{Request as RequestOf};
+ghost use Rattle.heesch_words.specs.declared.requests.Request.TheVariants.{Classify as ClassifyRequest, Check as CheckRequest, Table as TableRequest, Formula as FormulaRequest, Answer as AnswerRequest};
 ghost use Rattle.heesch_tabulate.specs.Tabulating.{IsTallied};
 ghost use Rattle.heesch_words.specs.Requests.{Asks};
-ghost use Rattle.heesch_app.specs.Outputs.{IsAccepted, IsOutput, Reads, AreReading, Writes, WritesPrefix, AsksForCatalogue, IsCatalogued, WritesValid};
+ghost use Rattle.heesch_app.specs.Outputs.{IsAccepted, IsOutput, Reads, ReadsToEnd, AreReading, Writes, WritesPrefix, AsksForCatalogue, IsCatalogued, WritesValid};
+ghost use Rattle.heesch_app.specs.Exchanges.{WritesFormula, WritesAnswer};
 ghost use Rattle.heesch_app.specs.Ranges.{IsInRange};
 
 use crate::Status;
 use crate::checks::checked_reply;
+use crate::exchanges::{formula_reply, model_reply};
 use crate::given_catalogue::given_catalogue;
 use crate::listing::listing;
-use crate::reading::{ReadStop, read_all};
+use crate::reading::ReadStop;
 use crate::reply::Reply;
 use crate::tables::table_reply;
 use crate::tilings::plain_listing;
@@ -45,6 +51,10 @@ pub fn run<T: Threads + Sync, R: Source, W: Sink, H: Gate + Sync>(
     // Nothing is read by a form that reads nothing.
     ensures unread { ¬ AreReading (map string_bytes words.now) → source.new ≡ source.old }
 
+    // A form that reads shapes or a model reads them to the end of the source before it ends Done.
+    ensures read_to_end { result ≡ Status.Done → (request : RequestOf) → Asks (map string_bytes words.now) request
+        → ReadsToEnd request → IsAtEnd (R.left source.new) }
+
     ensures done { result ≡ Status.Done →
         Writes (map string_bytes words.now) (R.left source.old) Status.Done (W.held sink.old) (W.held sink.new) }
     // The headline: whatever the grid, the size, the limits, the workers and the order of their steps, a full catalogue
@@ -65,6 +75,14 @@ pub fn run<T: Threads + Sync, R: Source, W: Sink, H: Gate + Sync>(
         → Asks (map string_bytes words.now) (CheckRequest workers) → result ≡ Status.BadInput → 2 ^ 40 < length input }
     ensures tables { (input tally : List ℕ) → R.left source.old ≡ Some input
         → Asks (map string_bytes words.now) TableRequest → IsTallied (Some input) tally → result ≢ Status.BadInput }
+    // A formula that was written is E(S, J), which is satisfiable exactly where J coronas of the given shape S exist; and what
+    // was written of a model of it is J coronas of S, or the least clause that it makes false.
+    ensures formulas { result ≡ Status.Done → (grid : GridName) (level size : ℕ) (version : Version)
+        → Asks (map string_bytes words.now) (FormulaRequest grid level size version)
+        → WritesFormula version (geometry_of grid) level size (R.left source.old) (W.held sink.old) (W.held sink.new) }
+    ensures answers { result ≡ Status.Done → (grid : GridName) (level size : ℕ) (version : Version)
+        → Asks (map string_bytes words.now) (AnswerRequest grid level size version)
+        → WritesAnswer version (geometry_of grid) level size (R.left source.old) (W.held sink.old) (W.held sink.new) }
     ensures bad_input { result ≡ Status.BadInput →
         Writes (map string_bytes words.now) (R.left source.old) Status.BadInput (W.held sink.old) (W.held sink.new) }
     ensures invalid { result ≡ Status.Invalid →
@@ -107,6 +125,7 @@ fn reply<T: Threads + Sync, R: Source, H: Gate + Sync>(
 ) -> Result<Reply, ReadStop>
     requires { IsInRange request }
     ensures ok { IfOk result (λ r. IsOutput request (R.left source.old) r.status r.text.items) }
+    ensures ended { IfOk result (λ r. r.status ≡ Status.Done → ReadsToEnd request → IsAtEnd (R.left source.new)) }
     ensures failed { result ≡ Err ReadStop.Failed → Reads request × Rose (R.faults source.old) (R.faults source.new) }
     ensures unread { ¬ Reads request → source.new ≡ source.old }
 {
@@ -119,6 +138,18 @@ fn reply<T: Threads + Sync, R: Source, H: Gate + Sync>(
         }
         Request::Check { workers } => checked_reply(rt, alloc, source, workers, gate),
         Request::Table => table_reply(alloc, source),
+        Request::Formula {
+            grid,
+            level,
+            size,
+            version,
+        } => formula_reply(alloc, grid, level, size, version, source),
+        Request::Answer {
+            grid,
+            level,
+            size,
+            version,
+        } => model_reply(alloc, grid, level, size, version, source),
         Request::Sample {
             grid,
             n,
@@ -142,12 +173,7 @@ fn reply<T: Threads + Sync, R: Source, H: Gate + Sync>(
             };
             match subject {
                 Subject::Size { n } => Reply::done(catalogue(rt, alloc, &header, n, workers, gate)),
-                Subject::Given => {
-                    let input = read_all(alloc, source)?;
-                    given_catalogue(rt, alloc, &header, &input, workers, gate).map_err(
-                        |_| ReadStop::NoMemory,
-                    )
-                }
+                Subject::Given => given_catalogue(rt, alloc, &header, source, workers, gate),
             }
         }
     }

@@ -1,5 +1,6 @@
 //! All bytes of a source.
-ghost use Rattle.std.specs.Prelude.{◌≡◌, ◌≤◌, Err, IfOk};
+ghost use Rattle.std.specs.Prelude.{◌≡◌, ◌≤◌, Err, IfOk, OnOk};
+ghost use Rattle.std.specs.Io.KnownBytes.{IsAtEnd};
 ghost use Rattle.heesch_io.specs.Causes.{Rose};
 ghost use Rattle.heesch_stream.specs.Input.{IsAllOf};
 
@@ -21,6 +22,7 @@ pub enum ReadStop {
 /// All bytes that the source has left. The cost is linear in their number.
 pub fn read_all<R: Source>(alloc: Global, source: &mut R) -> Result<Vec<u8>, ReadStop>
     ensures ok { IfOk result (λ bytes. IsAllOf (R.left source.old) bytes.items) }
+    ensures ended { OnOk result (IsAtEnd (R.left source.new)) }
     ensures failed { result ≡ Err ReadStop.Failed → Rose (R.faults source.old) (R.faults source.new) }
     ensures later { R.faults source.old ≤ R.faults source.new }
 {

@@ -8,6 +8,7 @@ ghost use Rattle.heesch_app.specs.Tilings.{ArePlain};
 
 use heesch_grid::{Grid, GridName, Hex, Iamond, Square};
 use heesch_io::NoMemory;
+use heesch_kite::Kite;
 use heesch_listing::all_shapes;
 use heesch_pool::{Answer, Gate, Job, run_all};
 use heesch_shape::Shape;
@@ -34,6 +35,7 @@ pub fn plain_listing<T: Threads + Sync, H: Gate + Sync>(
         GridName::Square => plain_listing_of::<Square, T, H>(rt, alloc, n, workers, gate),
         GridName::Hex => plain_listing_of::<Hex, T, H>(rt, alloc, n, workers, gate),
         GridName::Iamond => plain_listing_of::<Iamond, T, H>(rt, alloc, n, workers, gate),
+        GridName::Kite => plain_listing_of::<Kite, T, H>(rt, alloc, n, workers, gate),
     }
 }
 

@@ -10,7 +10,7 @@ use Rattle.heesch_cnf.specs.declared.version.Version.{Version}
 use Rattle.heesch_cnf.specs.declared.literal.Lit.{Lit}
 use Rattle.heesch_cnf.specs.declared.log.Log.{Log}
 use Rattle.heesch_cnf.specs.Flat.{Clauses}
-use Rattle.heesch_cnf.specs.Lines.{Refutes, IsSpent, LinesHold, LinesAreNew, HasFinal, clauses_with}
+use Rattle.heesch_cnf.specs.Lines.{Refutes, IsSpent, LinesHold, HasFinal, clauses_with}
 use Rattle.heesch_cnf.specs.declared.log.Line.TheVariants.{Given}
 use Rattle.heesch_rup.specs.Answer.{FailsAtLine, FinalFails, IsFirstBad}
 use Rattle.heesch_cert.specs.declared.proof.Proof.{Proof}
@@ -35,9 +35,6 @@ module _ (vars : ℕ) (clauses : List (List Lit)) (log : Log) where
   pub open_not_refuted : log.last ≡ None → ¬ Refutes vars clauses log
   open_not_refuted e r = final_there (clauses_with clauses log.lines) log.last r.final e
 
-  pub refuted_not_spent : (turns : ℕ) → Refutes vars clauses log → ¬ IsSpent vars clauses turns log
-  refuted_not_spent turns r s = open_not_refuted s.unfinished r
-
   bad_line : (at : ℕ) → IsFirstBad vars clauses log at → LinesHold vars clauses log.lines → (at ≡ length log.lines + 1) × FinalFails (clauses_with clauses log.lines) log.last
   bad_line at b lines = elim b.bad [ inl f ↦ absurd (fails f) | inr f ↦ f ]
     where
@@ -46,16 +43,6 @@ module _ (vars : ℕ) (clauses : List (List Lit)) (log : Log) where
 
   pub bad_not_refuted : (at : ℕ) → IsFirstBad vars clauses log at → ¬ Refutes vars clauses log
   bad_not_refuted at b r = final_fails (clauses_with clauses log.lines) log.last (bad_line at b r.lines).1 r.final
-
-  pub bad_not_spent : (at turns : ℕ) → IsFirstBad vars clauses log at → ¬ IsSpent vars clauses turns log
-  bad_not_spent at turns b s = no_fault (bad_line at b s.lines).1
-    where
-      no_fault : FinalFails (clauses_with clauses log.lines) log.last → ⊥
-      no_fault f = subst (FinalFails (clauses_with clauses log.lines)) s.unfinished f
-
-  -- all lines hold, and there is no final line
-  pub spent_where_new : (turns : ℕ) → length log.lines ≡ turns → LinesHold vars clauses log.lines → log.last ≡ None → LinesAreNew clauses log.lines ↔ IsSpent vars clauses turns log
-  spent_where_new turns long lines last = ((λ h. record { used = long; lines = lines; new_lines = h; unfinished = last }), (λ s. s.new_lines))
 
   -- a log with a final line is not spent, and one without refutes nothing
   pub ended_by_final : (turns : ℕ) (hints : List ℕ) → log.last ≡ Some hints → Refutes vars clauses log ↔ (Refutes vars clauses log ⊎ IsSpent vars clauses turns log)

@@ -35,7 +35,8 @@ pub enum EntryAnswer {
 ///
 /// Nothing is searched for but the plain tiling of the shape. A proof costs as many steps as its lines and hints have
 /// literals, besides the formula that it is over: that of a level is made once where both searches are of one level, and
-/// let go before the next is made, and its clauses stand in one array. The clauses of one proof at a time are copied.
+/// let go before the next is made, and its clauses stand in one array. A proof is read where it stands: while it is checked, its
+/// clauses stand once more in one array, and those of its cuts are made.
 pub fn audit<G: Grid>(alloc: Global, entry: &Entry, limits: Limits) -> Result<EntryAnswer, NoMemory>
     requires limits { AreLimits limits }
     requires near { IsNearEntry entry.now }

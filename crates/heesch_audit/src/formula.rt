@@ -6,11 +6,12 @@ ghost use Rattle.heesch_audit.specs.Formulas.{IsLevelFormula};
 ghost use Rattle.heesch_audit.specs.Near.{IsNearProof};
 ghost use Rattle.heesch_audit.specs.Shapes.{IsCanonicalShape};
 
-use crate::logs::{is_refuted, is_spent, lawful_log};
+use crate::logs::{is_refuted, lawful_log};
 use heesch_cert::{Limits, Proof};
 use heesch_encode::{EncodeStop, FlatEncoded, encode_flat};
 use heesch_grid::Grid;
 use heesch_io::NoMemory;
+use heesch_rup::is_spent;
 use heesch_shape::Shape;
 use std::alloc::Global;
 

@@ -9,6 +9,7 @@ mod form;
 mod formula;
 mod logs;
 mod near;
+mod proof_log;
 mod shaped;
 mod spelling;
 mod triples;

@@ -1,10 +1,14 @@
 //! Entries worked by hand, and what is amiss with them where something is changed.
+ghost use Rattle.std.specs.Prelude.{◌≤◌, ◌^◌, IfOk};
+
+use crate::shaped::canonical_shape;
 use crate::{EntryAnswer, audit, is_near};
 use heesch_cert::{
     Bare, Cells, Classes, Cut, Entry, Evidence, Isos, Kind, Layers, Limits, Member, Phase, Proof,
     Step, Tiling, Verdict, Wall,
 };
-use heesch_cnf::{Hints, Version};
+use heesch_cnf::{Hints, Lit, Version};
+use heesch_encode::encode_flat;
 use heesch_grid::{Cell, Grid, Iamond, Iso, Square};
 use heesch_io::Seq;
 use heesch_lattice::Triple;
@@ -267,16 +271,21 @@ fn coronas(rt: HostRuntime) -> Result<(), Fail> {
     Ok(())
 }
 
+/// A cut, at this level, of the heptomino's middle cell without a border.
+fn middle_cut(alloc: Global, level: u32) -> Result<Step, Fail> {
+    let cut = Cut {
+        level,
+        hole: seq(alloc, &[Cell { a: 1, b: 1 }])?,
+        border: Seq::new(alloc),
+    };
+    Ok(Step::Cut { cut })
+}
+
 /// A proof with this many cuts, at this level, of the heptomino's middle cell without a border, and with these hints.
 fn proof(alloc: Global, cuts: u32, level: u32, hints: &[u32]) -> Result<Proof, Fail> {
     let mut steps = Seq::new(alloc);
     for _ in 0..cuts {
-        let cut = Cut {
-            level,
-            hole: seq(alloc, &[Cell { a: 1, b: 1 }])?,
-            border: Seq::new(alloc),
-        };
-        steps.push(Step::Cut { cut })?;
+        steps.push(middle_cut(alloc, level)?)?;
     }
     let last: Option<Hints> = Some(seq(alloc, hints)?);
     Ok(Proof { steps, last })
@@ -336,4 +345,55 @@ fn refutations(rt: HostRuntime) -> Result<(), Fail> {
     let entry = refuted(alloc, heesch, proof(alloc, 1, 0, &[9])?, bare)?;
     expect::<Square>(&rt, alloc, &entry, LIMITS, 6)?;
     Ok(())
+}
+
+/// A learnt clause that the heptomino's empty one shows, two cuts, and a final line with this hint.
+fn learnt_and_cuts(alloc: Global, hint: u32) -> Result<Proof, Fail> {
+    let mut steps = Seq::new(alloc);
+    let first = Lit {
+        var: 1,
+        positive: true,
+    };
+    steps.push(Step::Learn {
+        clause: seq(alloc, &[first])?,
+        hints: seq(alloc, &[9])?,
+    })?;
+    steps.push(middle_cut(alloc, 1)?)?;
+    steps.push(middle_cut(alloc, 1)?)?;
+    let last = Some(seq(alloc, &[hint])?);
+    Ok(Proof { steps, last })
+}
+
+/// How many clauses the formula of the heptomino has.
+fn clauses_of_heptomino(rt: &impl Abort, alloc: Global) -> Result<u32, Fail>
+    ensures { IfOk result (λ count. count ≤ 2 ^ 31) }
+{
+    let heesch = Verdict::Heesch { h: 0, m: 1 };
+    let entry = refuted(alloc, heesch, proof(alloc, 0, 1, &[9])?, Bare::Same)?;
+    assert!(rt; is_near(&entry));
+    let shape = canonical_shape::<Square>(entry.cells.as_slice()).expect(rt, "canonical");
+    let encoded = encode_flat(alloc, &shape, 1, LIMITS.size, LIMITS.version)?;
+    Ok(encoded.formula.len() as u32)
+}
+
+/// Asserts what the audit answers where the final line of those steps has this hint.
+fn expect_final(rt: &impl Abort, alloc: Global, hint: u32, part: u32) -> Result<(), Fail> {
+    let heesch = Verdict::Heesch { h: 0, m: 1 };
+    let bare = Bare::Refuted {
+        proof: proof(alloc, 0, 1, &[9])?,
+    };
+    let entry = refuted(alloc, heesch, learnt_and_cuts(alloc, hint)?, bare)?;
+    expect::<Square>(rt, alloc, &entry, LIMITS, part)
+}
+
+/// The steps count on from the formula's clauses: the first is learnt, and the clauses of the cuts are empty, since no tile
+/// fills the middle cell.
+#[test]
+fn steps_count_on(rt: HostRuntime) -> Result<(), Fail> {
+    let alloc = rt.alloc();
+    let count = clauses_of_heptomino(&rt, alloc)?;
+    expect_final(&rt, alloc, count + 1, 6)?;
+    expect_final(&rt, alloc, count + 2, 0)?;
+    expect_final(&rt, alloc, count + 3, 0)?;
+    expect_final(&rt, alloc, count + 4, 6)
 }

@@ -115,7 +115,7 @@ fn is_settled<G: Grid>(
     requires domain { HasDomain G.geometry (length shape.now) written.now.triple }
     ensures { IfOk result (λ yes. IsTrue yes ↔ SettlesTriple G.geometry shape.now turns written.now.triple written.now.proof) }
 {
-    let Some(log) = learnt_log(alloc, &written.proof)? else {
+    let Some(log) = learnt_log(alloc, &written.proof) else {
         return Ok(false);
     };
     let formula = flat_torus_formula(alloc, shape, written.triple)?;

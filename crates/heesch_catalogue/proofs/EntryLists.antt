@@ -1,7 +1,9 @@
 -- The answers of a job on each shape, as the entries of a list of shapes.
-use Rattle.std.proofs.Common.{◌≡◌, ℕ, suc, ◌<◌, List, [], ◌∷◌, length, map, get_or, Result, Ok, Err, IfOk, refl, sym, subst, arith, inl, inr}
+use Rattle.std.proofs.Common.{◌≡◌, ℕ, suc, ◌+◌, ◌-◌, ◌<◌, ◌≤◌, List, [], ◌∷◌, length, map, get_or, take, drop, Result, Ok, Err, IfOk, refl, sym, subst, ◌∙◌, arith, inl, inr}
 use Rattle.std.specs.Prelude.{Some, slice_get, All}
-use Rattle.std.proofs.lemmas.Option.{slice_get_cases, get_or_from_slice_get}
+use Rattle.std.proofs.lemmas.List.{get_or-drop, get_or-take, length-drop, length-take}
+use Rattle.std.proofs.lemmas.List.Elements.{All-drop, All-take}
+use Rattle.std.proofs.lemmas.Option.{slice_get_cases, slice_get_within, get_or_from_slice_get}
 use Rattle.heesch_grid.specs.declared.Cell.{Cell}
 use Rattle.heesch_grid.specs.Geometry.{Geometry, IsGrid}
 use Rattle.heesch_grid.specs.Polyform.{IsCanonicalListOf, IsFreePolyform}
@@ -46,6 +48,20 @@ entries_each g limits shapes entries many canonical answers = record {
           | inl f ↦ subst (λ e. IsEntryOf g limits (get_or shapes i []) e) (sym (get_or_from_slice_get entries i f.0 d f.2)) (answers i f.0 f.2)
           | inr past ↦ absurd (omega (arith, past.0, lt))
         ]
+
+-- the same of the shapes from a place to before another
+pub entries_each_between : (g : Geometry) (limits : Limits) (shapes : List (List Cell)) (entries : List Entry) (from until : ℕ) → until ≤ length shapes → from + length entries ≡ until
+    → All (λ s. IsCanonicalListOf g s s) shapes
+    → ((i : ℕ) (e : Entry) → slice_get entries i ≡ Some e → IsEntryOf g limits (get_or shapes (from + i) []) e)
+    → AreEntries g limits (take (until - from) (drop from shapes)) entries
+entries_each_between g limits shapes entries from until within many canonical answers =
+    let some : List (List Cell) = take (until - from) (drop from shapes) in
+    entries_each g limits some entries (omega (arith, many, within, length-take (until - from) (drop from shapes), length-drop from shapes))
+    (All-take (λ s. IsCanonicalListOf g s s) (until - from) (drop from shapes) (All-drop (λ s. IsCanonicalListOf g s s) from shapes canonical))
+    (λ i e is.
+    let lt : i < until - from = omega (arith, many, slice_get_within entries i e is) in
+    let place : get_or some i [] ≡ get_or shapes (from + i) [] = get_or-take (until - from) (drop from shapes) i [] lt ∙ get_or-drop from shapes i [] in
+    subst (λ s. IsEntryOf g limits s e) (sym place) (answers i e is))
 
 -- a free polyform is its own canonical list
 pub free_are_canonical : (g : Geometry) (law : IsGrid g) (n : ℕ) (shapes : List (List Cell)) → All (IsFreePolyform g n) shapes → All (λ s. IsCanonicalListOf g s s) shapes

@@ -1,3 +1,4 @@
 pub mod EntryLists
 mod LimitTests
 pub mod Readable
+mod RoundTexts

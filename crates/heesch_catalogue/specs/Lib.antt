@@ -1,2 +1,3 @@
 pub mod Catalogues
 pub mod Entries
+pub mod Rounds

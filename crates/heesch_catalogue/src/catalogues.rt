@@ -11,6 +11,7 @@ use crate::entries::entries_of;
 use heesch_cert::{Entry, Header};
 use heesch_grid::{Grid, GridName, Hex, Iamond, Square};
 use heesch_io::NoMemory;
+use heesch_kite::Kite;
 use heesch_listing::all_shapes;
 use heesch_pool::Gate;
 use heesch_text::{write_brief, write_end, write_entry, write_header};
@@ -35,6 +36,7 @@ pub fn catalogue<T: Threads + Sync, H: Gate + Sync>(
         GridName::Square => catalogue_of::<Square, T, H>(rt, alloc, header, n, workers, gate),
         GridName::Hex => catalogue_of::<Hex, T, H>(rt, alloc, header, n, workers, gate),
         GridName::Iamond => catalogue_of::<Iamond, T, H>(rt, alloc, header, n, workers, gate),
+        GridName::Kite => catalogue_of::<Kite, T, H>(rt, alloc, header, n, workers, gate),
     }
 }
 
@@ -72,7 +74,11 @@ pub fn text_of(alloc: Global, header: &Header, entries: &[Entry]) -> Result<Vec<
 }
 
 /// Appends the entries' texts under the header.
-fn append_entries(header: &Header, entries: &[Entry], text: &mut Vec<u8>) -> Result<(), NoMemory>
+pub fn append_entries(
+    header: &Header,
+    entries: &[Entry],
+    text: &mut Vec<u8>,
+) -> Result<(), NoMemory>
     ensures text { OnOk result (text.new.items ≡ text.old.items ++ entries_text header.now entries.now) }
     ensures naturals { OnOk result (HaveNaturals header.now entries.now) }
 {

@@ -1,5 +1,5 @@
 //! The entries of shapes, each classified by itself.
-ghost use Rattle.std.specs.Prelude.{◌≡◌, ◌≤◌, All, IfOk};
+ghost use Rattle.std.specs.Prelude.{◌≡◌, ◌≤◌, All, IfOk, length, slice_range};
 ghost use Rattle.heesch_cert.specs.Limits.{AreLimits};
 ghost use Rattle.heesch_grid.specs.Polyform.{IsCanonicalListOf};
 ghost use Rattle.heesch_catalogue.specs.Catalogues.{AreEntries};
@@ -7,7 +7,7 @@ ghost use Rattle.heesch_catalogue.specs.Catalogues.{AreEntries};
 use heesch_cert::{Entry, Limits};
 use heesch_grid::Grid;
 use heesch_io::NoMemory;
-use heesch_pool::{Answer, Gate, Job, run_all};
+use heesch_pool::{Answer, Gate, Job, run_span};
 use heesch_shape::Shape;
 use heesch_verdict::classify;
 use std::alloc::Global;
@@ -44,8 +44,7 @@ fn canonical_of<G: Grid>(shape: &Shape<G>) -> Shape<G>
     shape.canonical()
 }
 
-/// The entries of canonical shapes under the limits, in their order. One ticket of the pool is one
-/// shape, and what a shape's searches took is freed as soon as its entry is made.
+/// The entries of canonical shapes under the limits, in their order: `entries_between` the first and the end.
 pub fn entries_of<G: Grid + Send + Sync, T: Threads + Sync, H: Gate + Sync>(
     rt: &T,
     alloc: Global,
@@ -62,13 +61,37 @@ pub fn entries_of<G: Grid + Send + Sync, T: Threads + Sync, H: Gate + Sync>(
     let Ok(count) = u32::try_from(shapes.len()) else {
         return Err(NoMemory);
     };
+    entries_between(rt, alloc, shapes, 0, count, limits, workers, gate)
+}
+
+/// The entries, under the limits, of those canonical shapes that stand from the place `from` to before `until`, in
+/// their order. One ticket of the pool is one shape, the gate is told its place, and what a shape's searches took is
+/// freed as soon as its entry is made.
+///
+/// Errors: `NoMemory` alone.
+pub fn entries_between<G: Grid + Send + Sync, T: Threads + Sync, H: Gate + Sync>(
+    rt: &T,
+    alloc: Global,
+    shapes: &[Shape<G>],
+    from: u32,
+    until: u32,
+    limits: Limits,
+    workers: u32,
+    gate: &H,
+) -> Result<Vec<Entry>, NoMemory>
+    requires canonical { All (λ s. IsCanonicalListOf G.geometry s s) shapes.now }
+    requires span { (from ≤ until) × (until ≤ length shapes.now) }
+    requires limits { AreLimits limits }
+    requires workers { (1 ≤ workers) × (workers ≤ 64) }
+    ensures { IfOk result (λ entries. AreEntries G.geometry limits (slice_range shapes.now from until) entries.items) }
+{
     let job = Job::new(
         EntryOf {
             alloc,
             shapes,
             limits,
         },
-        count,
+        until,
     );
-    run_all(rt, alloc, &job, workers, gate)
+    run_span(rt, alloc, &job, from, until, workers, gate)
 }

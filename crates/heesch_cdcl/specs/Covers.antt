@@ -1,3 +1,4 @@
+-- The clauses by which decisions are taken.
 use Rattle.std.specs.Prelude.{◌≡◌, ℕ, ◌+◌, ◌≤◌, List, length, All}
 use Rattle.heesch_cnf.specs.Flat.{AreEnds}
 use Rattle.heesch_cnf.specs.Lines.{IsNumber}

@@ -1,3 +1,4 @@
+-- What contracts see of the marks.
 use Rattle.std.specs.Prelude.{◌≡◌, ◌⊎◌, ℕ, ◌+◌, ◌≤◌, Bool, true, false, Option, Some, List, [], All, length, count_by, option_map, slice_index_or, Contains}
 use Rattle.heesch_cnf.specs.declared.literal.Lit.{Lit}
 use Rattle.heesch_trail.specs.declared.step.Step.{Step}

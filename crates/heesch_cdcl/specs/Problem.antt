@@ -1,3 +1,4 @@
+-- What contracts see of a solver.
 use Rattle.std.specs.Prelude.{◌≡◌, ℕ, ◌+◌, ◌<◌, ◌≤◌, ◌^◌, Bool, false, Option, Some, None, List, length, map, unwrap_or, MatchOption, IfSome, IsSome, if◌then◌else◌}
 use Rattle.std.specs.List.{range_with_len}
 use Rattle.heesch_cnf.specs.declared.literal.Lit.{Lit}

@@ -1,3 +1,4 @@
+-- What the search keeps between conflicts.
 use Rattle.heesch_trail.specs.State.{State}
 use Rattle.heesch_cdcl.specs.declared.workspace.Workspace.{Workspace}
 use Rattle.heesch_cdcl.specs.Covers.{Guides}

@@ -1,3 +1,4 @@
+//! The analysis of a conflict, up to the clause that is learnt from it.
 ghost use Rattle.std.specs.Prelude.{◌≡◌, ◌+◌, ◌<◌, ◌≤◌, ◌⊎◌, IfOk, OnOk, length, reverse};
 ghost use Rattle.heesch_cdcl.specs.Marking.{AreListed, AreClear};
 ghost use Rattle.heesch_cdcl.specs.Marked.{IsClauseOfMarked, IsLevelIn};

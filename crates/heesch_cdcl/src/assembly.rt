@@ -1,3 +1,4 @@
+//! The clause of the marked variables.
 ghost use Rattle.std.specs.Prelude.{◌≡◌, ◌≤◌, IfOk};
 ghost use Rattle.heesch_cdcl.specs.Marking.{AreListed};
 ghost use Rattle.heesch_cdcl.specs.Marked.{IsClauseOfMarked, falsified};

@@ -1,3 +1,4 @@
+//! The clauses by which the next decision is taken.
 ghost use Rattle.std.specs.Prelude.{◌≡◌, ◌+◌, ◌<◌, ◌≤◌, IfOk, All, length, map, Contains};
 ghost use Rattle.heesch_cnf.specs.Lines.{IsNumber};
 ghost use Rattle.heesch_cdcl.specs.Covers.{AreWithin};

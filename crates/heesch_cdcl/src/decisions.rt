@@ -1,3 +1,4 @@
+//! The choice of the next decision.
 ghost use Rattle.std.specs.Prelude.{◌≡◌, ◌+◌, ◌≤◌, IfSome, All, length};
 ghost use Rattle.heesch_cnf.specs.Lines.{IsNumber};
 ghost use Rattle.heesch_cdcl.specs.Covers.{Guides};

@@ -1,3 +1,4 @@
+//! Lists of one value.
 ghost use Rattle.std.specs.Prelude.{◌≡◌, IfOk, replicate};
 
 use heesch_io::NoMemory;

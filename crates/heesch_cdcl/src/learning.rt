@@ -1,3 +1,4 @@
+//! The loop of the search: a conflict, a line, a way back.
 ghost use Rattle.std.specs.Prelude.{◌≡◌, ◌<◌, ◌≤◌, ◌+◌, ◌^◌, length, IfOk, OnOk, OnErr, ◌++◌, ◌∷◌, []};
 ghost use Rattle.heesch_cnf.specs.Clauses.{IsClause, IsNew};
 ghost use Rattle.heesch_cnf.specs.Lines.{clauses_with, FinalHolds};

@@ -1,3 +1,4 @@
+//! The marks of an analysis.
 ghost use Rattle.std.specs.Prelude.{◌≡◌, ◌<◌, ◌≤◌, ◌+◌, IfOk, OnOk, IsTrue, ◌↔◌, Some, true, false, slice_set, filter, length};
 ghost use Rattle.heesch_cnf.specs.Clauses.{IsClause};
 ghost use Rattle.heesch_trail.specs.State.{level_of};

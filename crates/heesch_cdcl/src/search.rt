@@ -1,3 +1,4 @@
+//! Decisions down to a model or a conflict, and the way back.
 ghost use Rattle.std.specs.Prelude.{◌≡◌, ◌≤◌, IfOk};
 ghost use Rattle.heesch_trail.specs.State.{IsTrail, level_of, up_to, IsPropagated};
 ghost use Rattle.heesch_cdcl.specs.Covers.{Guides};

@@ -1,3 +1,4 @@
+//! The solver: its public calls.
 ghost use Rattle.std.specs.Prelude.{◌≡◌, ◌≢◌, ℕ, ◌+◌, ◌<◌, ◌≤◌, ◌^◌, [], ◌∷◌, ◌++◌, length, None, IfOk, OnOk, OnErr, IsSomeAnd, MatchOption};
 ghost use Rattle.heesch_cnf.specs.Clauses.{IsClause, AreClauses, assignment_of};
 ghost use Rattle.heesch_cnf.specs.Lines.{FinalHolds};

@@ -1,3 +1,4 @@
+//! Whether values make a clause false.
 ghost use Rattle.std.specs.Prelude.{◌≡◌, IsTrue, ◌↔◌};
 ghost use Rattle.heesch_cdcl.specs.Newness.{IsMadeFalse};
 ghost use Rattle.heesch_cnf.specs.Clauses.{assignment_of};

@@ -1,3 +1,4 @@
+//! Which marked variables follow from the others, so that a learnt clause needs fewer literals.
 ghost use Rattle.std.specs.Prelude.{◌≡◌, ◌+◌, ◌≤◌, IfOk, IfSome, length};
 ghost use Rattle.heesch_cnf.specs.Clauses.{IsClause};
 

@@ -1,3 +1,4 @@
+//! What the search keeps between conflicts.
 ghost use Rattle.std.specs.Prelude.{◌≡◌, IfOk};
 ghost use Rattle.heesch_cdcl.specs.Marking.{AreClear};
 

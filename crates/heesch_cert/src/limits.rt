@@ -1,3 +1,4 @@
+//! The limits under which a shape is classified.
 ghost use Rattle.std.specs.Prelude.{◌↔◌, IsTrue};
 ghost use Rattle.heesch_cert.specs.Limits.{AreLimits};
 

@@ -1,3 +1,4 @@
+//! A written tiling.
 use heesch_grid::Iso;
 use heesch_io::Seq;
 use heesch_lattice::Triple;

@@ -4,7 +4,7 @@ use Rattle.std.specs.Prelude.{decimal}
 use Rattle.std.proofs.lemmas.Bool.{false≢true}
 use Rattle.std.proofs.lemmas.Fmt.{length-decimal-le}
 use Rattle.heesch_grid.specs.declared.GridName.{GridName}
-use Rattle.heesch_grid.specs.declared.GridName.TheVariants.{Square, Hex, Iamond}
+use Rattle.heesch_grid.specs.declared.GridName.TheVariants.{Square, Hex, Iamond, Kite}
 use Rattle.heesch_grid.specs.Names.{grid_word}
 use Rattle.heesch_cert.specs.declared.header.Header.{Header}
 use Rattle.heesch_cert.specs.declared.header.Subject.{Subject}
@@ -13,7 +13,8 @@ use Rattle.heesch_cert.specs.declared.limits.Limits.{Limits}
 use Rattle.heesch_cert.specs.Limits.{AreLimits}
 use Rattle.heesch_cnf.specs.declared.version.Version.{Version}
 use Rattle.heesch_cnf.specs.declared.version.Version.TheVariants.{One, Two}
-use Rattle.heesch_cert.specs.Sizes.{most_cells, IsSubject}
+use Rattle.heesch_cert.specs.Sizes.{IsSubject}
+use Rattle.heesch_cert.proofs.FewCells.{few_cells}
 use Rattle.heesch_text.specs.declared.line.Line.{Line}
 use Rattle.heesch_text.specs.declared.line.Line.TheVariants as lines
 use Rattle.heesch_text.specs.Names.{version_text, subject_text}
@@ -85,18 +86,11 @@ grid_length : (grid : GridName) → length (grid_word grid) ≤ 6
 grid_length Square = omega arith
 grid_length Hex = omega arith
 grid_length Iamond = omega arith
+grid_length Kite = omega arith
 
 version_length : (version : Version) → length (version_text version) ≤ 3
 version_length One = omega arith
 version_length Two = omega arith
-
-few_cells : (version : Version) (grid : GridName) → most_cells version grid ≤ 18
-few_cells One Square = omega arith
-few_cells One Hex = omega arith
-few_cells One Iamond = omega arith
-few_cells Two Square = omega arith
-few_cells Two Hex = omega arith
-few_cells Two Iamond = omega arith
 
 subject_length : (version : Version) (grid : GridName) (subject : Subject) → IsSubject version grid subject → length (subject_text subject) ≤ 10
 subject_length version grid (Size n) is = let low = few_cells version grid in let high = is.1 in length-decimal-le 10 n (omega arith) (omega (arith, low, high)) (omega (arith, low, high))

@@ -22,6 +22,7 @@ use crate::judging::Judge;
 use crate::reading::{Reading, read, read_first};
 use heesch_cert::{Header, Subject};
 use heesch_grid::{Grid, GridName, Hex, Iamond, Square};
+use heesch_kite::Kite;
 use heesch_io::{NoMemory, Seq, Source};
 use heesch_listing::all_shapes;
 use heesch_pool::Gate;
@@ -114,6 +115,9 @@ fn check_named<T: Threads + Sync, R: Source, H: Gate + Sync>(
         GridName::Hex => check_under::<Hex, T, R, H>(rt, alloc, source, opening, workers, gate),
         GridName::Iamond => {
             check_under::<Iamond, T, R, H>(rt, alloc, source, opening, workers, gate)
+        }
+        GridName::Kite => {
+            check_under::<Kite, T, R, H>(rt, alloc, source, opening, workers, gate)
         }
     }
 }

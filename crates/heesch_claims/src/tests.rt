@@ -1,3 +1,4 @@
+//! Boards with many seats and with none.
 ghost use Rattle.std.specs.Prelude.{◌≡◌, ◌+◌, ◌≤◌, OnOk, false};
 ghost use Rattle.heesch_claims.specs.Board.{BelongsTo};
 

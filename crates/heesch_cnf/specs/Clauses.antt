@@ -1,3 +1,4 @@
+-- Clauses: what literals make one, and how one contains another.
 use Rattle.std.specs.Prelude.{◌≡◌, ℕ, ◌-◌, ◌<◌, ◌≤◌, Bool, false, not, List, length, filter, slice_index_or, All, Contains}
 use Rattle.std.specs.List.{AllAdjacentBelow}
 use Rattle.heesch_cnf.specs.declared.literal.Lit.{Lit}

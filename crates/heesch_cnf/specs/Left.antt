@@ -1,3 +1,4 @@
+-- How many literals of a clause aren't false.
 use Rattle.std.specs.Prelude.{◌≡◌, ◌<◌, ◌≤◌, Bool, Option, List, [], ◌∷◌, length, All}
 use Rattle.heesch_cnf.specs.declared.literal.Lit.{Lit}
 use Rattle.heesch_cnf.specs.declared.values.Left.{Left}

@@ -1,3 +1,4 @@
+-- Literals and partial assignments.
 use Rattle.std.specs.Prelude.{ℕ, Bool, true, false, not, Option, None, Some, List, [], ◌∷◌, ◌==◌, if◌then◌else◌, slice_index_or}
 use Rattle.heesch_cnf.specs.declared.literal.Lit.{Lit}
 

@@ -1,3 +1,4 @@
+-- What a log that refutes means.
 use Rattle.std.specs.Prelude.{ℕ, Bool, List, [], ◌∷◌, ⊤, All}
 use Rattle.heesch_cnf.specs.declared.literal.Lit.{Lit}
 use Rattle.heesch_cnf.specs.declared.log.Line.{Line}

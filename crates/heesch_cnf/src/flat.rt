@@ -1,3 +1,4 @@
+//! A formula in one array.
 ghost use Rattle.std.specs.Prelude.{◌≡◌, ◌<◌, ◌≤◌, ◌^◌, [], ◌∷◌, ◌++◌, All, length, take, IfOk, OnOk, OnErr, slice_index_or};
 ghost use Rattle.heesch_cnf.specs.Clauses.{IsClause, AreClauses};
 ghost use Rattle.heesch_cnf.specs.Flat.{AreEnds, start_at};

@@ -1,3 +1,4 @@
+//! A formula as a list of clauses.
 ghost use Rattle.std.specs.Prelude.{◌≡◌, ◌<◌, ◌≤◌, ◌^◌, [], ◌∷◌, ◌++◌, length, OnOk, OnErr, sum_by};
 ghost use Rattle.heesch_cnf.specs.Clauses.{IsClause, AreClauses};
 

@@ -1,4 +1,4 @@
-// What logs mean: laws on the definitions of when a line holds and when a log refutes.
+//! The laws on logs: what holds wherever the clauses of a formula are true.
 ghost use Rattle.heesch_cnf.specs.Meaning.{Shown-follows, Learn-follows, Refuted-unsatisfiable, Learned-unsatisfiable};
 
 /// A clause that hints show is true wherever the clauses are.

@@ -1,3 +1,4 @@
+//! A literal in 32 bits.
 ghost use Rattle.std.specs.Prelude.{◌≡◌, ◌<◌, ◌≤◌, ◌^◌, Bool};
 ghost use Rattle.heesch_cnf.specs.Flat.{code_of};
 ghost use Rattle.heesch_cnf.specs.Literals.{opposite};

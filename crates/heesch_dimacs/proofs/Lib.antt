@@ -1,4 +1,4 @@
-mod Bytes
+pub mod Bytes
 mod Groups
 mod Kept
 mod Literals

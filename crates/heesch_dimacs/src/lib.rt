@@ -1,6 +1,7 @@
 //! The clause text of a formula for other solvers, and their models read back.
 #![tactic(auto)]
 
+mod access;
 mod clauses;
 mod falsity;
 mod lines;
@@ -9,6 +10,8 @@ mod named;
 #[cfg(test)]
 mod tests;
 
+pub use access::HasLiterals;
 pub use clauses::{write_cnf, write_flat_cnf};
 pub use falsity::first_false;
+pub use lines::cut_line;
 pub use model::{ModelStop, read_model};

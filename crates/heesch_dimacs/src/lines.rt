@@ -40,7 +40,8 @@ impl From<NoMemory> for LineFault {
     }
 }
 
-/// The first line without its newline, and the bytes behind it; None where there is no newline.
+/// The first line without its newline, and the bytes behind it; None where there is no newline. Nothing is copied; the cost
+/// is the line's length.
 pub fn cut_line(text: &[u8]) -> Option<(&[u8], &[u8])>
     ensures { MatchOption result (HasNoNewline text.now)
         (λ x. (text.now ≡ x.0.now ++ 10 ∷ x.1.now) × HasNoNewline x.0.now) }

@@ -56,13 +56,17 @@ fn a_formula_is_written(rt: HostRuntime) -> Result<(), Fail> {
     Ok(())
 }
 
-/// The first clause without a true literal.
+/// The first clause without a true literal, in both forms of a formula.
 #[test]
 fn the_first_false_clause_is_named(rt: HostRuntime) -> Result<(), Fail> {
-    let formula = formula(rt.alloc())?;
-    if formula.vars == 3 {
-        assert_eq!(rt; first_false(&formula, &[true, true, true]), Some(2));
-        assert_eq!(rt; first_false(&formula, &[false, false, true]), Some(1));
+    let alloc = rt.alloc();
+    let formula = formula(alloc)?;
+    let flat = FlatFormula::of(alloc, &formula)?;
+    if formula.vars == 3 && flat.vars() == 3 {
+        for (values, number) in [([true, true, true], 2), ([false, false, true], 1)] {
+            assert_eq!(rt; first_false(&formula, &values), Some(number));
+            assert_eq!(rt; first_false(&flat, &values), Some(number));
+        }
     }
     Ok(())
 }

@@ -66,6 +66,7 @@ pub enum GridName {
     Square,
     Hex,
     Iamond,
+    Kite,
 }
 
 #[cfg(test)]

@@ -1,4 +1,4 @@
-// Entries of the index: a number is put in at each cell of a set, or taken out again.
+//! Entries of the index: a number is put in at each cell of a set, or taken out again.
 ghost use Rattle.std.specs.Prelude.{OnOk, OnErr};
 ghost use Rattle.heesch_grid.specs.Listing.{IsRising};
 ghost use Rattle.heesch_grid.specs.Cells.{cell_before};

@@ -1,3 +1,4 @@
+//! The index: its public calls.
 ghost use Rattle.std.specs.Prelude.{◌≡◌, ◌+◌, ◌-◌, ◌<◌, ◌≤◌, ◌^◌, [], ◌∷◌, ◌++◌, length, OnOk, OnErr, slice_index_or};
 ghost use Rattle.heesch_grid.specs.Listing.{IsRising};
 ghost use Rattle.heesch_grid.specs.Cells.{cell_before};

@@ -1,4 +1,4 @@
-// Sets of cells in the order in which they were added.
+//! Sets of cells in the order in which they were added.
 ghost use Rattle.std.specs.Prelude.{◌≡◌, ◌<◌, ◌≤◌, [], ◌∷◌, ◌++◌, length, OnOk, OnErr, slice_index_or};
 ghost use Rattle.heesch_index.specs.Flat.{AreEnds, start_at};
 

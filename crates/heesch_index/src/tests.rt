@@ -1,3 +1,4 @@
+//! The numbers at a cell rise.
 use crate::CellIndex;
 use heesch_grid::Cell;
 

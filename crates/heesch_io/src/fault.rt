@@ -1,3 +1,4 @@
+//! How a call of this library and of those above it can fail.
 use std::alloc::{AllocError, AllocFailed};
 use thiserror::Error;
 

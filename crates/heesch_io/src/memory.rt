@@ -1,4 +1,4 @@
-// A source and a sink in memory, whose calls fail where a test wants it.
+//! A source and a sink in memory, whose calls fail where a test wants it.
 ghost use Rattle.std.specs.Prelude.{◌≡◌, ◌<◌, ◌≤◌, ◌+◌, ◌-◌, ◌^◌, ◌↔◌, ◌⊎◌, [], ◌++◌, drop, take, length, min, Some, IsTrue, IsErr, IfOk, OnOk, OnErr, vec_len};
 ghost use Rattle.std.specs.Vec.{vec_capacity};
 ghost use Rattle.std.specs.Io.{ReadsAtMost};

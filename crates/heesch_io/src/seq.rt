@@ -1,3 +1,4 @@
+//! The growable list of this program, which contracts see as its items.
 ghost use Rattle.std.specs.Prelude.{◌≡◌, ◌-◌, [], ◌∷◌, ◌++◌, length, take, IsTrue, ◌↔◌, OnOk, OnErr, option_to_list};
 
 use crate::NoMemory;

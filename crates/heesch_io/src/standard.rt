@@ -1,4 +1,4 @@
-// Standard input and output. What they give and take is outside what any contract says.
+//! Standard input and output. What they give and take is outside what any contract says.
 ghost use Rattle.std.specs.Prelude.{◌≡◌, ◌<◌, ◌≤◌, ◌+◌, None, IfOk, IsErr, length};
 ghost use Rattle.std.specs.Io.{ReadsAtMost};
 ghost use Rattle.std.specs.Io.KnownBytes.{ReadConsumes, WriteAppends};

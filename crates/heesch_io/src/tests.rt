@@ -1,3 +1,4 @@
+//! What the devices count, and what they hold after a failure.
 use crate::{Failed, MemorySink, MemorySource, NoMemory, Seq, Sink, Source, put};
 use std::alloc::Global;
 use std::test::Fail;

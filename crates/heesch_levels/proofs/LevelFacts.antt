@@ -27,6 +27,7 @@ use Rattle.heesch_cert.specs.declared.proof.Step.{Step}
 use Rattle.heesch_cert.specs.declared.proof.Cut.{Cut}
 use Rattle.heesch_cert.specs.declared.entry.Layers.{Layers}
 use Rattle.heesch_cert.specs.Formulas.{IsCountedFormula}
+use Rattle.heesch_cert.specs.TrueEntry.{Spells}
 use Rattle.heesch_cert.specs.Proofs.{log_of, line_of_step, IsLawfulStep, HasNoCut, RefutesCoronas, IsTooLarge}
 use Rattle.heesch_cert.proofs.Models.{models_are_coronas}
 use Rattle.heesch_cert.proofs.CutSound.{refuted_means_none}
@@ -41,20 +42,19 @@ use Rattle.heesch_levels.specs.declared.searching.Ending.{Ending}
 use Rattle.heesch_levels.specs.declared.searching.Ending.TheVariants.{Refuted as Refuted-end}
 use Rattle.heesch_levels.specs.Searching.{IsSearch, IsEnded, IsUnder, IsAtOnce, EndsAtOnce}
 use Rattle.heesch_levels.specs.Answer.{IsLevelAnswer, HasNewSteps, SpellsCoronas, RefutesLevel, IsSpentLevel, NamesEmptyClause, NamesEmptyClauses}
-use Rattle.heesch_levels.proofs.LayerLists.{layers_rise}
 
 module _ (version : Version) (g : Geometry) (law : IsGrid g) (hole_free : Bool) (turns : ℕ) (u : Levels) (form : IsPolyform g u.shape) (some : 1 ≤ u.level) (p : Problem) (cuts : List Cut) (holed : Option (List Bool)) (search : IsSearch g hole_free turns u p cuts holed) (formula : IsCountedFormula version g u.shape u.level u.vars p.vars p.clauses) where
   -- the layers of a model are coronas, hole-free where it leaves no hole
   pub spells_coronas : (values : List Bool) → IsModel p.vars p.clauses values → (layers : Layers) →
-      AllZip (λ layer placed. AllZip (λ by tile. IsLeastIsometry g u.shape tile by) layer placed) layers.layers (chosen_layers (assignment_of values) u.vars u.level) → (is_free : Bool) → (IsTrue is_free → IsOpen g u values) → SpellsCoronas g u.shape u.level is_free layers
-  spells_coronas values model layers zip is_free free =
+      Spells g u.shape layers.layers (chosen_layers (assignment_of values) u.vars u.level) → (is_free : Bool) → (IsTrue is_free → IsOpen g u values) → SpellsCoronas g u.shape u.level is_free layers
+  spells_coronas values model layers spelled is_free free =
       let tiles = chosen_layers (assignment_of values) u.vars u.level in
-      let long : length tiles ≡ length layers.layers = AllZip-long (λ (layer : List Iso) (placed : List (List Cell)). AllZip (λ by tile. IsLeastIsometry g u.shape tile by) layer placed) layers.layers tiles zip in
+      let long : length tiles ≡ length layers.layers = AllZip-long (λ (layer : List Iso) (placed : List (List Cell)). AllZip (λ by tile. IsLeastIsometry g u.shape tile by) layer placed) layers.layers tiles spelled.isometries in
       let coronas = models_are_coronas version g u.shape u.level u.vars p.vars p.clauses (assignment_of values) law form some formula model.satisfies in
       record {
         count = sym long ∙ length-map (range_with_len 1 u.level) (chosen_layer (assignment_of values) u.vars) ∙ length-range_with_len 1 u.level;
         tiles = tiles;
-        spelled = record { isometries = zip; rising = layers_rise (assignment_of values) u.vars u.level search.universe.rising };
+        spelled = spelled;
         coronas = coronas;
         free = λ t. (coronas, free t);
       }

@@ -104,7 +104,7 @@ impl<G: Grid> Search<G> {
             → (IsTrue hole_free → IsOpen G.geometry self.now.universe values.now)
             → IfOk result (SpellsCoronas G.geometry self.now.universe.shape self.now.universe.level hole_free) }
     {
-        layers_of(alloc, &self.universe, values, self.universe.level())
+        layers_of(alloc, &self.universe, values)
     }
 }
 

@@ -8,6 +8,7 @@ mod searching;
 mod steps;
 
 pub use answer::{LevelAnswer, WallAnswer, level, wall};
+pub use layers::layers_of;
 
 #[cfg(test)]
 mod tests;

@@ -1,12 +1,12 @@
 -- Places, triples, limits, names and lists: what is read is spelled so, and what is spelled so is read.
-use Rattle.std.proofs.Common.{◌≡◌, ℕ, ◌*◌, ◌<◌, ◌≤◌, true, false, ◌&&◌, eqb, ltb, leb, List, [], ◌∷◌, ◌++◌, Some, None, refl, append_assoc, arith, inl, inr}
+use Rattle.std.proofs.Common.{◌≡◌, ℕ, ◌*◌, ◌<◌, ◌≤◌, true, false, ◌&&◌, eqb, ltb, leb, List, [], ◌∷◌, ◌++◌, Some, None, refl, ap, append_assoc, arith, inl, inr}
 use Rattle.std.specs.Prelude.{codes, decimal}
 use Rattle.std.specs.Fmt.{signed_decimal}
 use Rattle.std.specs.Char.{is_ascii_digit}
 use Rattle.std.proofs.lemmas.Bool.Decides.{nat_tests}
 use Rattle.heesch_grid.specs.declared.isometries.Iso.{Iso}
 use Rattle.heesch_grid.specs.declared.GridName.{GridName}
-use Rattle.heesch_grid.specs.declared.GridName.TheVariants.{Square, Hex, Iamond}
+use Rattle.heesch_grid.specs.declared.GridName.TheVariants.{Square, Hex, Iamond, Kite}
 use Rattle.heesch_grid.specs.Names.{grid_word}
 use Rattle.heesch_lattice.specs.Reduction.{lattice, IsSmallTriple}
 use Rattle.heesch_cnf.specs.declared.version.Version.{Version}
@@ -26,6 +26,7 @@ use Rattle.heesch_text.specs.declared.line.BareOutcome.TheVariants as bares
 use Rattle.heesch_text.specs.Names.{version_text, kind_text, phase_text, subject_text, outcome_text, bare_text}
 use Rattle.heesch_text.specs.Lines.{limits_text}
 use Rattle.heesch_cert.specs.Sizes.{most_cells, IsSubject}
+use Rattle.heesch_cert.proofs.FewCells.{few_cells}
 use Rattle.heesch_text.specs.Naturals.{IsNatural}
 use Rattle.heesch_line.specs.Forms.{IsPlace}
 use Rattle.heesch_line.specs.Reading.{◌>>=◌, given, literal_at, number_at, labelled_at, integer_at, iso_at, is_triple, three_numbers_at, grid_at, kind_at, version_at, phase_at, outcome_at, bare_outcome_at, subject_at, are_limits, limits_of, limits_at}
@@ -163,7 +164,11 @@ grid_read bytes x e =
                 elim (behind_some (literal_at (codes "iamond") bytes) _ _ x n1.1) [
                   | inl a2 ↦ word_read {X = GridName} grid_word (λ _. Unit {0}) bytes (codes "iamond") Iamond x a2.0 a2.1 refl tt a2.2
                   | inr n2 ↦
-                      absurd (none_some x n2.1)
+                      elim (behind_some (literal_at (codes "kite") bytes) _ _ x n2.1) [
+                        | inl a3 ↦ word_read {X = GridName} grid_word (λ _. Unit {0}) bytes (codes "kite") Kite x a3.0 a3.1 refl tt a3.2
+                        | inr n3 ↦
+                            absurd (none_some x n3.1)
+                      ]
                 ]
           ]
     ]
@@ -257,11 +262,17 @@ size_read version grid bytes x e =
     let g = given_some (ltb 0 n.0.0 && leb n.0.0 (most_cells version grid)) made x n.2 in
     is_read {made = made} subject_text (IsSubject version grid) bytes g.1 (number_read bytes n.0 n.1).takes (size_tests n.0.0 (most_cells version grid) g.0)
 
+some_test : (most : ℕ) → leb 1 most ≡ true → 1 ≤ most
+some_test most h = grind (arith, nat_tests)
+
 pub subject_read : (version : Version) (grid : GridName) (bytes : List ℕ) (x : Subject × List ℕ) → subject_at version grid bytes ≡ Some x → IsRead subject_text (IsSubject version grid) bytes x
 unfolding subject_at
 subject_read version grid bytes x e =
     elim (behind_some (literal_at (codes "given") bytes) _ _ x e) [
-      | inl a0 ↦ word_read {X = Subject} subject_text (IsSubject version grid) bytes (codes "given") Given x a0.0 a0.1 refl tt a0.2
+      | inl a0 ↦
+          let made : Subject × List ℕ = (Given, a0.0) in
+          let g = given_some (leb 1 (most_cells version grid)) made x a0.2 in
+          word_read {X = Subject} subject_text (IsSubject version grid) bytes (codes "given") Given x a0.0 a0.1 refl (some_test (most_cells version grid) g.0) (ap (λ (y : Subject × List ℕ). Some y) g.1)
       | inr n0 ↦
           size_read version grid bytes x n0.1
     ]
@@ -271,6 +282,7 @@ unfolding grid_at
 grid_again Square rest = refl
 grid_again Hex rest = refl
 grid_again Iamond rest = refl
+grid_again Kite rest = refl
 
 pub kind_again : (x : Kind) (rest : List ℕ) → kind_at (kind_text x ++ rest) ≡ Some (x, rest)
 unfolding kind_at
@@ -311,17 +323,12 @@ no_word c cs bytes rest letter begins =
 tests_size : (n most : ℕ) → (1 ≤ n) × (n ≤ most) → (ltb 0 n && leb n most) ≡ true
 tests_size n most h = grind (arith, nat_tests)
 
-pub few_cells : (version : Version) (grid : GridName) → most_cells version grid ≤ 18
-few_cells One Square = omega arith
-few_cells One Hex = omega arith
-few_cells One Iamond = omega arith
-few_cells Two Square = omega arith
-few_cells Two Hex = omega arith
-few_cells Two Iamond = omega arith
+test_some : (most : ℕ) → 1 ≤ most → leb 1 most ≡ true
+test_some most h = grind (arith, nat_tests)
 
 pub subject_again : (version : Version) (grid : GridName) (x : Subject) (rest : List ℕ) → IsSubject version grid x → Stops rest → subject_at version grid (subject_text x ++ rest) ≡ Some (x, rest)
 unfolding subject_at
-subject_again version grid Given rest fits stops = refl
+subject_again version grid Given rest fits stops = rw (test_some (most_cells version grid) fits) refl
 subject_again version grid (Size n) rest fits stops =
     let most = few_cells version grid in
     let natural : IsNatural n = omega arith in

@@ -9,7 +9,7 @@ use Rattle.std.proofs.lemmas.Int.{ints}
 use Rattle.heesch_grid.specs.declared.Cell.{Cell}
 use Rattle.heesch_grid.specs.declared.isometries.Iso.{Iso}
 use Rattle.heesch_grid.specs.declared.GridName.{GridName}
-use Rattle.heesch_grid.specs.declared.GridName.TheVariants.{Square, Hex, Iamond}
+use Rattle.heesch_grid.specs.declared.GridName.TheVariants.{Square, Hex, Iamond, Kite}
 use Rattle.heesch_grid.specs.Lattice.{Triple}
 use Rattle.heesch_grid.specs.Names.{grid_word}
 use Rattle.heesch_grid.specs.Vectors.{IsWithin}
@@ -41,7 +41,8 @@ use Rattle.heesch_text.specs.Lines.{title_text, limits_text, verdict_text, words
 use Rattle.heesch_text.specs.Naturals.{IsNatural}
 use Rattle.heesch_line.specs.Forms.{IsInteger, IsPlace, IsLiteral, IsVerdict, IsLine, HasNoNewline}
 use Rattle.heesch_line.proofs.Numbers.{decimal_digits}
-use Rattle.heesch_line.proofs.FieldLaws.{few_cells, triple_natural}
+use Rattle.heesch_cert.proofs.FewCells.{few_cells}
+use Rattle.heesch_line.proofs.FieldLaws.{triple_natural}
 
 -- no byte is a newline
 abbrev pub free : List ℕ → Bool
@@ -130,6 +131,7 @@ grid_free : (x : GridName) → Free (grid_word x)
 grid_free Square = record { is = refl }
 grid_free Hex = record { is = refl }
 grid_free Iamond = record { is = refl }
+grid_free Kite = record { is = refl }
 
 kind_free : (x : Kind) → Free (kind_text x)
 kind_free Translation = record { is = refl }

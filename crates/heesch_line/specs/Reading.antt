@@ -7,7 +7,7 @@ use Rattle.std.specs.Str.Parse.{digits_value}
 use Rattle.heesch_grid.specs.declared.Cell.{Cell}
 use Rattle.heesch_grid.specs.declared.isometries.Iso.{Iso}
 use Rattle.heesch_grid.specs.declared.GridName.{GridName}
-use Rattle.heesch_grid.specs.declared.GridName.TheVariants.{Square, Hex, Iamond}
+use Rattle.heesch_grid.specs.declared.GridName.TheVariants.{Square, Hex, Iamond, Kite}
 use Rattle.heesch_grid.specs.Lattice.{Triple}
 use Rattle.heesch_cnf.specs.declared.literal.Lit.{Lit}
 use Rattle.heesch_lattice.specs.Reduction.{lattice}
@@ -133,7 +133,8 @@ unfoldable pub grid_at : List ℕ → Option (GridName × List ℕ)
 grid_at bytes =
     behind (literal_at (codes "square") bytes) (λ rest. Some (Square, rest))
     (behind (literal_at (codes "hex") bytes) (λ rest. Some (Hex, rest))
-    (behind (literal_at (codes "iamond") bytes) (λ rest. Some (Iamond, rest)) None))
+    (behind (literal_at (codes "iamond") bytes) (λ rest. Some (Iamond, rest))
+    (behind (literal_at (codes "kite") bytes) (λ rest. Some (Kite, rest)) None)))
 
 -- the word of a kind of tilings
 unfoldable pub kind_at : List ℕ → Option (Kind × List ℕ)
@@ -168,10 +169,10 @@ version_at bytes =
     behind (literal_at (codes " 1 ") bytes) (λ rest. Some (One, rest))
     (behind (literal_at (codes " 2 ") bytes) (λ rest. Some (Two, rest)) None)
 
--- a size of the grid and the version, or `given`
+-- a size of the grid and the version, or `given` where the version has the grid
 unfoldable pub subject_at : Version → GridName → List ℕ → Option (Subject × List ℕ)
 subject_at version grid bytes =
-    behind (literal_at (codes "given") bytes) (λ rest. Some (Given, rest))
+    behind (literal_at (codes "given") bytes) (λ rest. given (nat_le 1 (most_cells version grid)) (Given, rest))
     (number_at bytes >>= λ n. given (nat_lt 0 n.0 && nat_le n.0 (most_cells version grid)) (Size n.0, n.1))
 
 -- the number is between others

@@ -4,7 +4,7 @@ ghost use Rattle.heesch_line.specs.Reading.{Gives, version_at, grid_at, kind_at,
 
 use crate::LineFault;
 use crate::fields::{after, literal, number};
-use heesch_cert::{Kind, Phase, Subject, most_cells};
+use heesch_cert::{Kind, Phase, Subject, has_grid, most_cells};
 use heesch_cnf::Version;
 use heesch_grid::GridName;
 use heesch_text::{BareOutcome, Outcome};
@@ -20,8 +20,11 @@ pub fn grid(bytes: &[u8]) -> Result<(GridName, &[u8]), LineFault>
     if let Some(rest) = after(b"hex", bytes) {
         return Ok((GridName::Hex, rest));
     }
-    let rest = literal(b"iamond", bytes)?;
-    Ok((GridName::Iamond, rest))
+    if let Some(rest) = after(b"iamond", bytes) {
+        return Ok((GridName::Iamond, rest));
+    }
+    let rest = literal(b"kite", bytes)?;
+    Ok((GridName::Kite, rest))
 }
 
 /// The kind of a tiling.
@@ -103,6 +106,9 @@ pub fn subject(
     ensures { Gives (λ x. (x.0, x.1.now)) result (subject_at version grid bytes.now) }
 {
     if let Some(rest) = after(b"given", bytes) {
+        if !has_grid(version, grid) {
+            return Err(LineFault::NotALine);
+        }
         return Ok((Subject::Given, rest));
     }
     let (n, rest) = number(bytes)?;

@@ -1,3 +1,4 @@
+//! The free list of a size, grown by several workers.
 ghost use Rattle.std.specs.Prelude.{◌≡◌, ◌<◌, ◌≤◌, ◌^◌, [], ◌∷◌, IfOk, IsTrue, vec_len};
 ghost use Rattle.heesch_grid.specs.Cells.{cells_before};
 ghost use Rattle.heesch_grid.specs.Listing.{ListsExactly};
@@ -66,7 +67,7 @@ fn grown<G: Grid + Send + Sync, T: Threads + Sync, H: Gate + Sync>(
         return Err(NoMemory);
     };
     let job = Job::new(ChildrenOf { alloc, parents }, count);
-    let made = merge_all(alloc, run_all(rt, alloc, &job, workers, gate)?)?;
+    let made = merge_all(rt, alloc, run_all(rt, alloc, &job, workers, gate)?, workers)?;
     if made.len() > u32::MAX as usize {
         return Err(NoMemory);
     }

@@ -1,3 +1,4 @@
+//! How many variables the universes of small shapes have.
 ghost use Rattle.std.specs.Prelude.{◌≡◌, ◌≤◌, true};
 ghost use Rattle.heesch_grid.specs.declared.Cell.{Cell};
 ghost use Rattle.heesch_grid.specs.Cells.{has};

@@ -1,3 +1,4 @@
+//! What workers do at once, what is claimed first, and what a gate is told.
 use crate::{Answer, Gate, Job, Open, run_all, run_span, work};
 use heesch_claims::Board;
 use heesch_io::NoMemory;

@@ -70,11 +70,24 @@ verdict tiles translation domain 1 classes 1
 end 5
 ";
 
+const ONE_KITE: &str = "brief 2 kite 1 turns 20000 levels 3 domain 6 size 60000000
+shape 1,1
+verdict tiles periodic domain 6 classes 1
+end 1
+";
+
 #[test]
 fn brief_texts_have_shapes_and_verdicts(rt: HostRuntime) -> Result<(), Fail> {
     let alloc = rt.alloc();
-    let held = written(&rt, alloc, "classify square 4 --brief")?;
-    assert_eq!(rt; held.as_slice(), FIVE_TETROMINOES.as_bytes());
+    for (line, text) in [
+        ("classify square 4 --brief", FIVE_TETROMINOES),
+        ("classify kite 1 --domain 6 --brief", ONE_KITE),
+    ] {
+        let held = written(&rt, alloc, line)?;
+        assert_eq!(rt; held.as_slice(), text.as_bytes(), "{line}");
+    }
+    let held = written(&rt, alloc, "classify kite 1 --levels 1 --brief")?;
+    assert!(rt; str::from_utf8(&held)?.contains("\nverdict undecided levels 1\n"));
     Ok(())
 }
 

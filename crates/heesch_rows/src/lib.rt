@@ -6,7 +6,11 @@ mod catalogues;
 #[cfg(test)]
 mod checks;
 #[cfg(test)]
+mod exchanges;
+#[cfg(test)]
 mod given;
+#[cfg(test)]
+mod hostile;
 #[cfg(test)]
 mod lists;
 #[cfg(test)]

@@ -1,17 +1,17 @@
 //! `heesch list`: what is written, and what is refused.
 use crate::running::{room, run_into};
 use heesch_app::Status;
-use heesch_io::MemorySink;
 use std::test::Fail;
 
-const FIVE_TETROMINOES: &str =
+pub(crate) const FIVE_TETROMINOES: &str =
     "0,0 1,0 2,0 3,0\n0,0 1,0 2,0 0,1\n0,0 1,0 2,0 1,1\n0,0 1,0 0,1 1,1\n0,0 1,0 1,1 2,1\n";
 
-/// How many free polyominoes, polyhexes and polyiamonds there are of 1 cell, 2 cells and so on.
-const COUNTS: [(&str, [usize; 10]); 3] = [
+/// How many free polyominoes, polyhexes, polyiamonds and polykites there are of 1 cell, 2 cells and so on.
+const COUNTS: [(&str, [usize; 10]); 4] = [
     ("square", [1, 1, 2, 5, 12, 35, 108, 369, 1285, 4655]),
     ("hex", [1, 1, 3, 7, 22, 82, 333, 1448, 0, 0]),
     ("iamond", [1, 1, 1, 3, 4, 12, 24, 66, 160, 448]),
+    ("kite", [1, 2, 4, 10, 27, 85, 262, 873, 0, 0]),
 ];
 
 #[test]
@@ -24,6 +24,8 @@ fn small_lists_are_written(rt: HostRuntime) -> Result<(), Fail> {
         ("list hex 3", "0,0 1,0 2,0\n0,0 1,0 0,1\n0,0 1,0 1,1\n"),
         ("list iamond 1", "1,1\n"),
         ("list iamond 3", "1,1 4,1 2,2\n"),
+        ("list kite 1", "1,1\n"),
+        ("list kite 2", "1,1 4,1\n4,1 5,2\n"),
     ] {
         let (status, sink) = run_into(&rt, alloc, line, room(alloc, 100)?)?;
         assert_eq!(rt; status, Status::Done, "{line}");
@@ -72,6 +74,10 @@ fn other_words_are_refused_and_nothing_is_written(rt: HostRuntime) -> Result<(),
         "list square 0",
         "list square 15",
         "classify square 13 --version 1",
+        "list kite 11",
+        "classify kite 1 --version 1",
+        "classify kite given --version 1",
+        "sample kite 1 1 1 --version 1",
         "list square 4 --version 2",
         "list square 04",
         "list square --workers 3 4",
@@ -83,20 +89,5 @@ fn other_words_are_refused_and_nothing_is_written(rt: HostRuntime) -> Result<(),
         assert_eq!(rt; status, Status::Usage, "{line}");
         assert_eq!(rt; sink.calls, 0, "{line}");
     }
-    Ok(())
-}
-
-#[test]
-fn a_sink_that_fails_keeps_a_prefix(rt: HostRuntime) -> Result<(), Fail> {
-    let alloc = rt.alloc();
-    let sink = MemorySink::new(alloc, 100, 16, [3].to_vec(alloc)?)?;
-    let (status, sink) = run_into(&rt, alloc, "list square 4", sink)?;
-    assert_eq!(rt; status, Status::WriteFault);
-    assert!(rt; sink.held.len() <= 32);
-    assert!(rt;
-        FIVE_TETROMINOES
-            .as_bytes()
-            .starts_with(sink.held.as_slice())
-    );
     Ok(())
 }

@@ -21,6 +21,7 @@ fn small_shapes_have_their_plain_tilings(rt: HostRuntime) -> Result<(), Fail> {
         ("plain square 4 --workers 2", FIVE_TETROMINOES),
         ("plain iamond 1", "1,1 halfturn 1 1 0 0 0\n"),
         ("plain iamond 3", "1,1 4,1 2,2 halfturn 3 1 0 0 0\n"),
+        ("plain kite 1", "1,1 none\n"),
     ] {
         let (status, sink) = run_into(&rt, alloc, line, room(alloc, 1_000)?)?;
         assert_eq!(rt; status, Status::Done, "{line}");

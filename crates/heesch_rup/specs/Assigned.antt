@@ -1,3 +1,4 @@
+-- Assignments by what they leave open.
 use Rattle.std.specs.Prelude.{◌≡◌, ℕ, ◌<◌, Bool, Option, None, List, [], length, All, Contains}
 use Rattle.heesch_cnf.specs.Literals.{Values, held, making}
 

@@ -1,3 +1,4 @@
+-- The hints of a line.
 use Rattle.std.specs.Prelude.{ℕ, Option, Some, None, List}
 use Rattle.heesch_cnf.specs.declared.log.Line.{Line}
 use Rattle.heesch_cnf.specs.declared.log.Line.TheVariants.{Learn, Given}

@@ -1,3 +1,4 @@
+-- At which number a clause is listed.
 use Rattle.std.specs.Prelude.{◌≡◌, ◌≢◌, ℕ, ◌<◌, ◌≤◌, nat_lt, false, Option, None, Some, List, [], ◌∷◌, length, All, slice_index_or, if◌then◌else◌}
 use Rattle.heesch_cnf.specs.declared.literal.Lit.{Lit}
 use Rattle.heesch_cnf.specs.Literals.{Values, lit_value}

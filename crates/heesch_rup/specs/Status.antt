@@ -1,3 +1,4 @@
+-- What a clause comes to under an assignment.
 use Rattle.std.specs.Prelude.{◌≡◌, ◌≢◌, None, List, [], ◌∷◌}
 use Rattle.heesch_cnf.specs.declared.literal.Lit.{Lit}
 use Rattle.heesch_cnf.specs.Literals.{Values, lit_value}

@@ -1,3 +1,4 @@
+//! The assignment under which a line's hints are followed.
 ghost use Rattle.std.specs.Prelude.{◌≡◌, ◌+◌, ◌<◌, false, IfOk, OnOk, IsTrue, ◌↔◌, vec_len};
 ghost use Rattle.heesch_cnf.specs.Literals.{held, lit_value, with_true};
 ghost use Rattle.heesch_rup.specs.Assigned.{all_open, HavePlaces, OthersAreOpen};

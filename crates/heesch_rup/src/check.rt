@@ -1,3 +1,4 @@
+//! Whether the lines of a log hold, one after the other.
 ghost use Rattle.std.specs.Prelude.{◌≡◌, ◌≢◌, ◌<◌, ◌+◌, ◌++◌, [], IsTrue, ◌↔◌, IfOk, MatchOption, ⊤, vec_len};
 ghost use Rattle.std.specs.Option.{option_copied};
 ghost use Rattle.heesch_cnf.specs.declared.log.Line.{Line};

@@ -1,3 +1,4 @@
+//! A clause is made false, and the hints are followed to a conflict.
 ghost use Rattle.std.specs.Prelude.{◌≡◌, ◌++◌, ◌<◌, length, All, IfOk, OnOk, vec_len};
 ghost use Rattle.heesch_cnf.specs.Literals.{held};
 ghost use Rattle.heesch_cnf.specs.Clauses.{AreClauses};

@@ -1,3 +1,4 @@
+//! Whether the clauses of a log are new: whether none contains an earlier one.
 ghost use Rattle.std.specs.Prelude.{◌≡◌, ◌+◌, ◌++◌, ◌*◌, ◌<◌, [], length, take, IsTrue, ◌↔◌, IfOk, MatchBool, vec_len};
 ghost use Rattle.heesch_cnf.specs.Literals.{held};
 ghost use Rattle.heesch_cnf.specs.Clauses.{AreClauses, IsClause, IsNew};

@@ -1,3 +1,4 @@
+//! The clauses of a formula and those that lines added, by their numbers.
 ghost use Rattle.std.specs.Prelude.{◌≡◌, ◌++◌, ◌<◌, [], length, All, IsTrue, ◌↔◌, slice_index_or};
 ghost use Rattle.heesch_cnf.specs.Lines.{IsNumber, AreNumbers};
 

@@ -1,3 +1,4 @@
+//! Where clauses are listed, so that those which a clause may contain are found.
 ghost use Rattle.std.specs.Prelude.{◌≡◌, ◌+◌, ◌++◌, ◌*◌, ◌<◌, ◌≤◌, List, length, All, IfOk, OnOk, MatchBool, vec_len};
 ghost use Rattle.heesch_cnf.specs.declared.literal.Lit.{Lit};
 ghost use Rattle.heesch_cnf.specs.Literals.{held};

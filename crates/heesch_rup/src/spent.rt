@@ -1,3 +1,4 @@
+//! Whether a log is spent for a number of turns.
 ghost use Rattle.std.specs.Prelude.{IsTrue, ◌↔◌, IfOk};
 ghost use Rattle.heesch_cnf.specs.Lines.{IsSpent};
 

@@ -1,3 +1,4 @@
+//! What a clause comes to under an assignment.
 ghost use Rattle.std.specs.Prelude.{◌<◌, All, vec_len, IsTrue, ◌↔◌};
 ghost use Rattle.heesch_cnf.specs.Literals.{held};
 ghost use Rattle.heesch_rup.specs.Status.{IsStatus};

@@ -1,3 +1,4 @@
+//! Logs that hold, logs that do not, and lines that are not new.
 use crate::{LogAnswer, all_new, check_log};
 use heesch_cnf::{Formula, Line, Lit, Lits, Log, is_clause};
 use heesch_io::Seq;

@@ -7,6 +7,7 @@ ghost use Rattle.heesch_sample.specs.Samples.{AreGrown, IsSample, IsTallyOf};
 use heesch_catalogue::entries_of;
 use heesch_cert::{Entry, Limits};
 use heesch_grid::{Grid, GridName, Hex, Iamond, Square};
+use heesch_kite::Kite;
 use heesch_grow::{Draws, grown};
 use heesch_io::NoMemory;
 use heesch_pool::Gate;
@@ -46,6 +47,9 @@ pub fn sample<T: Threads + Sync, H: Gate + Sync>(
         GridName::Hex => sample_of::<Hex, T, H>(rt, alloc, n, count, seed, limits, workers, gate),
         GridName::Iamond => {
             sample_of::<Iamond, T, H>(rt, alloc, n, count, seed, limits, workers, gate)
+        }
+        GridName::Kite => {
+            sample_of::<Kite, T, H>(rt, alloc, n, count, seed, limits, workers, gate)
         }
     }
 }

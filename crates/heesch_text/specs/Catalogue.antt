@@ -58,6 +58,10 @@ last_number (verdicts.Size h phase at) = at
 abbrev pub layer_lines : List (List Iso) → List Line
 layer_lines layers = map lines.Layer layers
 
+-- how many coronas there are, and a line for each layer
+abbrev pub coronas_lines : List (List Iso) → List Line
+coronas_lines layers = lines.Coronas (length layers) ∷ layer_lines layers
+
 -- how the search for the corona of this level ended, holes forbidden
 abbrev pub wall_lines : ℕ → Wall → List Line
 wall_lines level walls.Absent = []
@@ -109,7 +113,7 @@ after_layers level last wall bare wider triples =
 abbrev pub evidence_lines : Verdict → Evidence → List Line
 evidence_lines verdict (evidences.Cover tiling classes) = cover_lines tiling classes
 evidence_lines verdict (evidences.Search free wall bare wider triples) =
-    lines.Coronas (length free.layers) ∷ (layer_lines free.layers ++ after_layers (length free.layers + 1) (last_number verdict) wall bare wider triples)
+    coronas_lines free.layers ++ after_layers (length free.layers + 1) (last_number verdict) wall bare wider triples
 
 -- ---- the parts of a catalogue
 
@@ -132,6 +136,10 @@ entry_text e = text_of (entry_lines e)
 -- an entry of a brief text
 abbrev pub brief_text : Entry → List ℕ
 brief_text e = text_of (brief_lines e)
+
+-- the coronas of an entry
+abbrev pub coronas_text : List (List Iso) → List ℕ
+coronas_text layers = text_of (coronas_lines layers)
 
 -- the last line, with the number of entries
 abbrev pub end_text : ℕ → List ℕ

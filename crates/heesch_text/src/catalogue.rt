@@ -3,11 +3,11 @@ ghost use Rattle.std.specs.Prelude.{◌≡◌, ◌++◌, length, take, OnOk, OnE
 ghost use Rattle.std.specs.List.{AllByRecursion};
 ghost use Rattle.heesch_text.specs.Lines.{text_of};
 ghost use Rattle.heesch_text.specs.Naturals.{HasNaturals};
-ghost use Rattle.heesch_text.specs.Catalogue.{brief_lines, entry_lines, header_text, entry_text, brief_text, end_text};
+ghost use Rattle.heesch_text.specs.Catalogue.{brief_lines, entry_lines, header_text, entry_text, brief_text, coronas_text, end_text};
 
-use crate::evidence::append_evidence;
+use crate::evidence::{append_coronas, append_evidence};
 use crate::lines::{append_end_line, append_header_line, append_shape_line, append_verdict_line};
-use heesch_cert::{Entry, Header};
+use heesch_cert::{Entry, Header, Layers};
 use heesch_io::NoMemory;
 
 /// Appends the first line of a catalogue: `heesch V GRID SUBJECT turns T levels L domain D size Z`,
@@ -55,6 +55,22 @@ pub fn write_brief(entry: &Entry, out: &mut Vec<u8>) -> Result<(), NoMemory>
 {
     let before = out.len();
     let written = append_brief(entry, out);
+    if written.is_err() {
+        out.truncate(before);
+    }
+    written
+}
+
+/// Appends coronas as they stand in an entry: the line `coronas COUNT` and a line for each layer.
+///
+/// Errors: at `NoMemory` the text is as it was before. A count of layers that doesn't fit 32 bits is want of memory too. Its
+/// cost is the length of what it appends.
+pub fn write_coronas(layers: &Layers, out: &mut Vec<u8>) -> Result<(), NoMemory>
+    ensures ok { OnOk result (out.new.items ≡ out.old.items ++ coronas_text layers.now.layers) }
+    ensures err { OnErr result (out.new.items ≡ out.old.items) }
+{
+    let before = out.len();
+    let written = append_coronas(layers, out);
     if written.is_err() {
         out.truncate(before);
     }

@@ -7,6 +7,7 @@ ghost use Rattle.heesch_text.specs.Lines.{line_text, text_of};
 ghost use Rattle.heesch_text.specs.Naturals.{HasNaturals};
 ghost use Rattle.heesch_text.specs.Catalogue.{
   layer_lines,
+  coronas_lines,
   proof_lines,
   step_line,
   last_line,
@@ -54,11 +55,9 @@ pub fn append_evidence(
             wider,
             triples,
         } => {
-            let layers = free.layers.as_slice();
-            append_coronas_line(number_of(layers.len())?, out)?;
-            append_layers(layers, out)?;
+            append_coronas(free, out)?;
             append_after_layers(
-                number_of(layers.len() + 1)?,
+                number_of(free.layers.len() + 1)?,
                 last_of(verdict),
                 wall,
                 bare,
@@ -68,6 +67,17 @@ pub fn append_evidence(
             )
         }
     }
+}
+
+/// The number of coronas, and their layers.
+pub fn append_coronas(coronas: &Layers, out: &mut Vec<u8>) -> Result<(), NoMemory>
+    ensures ok { OnOk result (out.new.items ≡ out.old.items ++ text_of (coronas_lines coronas.now.layers)) }
+    ensures kept { take (length out.old.items) out.new.items ≡ out.old.items }
+    ensures naturals { OnOk result (AllByRecursion HasNaturals (coronas_lines coronas.now.layers)) }
+{
+    let layers = coronas.layers.as_slice();
+    append_coronas_line(number_of(layers.len())?, out)?;
+    append_layers(layers, out)
 }
 
 /// A count as a number of a line. The numbers of lines fit 32 bits, and a count that doesn't is answered as want of memory.

@@ -12,7 +12,7 @@ mod shapes;
 #[cfg(test)]
 mod tests;
 
-pub use catalogue::{write_brief, write_end, write_entry, write_header};
+pub use catalogue::{write_brief, write_coronas, write_end, write_entry, write_header};
 pub use line::{BareOutcome, Line, Outcome};
 pub use plains::write_plain;
 pub use shapes::write_shape;

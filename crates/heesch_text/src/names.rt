@@ -25,6 +25,7 @@ pub fn grid_word(grid: GridName) -> &'static [u8]
         GridName::Square => b"square",
         GridName::Hex => b"hex",
         GridName::Iamond => b"iamond",
+        GridName::Kite => b"kite",
     }
 }
 

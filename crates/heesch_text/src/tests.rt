@@ -1,6 +1,6 @@
 //! Texts worked by hand.
 
-use crate::{write_brief, write_end, write_entry, write_header};
+use crate::{write_brief, write_coronas, write_end, write_entry, write_header};
 use heesch_cert::{
     Bare, Classes, Entry, Evidence, Header, Kind, Layers, Limits, Member, Proof, Subject, Tiling,
     Verdict, Wall,
@@ -105,6 +105,20 @@ tile 0 0 0 class 1 by 0 0 0
 tile 3 0 0 class 1 by 1 0 -1
 end 1
 ";
+    assert_eq!(rt; out.as_slice(), expected.as_slice());
+    Ok(())
+}
+
+/// Coronas as they stand in an entry.
+#[test]
+fn coronas_alone(rt: HostRuntime) -> Result<(), Fail> {
+    let alloc = rt.alloc();
+    let mut layers = Seq::new(alloc);
+    layers.push(Seq::from_vec([iso(0, 0, -1), iso(1, 2, 0)].to_vec(alloc)?))?;
+    layers.push(Seq::from_vec([iso(11, -30, 4)].to_vec(alloc)?))?;
+    let mut out = Vec::new(alloc);
+    write_coronas(&Layers { layers }, &mut out)?;
+    let expected = b"coronas 2\nlayer 0,0,-1 1,2,0\nlayer 11,-30,4\n";
     assert_eq!(rt; out.as_slice(), expected.as_slice());
     Ok(())
 }

@@ -1,3 +1,4 @@
+-- Watch lists, their entries and their pairs.
 use Rattle.std.specs.Prelude.{◌≡◌, ◌≢◌, ℕ, ◌+◌, ◌-◌, ◌*◌, ◌<◌, ◌≤◌, ◌^◌, ◌⊎◌, if◌then◌else◌, nat_le, Bool, true, Option, None, Some, false, List, [], length, take, Contains, slice_index_or, ◌++◌, ◌∷◌, set}
 use Rattle.heesch_cnf.specs.declared.literal.Lit.{Lit}
 use Rattle.heesch_cnf.specs.Literals.{Values, lit_value}

@@ -1,3 +1,4 @@
+//! Clauses and assignments in flat arrays.
 ghost use Rattle.std.specs.Prelude.{◌≡◌, ◌≢◌, ℕ, ◌+◌, ◌<◌, ◌≤◌, ◌^◌, [], ◌∷◌, ◌++◌, length, Some, None, All, IfOk, IfErr, OnOk, OnErr, option_map, option_and_then, replicate, take, ◌-◌, slice_index_or, true};
 ghost use Rattle.heesch_cnf.specs.Clauses.{IsClause};
 ghost use Rattle.heesch_cnf.specs.Lines.{IsNumber, numbered};

@@ -1,3 +1,4 @@
+//! An entry of a watch list.
 ghost use Rattle.std.specs.Prelude.{◌≡◌, ◌<◌, ◌^◌};
 ghost use Rattle.heesch_trail.specs.Watches.{index_of, is_binary};
 

@@ -1,3 +1,4 @@
+//! The pair of literals that watches a clause.
 ghost use Rattle.heesch_trail.specs.Watches.{IsBeside};
 
 use heesch_cnf::PackedLit;

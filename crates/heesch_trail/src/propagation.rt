@@ -1,3 +1,4 @@
+//! Propagation: the lists of literals that became false are gone through.
 ghost use Rattle.std.specs.Prelude.{◌≡◌, ◌+◌, ◌<◌, ◌≤◌, ◌^◌, [], ◌∷◌, length, Some, None, Contains, false, IfOk, slice_index_or, ◌⊎◌};
 ghost use Rattle.heesch_cnf.specs.Literals.{lit_value};
 ghost use Rattle.heesch_cnf.specs.Clauses.{left_of};

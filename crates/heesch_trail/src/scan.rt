@@ -1,3 +1,4 @@
+//! What a look at a clause finds.
 use crate::pair::Pair;
 use heesch_cnf::PackedLit;
 

@@ -1,3 +1,4 @@
+//! How many clauses propagation visits.
 use crate::Trail;
 use heesch_cnf::{FlatFormula, Lit, is_clause};
 use std::alloc::Global;

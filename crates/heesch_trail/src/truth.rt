@@ -1,3 +1,4 @@
+//! The value of a literal.
 ghost use Rattle.std.specs.Prelude.{◌≡◌};
 ghost use Rattle.heesch_cnf.specs.Literals.{is_true_value, is_false_value};
 ghost use Rattle.heesch_trail.specs.Inner.{value_in};

@@ -1,3 +1,4 @@
+//! The clauses that a literal may watch.
 ghost use Rattle.std.specs.Prelude.{◌≡◌, ◌<◌, [], ◌∷◌, ◌++◌, length, IfOk, OnOk, OnErr};
 ghost use Rattle.heesch_trail.specs.Watches.{IsWithout};
 

@@ -1,3 +1,4 @@
+//! Which literals watch which clause.
 ghost use Rattle.std.specs.Prelude.{◌≡◌, ◌≢◌, ℕ, ◌+◌, ◌*◌, ◌<◌, ◌^◌, ◌⊎◌, [], ◌∷◌, ◌++◌, length, set, replicate, None, Some, Contains, IfOk, OnOk, OnErr};
 ghost use Rattle.heesch_cnf.specs.Flat.{code_of};
 ghost use Rattle.heesch_trail.specs.Watches.{Watching, list_of, pair_of, AreKept, OthersStay, IsWithout, IsListed, Names, IsEntry, AreMore, HasPushed};

@@ -7,17 +7,18 @@ use Rattle.std.specs.Str.Parse.{AllDigits}
 use Rattle.heesch_cert.specs.declared.header.Subject.{Subject}
 use Rattle.heesch_cert.specs.declared.header.Subject.TheVariants.{Size, Given}
 use Rattle.heesch_cert.specs.declared.limits.Limits.{Limits}
-use Rattle.heesch_cert.specs.Sizes.{most_cells, IsSubject}
+use Rattle.heesch_cert.specs.Sizes.{most_cells, HasGrid, IsSubject}
+use Rattle.heesch_cert.proofs.FewCells.{few_cells}
 use Rattle.heesch_cnf.specs.declared.version.Version.{Version}
-use Rattle.heesch_cnf.specs.declared.version.Version.TheVariants.{One, Two}
+use Rattle.heesch_cnf.specs.declared.version.Version.TheVariants.{Two}
 use Rattle.heesch_grid.specs.declared.GridName.{GridName}
-use Rattle.heesch_grid.specs.declared.GridName.TheVariants.{Square, Hex, Iamond}
+use Rattle.heesch_grid.specs.declared.GridName.TheVariants.{Square, Hex, Iamond, Kite}
 use Rattle.heesch_grid.specs.Names.{grid_word}
 use Rattle.heesch_words.specs.declared.options.Options.{Options}
 use Rattle.heesch_words.specs.declared.requests.Request.{Request}
-use Rattle.heesch_words.specs.declared.requests.Request.TheVariants.{List as ListRequest, Plain as PlainRequest, Classify as ClassifyRequest, Check as CheckRequest, Table as TableRequest, Sample as SampleRequest}
-use Rattle.heesch_words.specs.Options.{AreOptions, HasWorkersAlone, workers_of, limits_of}
-use Rattle.heesch_words.specs.Requests.{Asks, HasForm, HaveOptions, HasCheckForm, HasListForm, HasSampleForm, HasClassifyForm, form_word, subject_word}
+use Rattle.heesch_words.specs.declared.requests.Request.TheVariants.{List as ListRequest, Plain as PlainRequest, Classify as ClassifyRequest, Check as CheckRequest, Table as TableRequest, Sample as SampleRequest, Formula as FormulaRequest, Answer as AnswerRequest}
+use Rattle.heesch_words.specs.Options.{AreOptions, HasWorkersAlone, HasSizeAndVersionAlone, workers_of, limits_of}
+use Rattle.heesch_words.specs.Requests.{Asks, HasForm, HaveOptions, HasCheckForm, HasListForm, HasSampleForm, HasClassifyForm, HasFormulaForm, form_word, subject_word}
 use Rattle.heesch_words.proofs.Settings.{one_reading}
 
 -- Words before options.
@@ -70,20 +71,19 @@ same_grid : (x y : GridName) → grid_word x ≡ grid_word y → x ≡ y
 same_grid Square Square is = refl
 same_grid Square Hex is = absurd (grind arith)
 same_grid Square Iamond is = absurd (grind arith)
+same_grid Square Kite is = absurd (grind arith)
 same_grid Hex Square is = absurd (grind arith)
 same_grid Hex Hex is = refl
 same_grid Hex Iamond is = absurd (grind arith)
+same_grid Hex Kite is = absurd (grind arith)
 same_grid Iamond Square is = absurd (grind arith)
 same_grid Iamond Hex is = absurd (grind arith)
 same_grid Iamond Iamond is = refl
-
-few_cells : (version : Version) (grid : GridName) → most_cells version grid < 2 ^ 64
-few_cells One Square = omega arith
-few_cells One Hex = omega arith
-few_cells One Iamond = omega arith
-few_cells Two Square = omega arith
-few_cells Two Hex = omega arith
-few_cells Two Iamond = omega arith
+same_grid Iamond Kite is = absurd (grind arith)
+same_grid Kite Square is = absurd (grind arith)
+same_grid Kite Hex is = absurd (grind arith)
+same_grid Kite Iamond is = absurd (grind arith)
+same_grid Kite Kite is = refl
 
 one_size : (version version' : Version) (grid grid' : GridName) (n n' : ℕ)
     → n ≤ most_cells version grid → n' ≤ most_cells version' grid' → decimal n ≡ decimal n' → n ≡ n'
@@ -132,6 +132,46 @@ sample_is_brief text_of words read given brief grid n count seed limits workers 
     let both : read.brief ≡ false = subst (λ (o : Options). o.brief ≡ false) same not_brief in
     cc
 
+-- the first word names one grid
+first_grid : {X : Type 0} (text_of : X → List ℕ) (words : List X) (first : X) (grid grid' : GridName) (others : List (List ℕ)) (options : Options)
+    → 1 ≤ length words → first ≡ get_or words 0 first → text_of first ≡ grid_word grid
+    → HaveOptions (grid_word grid' ∷ others) (map text_of words) options → grid' ≡ grid
+first_grid text_of [] first grid grid' others options some is named have = absurd (omega arith)
+first_grid text_of (x ∷ words) first grid grid' others options some is named have =
+    let spelled : text_of x ∷ map text_of words ≡ (grid_word grid' ∷ others) ++ have.others = have.spelled in
+    let first_is : first ≡ x = is in
+    same_grid grid' grid cc
+
+-- where the version that was read doesn't have the grid that the first word names, the words have no form of a sample
+pub sample_no_grid : {X : Type 0} (text_of : X → List ℕ) (words : List X) (first : X) (read : Options) (version : Version) (grid : GridName)
+    → 4 ≤ length words → first ≡ get_or words 0 first → text_of first ≡ grid_word grid → version ≡ (limits_of read).version
+    → AreOptions (map text_of (take (length words - 4) (drop 4 words))) read → ¬ HasGrid version grid
+    → (grid' : GridName) (n count seed : ℕ) (limits : Limits) (workers : ℕ) → ¬ HasSampleForm (map text_of words) grid' n count seed limits workers
+sample_no_grid text_of words first read version grid some is named of given none grid' n count seed limits workers has =
+    let same : has.options ≡ read = read_options text_of words 4 _ has.options read refl given has.have in
+    let grids : grid' ≡ grid = first_grid text_of words first grid grid' _ has.options (omega arith) is named has.have in
+    let versions : limits.version ≡ version = ap (λ (l : Limits). l.version) (has.limits_is ∙ ap limits_of same) ∙ sym of in
+    none (subst (λ (g : GridName). HasGrid version g) grids (subst (λ (v : Version). HasGrid v grid') versions has.has_grid))
+
+-- nor those of a formula
+pub formula_no_grid : {X : Type 0} (text_of : X → List ℕ) (words : List X) (first : X) (read : Options) (version : Version) (grid : GridName)
+    → 2 ≤ length words → first ≡ get_or words 0 first → text_of first ≡ grid_word grid → version ≡ (limits_of read).version
+    → AreOptions (map text_of (take (length words - 2) (drop 2 words))) read → ¬ HasGrid version grid
+    → (grid' : GridName) (level size : ℕ) (version' : Version) → ¬ HasFormulaForm (map text_of words) grid' level size version'
+formula_no_grid text_of words first read version grid some is named of given none grid' level size version' has =
+    let same : has.options ≡ read = read_options text_of words 2 _ has.options read refl given has.have in
+    let grids : grid' ≡ grid = first_grid text_of words first grid grid' _ has.options (omega arith) is named has.have in
+    let versions : version' ≡ version = has.version_is ∙ ap (λ (o : Options). (limits_of o).version) same ∙ sym of in
+    none (subst (λ (g : GridName). HasGrid version g) grids (subst (λ (v : Version). HasGrid v grid') versions has.has_grid))
+
+-- nor have words with other options than a formula's its form
+pub formula_not_alone : {X : Type 0} (text_of : X → List ℕ) (words : List X) (read : Options)
+    → AreOptions (map text_of (take (length words - 2) (drop 2 words))) read → ¬ HasSizeAndVersionAlone read
+    → (grid : GridName) (level size : ℕ) (version : Version) → ¬ HasFormulaForm (map text_of words) grid level size version
+formula_not_alone text_of words read given others grid level size version has =
+    let same : has.options ≡ read = read_options text_of words 2 _ has.options read refl given has.have in
+    others (subst HasSizeAndVersionAlone same has.alone)
+
 -- where the second word names no subject in the range of the version that was read, the words have no form of a catalogue
 pub subject_refused : {X : Type 0} (text_of : X → List ℕ) (words : List X) (first second : X) (read : Options) (version : Version) (grid : GridName)
     → 2 ≤ length words → first ≡ get_or words 0 first → second ≡ get_or words 1 second
@@ -161,6 +201,20 @@ one_list words grid grid' n n' workers workers' first second =
     let grids : grid_word grid ≡ grid_word grid' = cc in
     let sizes : decimal n ≡ decimal n' = cc in
     (same_grid grid grid' grids, one_size Two Two grid grid' n n' first.size.1 second.size.1 sizes, first.workers_is ∙ ap workers_of same ∙ sym second.workers_is)
+
+-- words have one form of a formula
+one_formula : (words : List (List ℕ)) (grid grid' : GridName) (level level' size size' : ℕ) (version version' : Version)
+    → HasFormulaForm words grid level size version → HasFormulaForm words grid' level' size' version'
+    → (grid ≡ grid') × (level ≡ level') × (size ≡ size') × (version ≡ version')
+one_formula words grid grid' level level' size size' version version' first second =
+    let (parts, same) = one_choice words _ _ first.options second.options refl first.have second.have in
+    let grids : grid_word grid ≡ grid_word grid' = cc in
+    let levels : decimal level ≡ decimal level' = cc in (
+      same_grid grid grid' grids,
+      decimal_injective level level' (omega (arith, first.level_range.1)) (omega (arith, second.level_range.1)) levels,
+      first.size_is ∙ ap (λ (o : Options). (limits_of o).size) same ∙ sym second.size_is,
+      first.version_is ∙ ap (λ (o : Options). (limits_of o).version) same ∙ sym second.version_is,
+    )
 
 -- words have one form of each kind
 one_of_form : (words : List (List ℕ)) (x y : Request) → form_word x ≡ form_word y → HasForm words x → HasForm words y → x ≡ y
@@ -197,6 +251,12 @@ one_of_form words (SampleRequest grid n count seed limits workers) (SampleReques
     let same_seeds : seed ≡ seed' = decimal_injective seed seed' (omega (arith, first.in_range.seed_range)) (omega (arith, second.in_range.seed_range)) seeds in
     let same_limits : limits ≡ limits' = first.limits_is ∙ ap limits_of same ∙ sym second.limits_is in
     let same_workers : workers ≡ workers' = first.workers_is ∙ ap workers_of same ∙ sym second.workers_is in
+    cc
+one_of_form words (FormulaRequest grid level size version) (FormulaRequest grid' level' size' version') is first second =
+    let (grids, levels, sizes, versions) = one_formula words grid grid' level level' size size' version version' first second in
+    cc
+one_of_form words (AnswerRequest grid level size version) (AnswerRequest grid' level' size' version') is first second =
+    let (grids, levels, sizes, versions) = one_formula words grid grid' level level' size size' version version' first second in
     cc
 one_of_form words x y is first second = absurd (grind arith)
 

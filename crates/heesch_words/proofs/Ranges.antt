@@ -7,9 +7,11 @@ use Rattle.heesch_cert.specs.Limits.{AreLimits}
 use Rattle.heesch_grid.specs.declared.GridName.{GridName}
 use Rattle.heesch_words.specs.declared.options.Options.{Options}
 use Rattle.heesch_words.specs.declared.requests.Request.{Request}
-use Rattle.heesch_words.specs.declared.requests.Request.TheVariants.{List as ListRequest, Plain as PlainRequest, Classify as ClassifyRequest, Check as CheckRequest, Table as TableRequest, Sample as SampleRequest}
+use Rattle.heesch_words.specs.declared.requests.Request.TheVariants.{List as ListRequest, Plain as PlainRequest, Classify as ClassifyRequest, Check as CheckRequest, Table as TableRequest, Sample as SampleRequest, Formula as FormulaRequest, Answer as AnswerRequest}
 use Rattle.heesch_words.specs.Options.{Name, Workers, Turns, Levels, Domain, Size, Version, Setting, Number, Brief, IsNumberInRange, IsInRange as IsSettingInRange, number_of, held, default_limits, AreOptions, workers_of, limits_of}
-use Rattle.heesch_words.specs.Requests.{Asks, HasForm, HasListForm, IsInRange, IsSize}
+use Rattle.heesch_cert.specs.Sizes.{HasGrid}
+use Rattle.heesch_cnf.specs.declared.version.Version.{Version as FormulaVersion}
+use Rattle.heesch_words.specs.Requests.{Asks, HasForm, HasListForm, HasFormulaForm, IsFormulaInRange, IsInRange, IsSize}
 use Rattle.heesch_words.proofs.InRange.{bounds_of, in_bounds}
 
 -- the first number that settings in their ranges have of an option is in its range
@@ -53,6 +55,13 @@ list_in_range words grid n workers has =
     let (low, high) = workers_in_range has.have.others has.options has.have.given in
     (has.size, omega (arith, has.workers_is, low), omega (arith, has.workers_is, high))
 
+formula_in_range : (words : List (List ℕ)) (grid : GridName) (level size : ℕ) (version : FormulaVersion) → HasFormulaForm words grid level size version
+    → IsFormulaInRange level size × HasGrid version grid
+formula_in_range words grid level size version has =
+    let limits = limits_in_range has.have.others has.options has.have.given in
+    let sizes = limits.size_range in
+    (record { level_range = has.level_range; size_range = (omega (arith, has.size_is, sizes.0), omega (arith, has.size_is, sizes.1)) }, has.has_grid)
+
 -- the values of a form are in range
 form_in_range : (words : List (List ℕ)) (request : Request) → HasForm words request → IsInRange request
 form_in_range words (ListRequest grid n workers) has = list_in_range words grid n workers has
@@ -68,7 +77,9 @@ form_in_range words TableRequest has = tt
 form_in_range words (SampleRequest grid n count seed limits workers) has =
     let (low, high) = workers_in_range has.have.others has.options has.have.given in
     let in_range : AreLimits limits = subst AreLimits (sym has.limits_is) (limits_in_range has.have.others has.options has.have.given) in
-    (has.in_range, in_range, omega (arith, has.workers_is, low), omega (arith, has.workers_is, high))
+    (has.in_range, has.has_grid, in_range, omega (arith, has.workers_is, low), omega (arith, has.workers_is, high))
+form_in_range words (FormulaRequest grid level size version) has = formula_in_range words grid level size version has
+form_in_range words (AnswerRequest grid level size version) has = formula_in_range words grid level size version has
 
 -- what words ask for is in range
 pub asked_in_range : (words : List (List ℕ)) (request : Request) → Asks words request → IsInRange request

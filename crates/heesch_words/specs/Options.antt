@@ -100,6 +100,14 @@ pub record HasWorkersAlone (options : Options) : Type 0 where
   pub version : options.version ≡ None
   pub brief : options.brief ≡ false
 
+-- no option is given beside `--size` and `--version`
+pub record HasSizeAndVersionAlone (options : Options) : Type 0 where
+  pub workers : options.workers ≡ None
+  pub turns : options.turns ≡ None
+  pub levels : options.levels ≡ None
+  pub domain : options.domain ≡ None
+  pub brief : options.brief ≡ false
+
 -- the number of workers, by default 1
 abbrev pub workers_of : Options → ℕ
 workers_of options = unwrap_or options.workers 1

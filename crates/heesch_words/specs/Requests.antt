@@ -4,14 +4,15 @@ use Rattle.heesch_cert.specs.declared.header.Subject.{Subject}
 use Rattle.heesch_cert.specs.declared.header.Subject.TheVariants.{Size, Given}
 use Rattle.heesch_cert.specs.declared.limits.Limits.{Limits}
 use Rattle.heesch_cert.specs.Limits.{AreLimits}
-use Rattle.heesch_cert.specs.Sizes.{most_cells, IsSubject}
+use Rattle.heesch_cert.specs.Sizes.{most_cells, HasGrid, IsSubject}
+use Rattle.heesch_cnf.specs.declared.version.Version.{Version}
 use Rattle.heesch_cnf.specs.declared.version.Version.TheVariants.{Two}
 use Rattle.heesch_grid.specs.declared.GridName.{GridName}
 use Rattle.heesch_grid.specs.Names.{grid_word}
 use Rattle.heesch_words.specs.declared.options.Options.{Options}
 use Rattle.heesch_words.specs.declared.requests.Request.{Request}
-use Rattle.heesch_words.specs.declared.requests.Request.TheVariants.{List as ListRequest, Plain as PlainRequest, Classify as ClassifyRequest, Check as CheckRequest, Table as TableRequest, Sample as SampleRequest}
-use Rattle.heesch_words.specs.Options.{AreOptions, HasWorkersAlone, workers_of, limits_of}
+use Rattle.heesch_words.specs.declared.requests.Request.TheVariants.{List as ListRequest, Plain as PlainRequest, Classify as ClassifyRequest, Check as CheckRequest, Table as TableRequest, Sample as SampleRequest, Formula as FormulaRequest, Answer as AnswerRequest}
+use Rattle.heesch_words.specs.Options.{AreOptions, HasWorkersAlone, HasSizeAndVersionAlone, workers_of, limits_of}
 
 -- the shapes of so many cells are listed: version 2 has the larger ranges
 abbrev pub IsSize : GridName → ℕ → Type 0
@@ -27,6 +28,11 @@ pub record IsSample (n count seed : ℕ) : Type 0 where
   pub cells : (1 ≤ n) × (n ≤ 32)
   pub shapes : (1 ≤ count) × (count ≤ 1000)
   pub seed_range : seed ≤ 18446744073709551615
+
+-- a formula is asked for at this level, with at most so many literals
+pub record IsFormulaInRange (level size : ℕ) : Type 0 where
+  pub level_range : (1 ≤ level) × (level ≤ 6)
+  pub size_range : (1 ≤ size) × (size ≤ 60000000)
 
 -- the words are the first ones, and options after them
 pub record HaveOptions (first words : List (List ℕ)) (options : Options) : Type 0 where
@@ -63,9 +69,20 @@ pub record HasSampleForm (words : List (List ℕ)) (grid : GridName) (n count se
   pub options : Options
   pub have : HaveOptions (grid_word grid ∷ decimal n ∷ decimal count ∷ decimal seed ∷ []) words options
   pub in_range : IsSample n count seed
+  pub has_grid : HasGrid limits.version grid
   pub not_brief : options.brief ≡ false
   pub limits_is : limits ≡ limits_of options
   pub workers_is : workers ≡ workers_of options
+
+-- GRID J, and `--size` and `--version` where they are wanted
+pub record HasFormulaForm (words : List (List ℕ)) (grid : GridName) (level size : ℕ) (version : Version) : Type 0 where
+  pub options : Options
+  pub have : HaveOptions (grid_word grid ∷ decimal level ∷ []) words options
+  pub level_range : (1 ≤ level) × (level ≤ 6)
+  pub has_grid : HasGrid version grid
+  pub alone : HasSizeAndVersionAlone options
+  pub size_is : size ≡ (limits_of options).size
+  pub version_is : version ≡ (limits_of options).version
 
 -- the first word of a request's form
 abbrev pub form_word : Request → List ℕ
@@ -75,6 +92,8 @@ form_word (ClassifyRequest grid subject limits workers brief) = codes "classify"
 form_word (CheckRequest workers) = codes "check"
 form_word TableRequest = codes "table"
 form_word (SampleRequest grid n count seed limits workers) = codes "sample"
+form_word (FormulaRequest grid level size version) = codes "formula"
+form_word (AnswerRequest grid level size version) = codes "answer"
 
 -- The words after the first one have the form of the request, with its values.
 abbrev pub HasForm : List (List ℕ) → Request → Type 0
@@ -84,6 +103,8 @@ HasForm words (ClassifyRequest grid subject limits workers brief) = HasClassifyF
 HasForm words (CheckRequest workers) = HasCheckForm words workers
 HasForm words TableRequest = words ≡ []
 HasForm words (SampleRequest grid n count seed limits workers) = HasSampleForm words grid n count seed limits workers
+HasForm words (FormulaRequest grid level size version) = HasFormulaForm words grid level size version
+HasForm words (AnswerRequest grid level size version) = HasFormulaForm words grid level size version
 
 -- The words ask for this: they have the request's form, with its values.
 pub record Asks (words : List (List ℕ)) (request : Request) : Type 0 where
@@ -98,4 +119,6 @@ IsInRange (PlainRequest grid n workers) = IsSize grid n × (1 ≤ workers) × (w
 IsInRange (ClassifyRequest grid subject limits workers brief) = IsSubject limits.version grid subject × AreLimits limits × (1 ≤ workers) × (workers ≤ 64)
 IsInRange (CheckRequest workers) = (1 ≤ workers) × (workers ≤ 64)
 IsInRange TableRequest = ⊤
-IsInRange (SampleRequest grid n count seed limits workers) = IsSample n count seed × AreLimits limits × (1 ≤ workers) × (workers ≤ 64)
+IsInRange (SampleRequest grid n count seed limits workers) = IsSample n count seed × HasGrid limits.version grid × AreLimits limits × (1 ≤ workers) × (workers ≤ 64)
+IsInRange (FormulaRequest grid level size version) = IsFormulaInRange level size × HasGrid version grid
+IsInRange (AnswerRequest grid level size version) = IsFormulaInRange level size × HasGrid version grid

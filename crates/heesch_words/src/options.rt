@@ -1,5 +1,5 @@
 ghost use Rattle.std.specs.Prelude.{◌≡◌, ◌≢◌, ◌<◌, ◌≤◌, ◌^◌, ℕ, true, false, List, ◌∷◌, map, string_bytes, decimal, IfOk, OnErr};
-ghost use Rattle.heesch_words.specs.Options.{Setting, AreOptions, HasWorkersAlone, workers_of, limits_of};
+ghost use Rattle.heesch_words.specs.Options.{Setting, AreOptions, HasWorkersAlone, HasSizeAndVersionAlone, workers_of, limits_of};
 ghost use Rattle.heesch_words.specs.Reading.{BeginWith, AddsSetting, CannotAdd};
 
 use crate::Usage;
@@ -13,7 +13,7 @@ const MOST_WORKERS: u64 = 64;
 /// The greatest limits.
 const MOST_TURNS: u64 = 1_000_000;
 
-const MOST_LEVELS: u64 = 6;
+pub const MOST_LEVELS: u64 = 6;
 
 const MOST_DOMAIN: u64 = 12;
 
@@ -94,6 +94,24 @@ impl Options {
                 brief: false,
                 ..
             } => Ok(self.workers()),
+            _ => Err(Usage),
+        }
+    }
+
+    /// The limits, where no other option than `--size` and `--version` was given.
+    pub fn size_and_version_alone(&self) -> Result<Limits, Usage>
+        ensures ok { IfOk result
+            (λ limits. HasSizeAndVersionAlone self.now × (limits ≡ limits_of self.now)) }
+        ensures usage { OnErr result (¬ HasSizeAndVersionAlone self.now) }
+    {
+        match (
+            self.workers,
+            self.turns,
+            self.levels,
+            self.domain,
+            self.brief,
+        ) {
+            (None, None, None, None, false) => Ok(self.limits()),
             _ => Err(Usage),
         }
     }

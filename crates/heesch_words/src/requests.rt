@@ -2,12 +2,13 @@ ghost use Rattle.std.specs.Prelude.{◌∷◌, ℕ, Bool, map, string_bytes, cod
 ghost use Rattle.heesch_cert.specs.declared.header.Subject.{Subject};
 ghost use Rattle.heesch_cert.specs.declared.limits.Limits.{Limits};
 ghost use Rattle.heesch_grid.specs.declared.GridName.{GridName};
-ghost use Rattle.heesch_words.specs.Requests.{Asks, HasListForm, HasClassifyForm, HasCheckForm, HasSampleForm};
+ghost use Rattle.heesch_cnf.specs.declared.version.Version.{Version as FormulaVersion};
+ghost use Rattle.heesch_words.specs.Requests.{Asks, HasListForm, HasClassifyForm, HasCheckForm, HasSampleForm, HasFormulaForm};
 
 use crate::numbers::number;
-use crate::options::Options;
+use crate::options::{MOST_LEVELS, Options};
 use crate::subjects::{grid_named, subject_named};
-use heesch_cert::{Limits, Subject, most_cells};
+use heesch_cert::{Limits, Subject, has_grid, most_cells};
 use heesch_cnf::Version;
 use heesch_grid::GridName;
 use thiserror::Error;
@@ -57,6 +58,20 @@ pub enum Request {
         limits: Limits,
         workers: u32,
     },
+    /// The corona formula of a given shape at this level, of at most `size` literals, as a text for other solvers.
+    Formula {
+        grid: GridName,
+        level: u32,
+        size: u32,
+        version: Version,
+    },
+    /// The coronas that a given assignment of this formula's variables has, or the first clause that it makes false.
+    Answer {
+        grid: GridName,
+        level: u32,
+        size: u32,
+        version: Version,
+    },
 }
 
 /// The greatest number of cells of a sample's shapes.
@@ -75,11 +90,13 @@ const MOST_SAMPLE_SHAPES: u64 = 1_000;
 /// - `check`: `--workers`;
 /// - `table`: none;
 /// - `sample GRID N COUNT SEED`: `--workers`, `--turns`, `--levels`, `--domain`, `--size` and
-///   `--version`.
+///   `--version`;
+/// - `formula GRID J` and `answer GRID J`: `--size` and `--version`.
 ///
-/// GRID is `square`, `hex` or `iamond`. N is 1 to 14 for `square`, 1 to 12 for `hex` and 1 to 18 for
-/// `iamond`, but with `--version 1` it is 1 to 12, 1 to 10 and 1 to 15; for `sample` N is 1 to 32,
-/// COUNT 1 to 1,000 and SEED below 2^64.
+/// GRID is `square`, `hex`, `iamond` or `kite`, and `kite` doesn't go with `--version 1`. N is 1 to 14
+/// for `square`, 1 to 12 for `hex`, 1 to 18 for `iamond` and 1 to 10 for `kite`, but with `--version 1`
+/// it is 1 to 12, 1 to 10 and 1 to 15 for the first three; for `sample` N is 1 to 32, COUNT 1 to 1,000
+/// and SEED below 2^64. J is 1 to 6.
 ///
 /// Options follow the other words in any order, each at most once; each but `--brief` is followed by
 /// its number as the next word. `--workers` is 1 to 64, by default 1; `--turns` 1 to 1,000,000, by
@@ -104,6 +121,8 @@ pub fn parse(words: &[String]) -> Result<Request, Usage>
         "check" => check(rest),
         "table" => table(rest),
         "sample" => sample(rest),
+        "formula" => formula(rest),
+        "answer" => answer(rest),
         _ => Err(Usage),
     }
 }
@@ -222,12 +241,91 @@ fn sample(words: &[String]) -> Result<Request, Usage>
     if options.brief {
         return Err(Usage);
     }
+    let limits = options.limits();
+    if !has_grid(limits.version, grid) {
+        return Err(Usage);
+    }
     Ok(Request::Sample {
         grid,
         n,
         count,
         seed,
-        limits: options.limits(),
+        limits,
         workers: options.workers(),
+    })
+}
+
+/// The request whose words are `formula` and these.
+fn formula(words: &[String]) -> Result<Request, Usage>
+    ensures ok { IfOk result
+        (λ request. Asks (codes "formula" ∷ map string_bytes words.now) request) }
+    ensures usage { OnErr result ((grid : GridName) (level size : ℕ) (version : FormulaVersion)
+        → ¬ HasFormulaForm (map string_bytes words.now) grid level size version) }
+{
+    let FormulaForm {
+        grid,
+        level,
+        size,
+        version,
+    } = formula_form(words)?;
+    Ok(Request::Formula {
+        grid,
+        level,
+        size,
+        version,
+    })
+}
+
+/// The request whose words are `answer` and these.
+fn answer(words: &[String]) -> Result<Request, Usage>
+    ensures ok { IfOk result
+        (λ request. Asks (codes "answer" ∷ map string_bytes words.now) request) }
+    ensures usage { OnErr result ((grid : GridName) (level size : ℕ) (version : FormulaVersion)
+        → ¬ HasFormulaForm (map string_bytes words.now) grid level size version) }
+{
+    let FormulaForm {
+        grid,
+        level,
+        size,
+        version,
+    } = formula_form(words)?;
+    Ok(Request::Answer {
+        grid,
+        level,
+        size,
+        version,
+    })
+}
+
+/// What the words GRID J give, with the options `--size` and `--version`.
+struct FormulaForm {
+    grid: GridName,
+    level: u32,
+    size: u32,
+    version: Version,
+}
+
+/// What these words give after `formula` or `answer`.
+fn formula_form(words: &[String]) -> Result<FormulaForm, Usage>
+    ensures ok { IfOk result
+        (λ form. HasFormulaForm (map string_bytes words.now) form.grid form.level form.size form.version) }
+    ensures usage { OnErr result ((grid : GridName) (level size : ℕ) (version : FormulaVersion)
+        → ¬ HasFormulaForm (map string_bytes words.now) grid level size version) }
+{
+    let [grid, level, options @ ..] = words else {
+        return Err(Usage);
+    };
+    let grid = grid_named(grid.as_str())?;
+    let level = number(level.as_str(), 1, MOST_LEVELS)? as u32;
+    let options = Options::read(options)?;
+    let limits = options.size_and_version_alone()?;
+    if !has_grid(limits.version, grid) {
+        return Err(Usage);
+    }
+    Ok(FormulaForm {
+        grid,
+        level,
+        size: limits.size,
+        version: limits.version,
     })
 }

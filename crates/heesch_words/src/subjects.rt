@@ -8,7 +8,7 @@ ghost use Rattle.heesch_words.specs.Requests.{subject_word};
 
 use crate::Usage;
 use crate::numbers::number;
-use heesch_cert::{Subject, most_cells};
+use heesch_cert::{Subject, has_grid, most_cells};
 use heesch_cnf::Version;
 use heesch_grid::GridName;
 
@@ -21,6 +21,7 @@ pub fn grid_named(word: &str) -> Result<GridName, Usage>
         "square" => Ok(GridName::Square),
         "hex" => Ok(GridName::Hex),
         "iamond" => Ok(GridName::Iamond),
+        "kite" => Ok(GridName::Kite),
         _ => Err(Usage),
     }
 }
@@ -33,7 +34,7 @@ pub fn subject_named(version: Version, grid: GridName, word: &str) -> Result<Sub
     ensures usage { OnErr result
         ((subject : Subject) → IsSubject version grid subject → word.now ≢ subject_word subject) }
 {
-    if word == "given" {
+    if word == "given" && has_grid(version, grid) {
         return Ok(Subject::Given);
     }
     let n = number(word, 1, u64::from(most_cells(version, grid)))? as u32;

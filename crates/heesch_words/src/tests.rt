@@ -21,6 +21,7 @@ fn lists_are_asked_for(rt: HostRuntime) -> Result<(), Fail> {
         ("list square 14 --workers 64", GridName::Square, 14, 64),
         ("list hex 12 --workers 1", GridName::Hex, 12, 1),
         ("list iamond 18", GridName::Iamond, 18, 1),
+        ("list kite 10", GridName::Kite, 10, 1),
     ] {
         let words = words_of(alloc, line)?;
         let request = Request::List { grid, n, workers };
@@ -144,6 +145,49 @@ fn other_forms_are_asked_for(rt: HostRuntime) -> Result<(), Fail> {
     Ok(())
 }
 
+/// Of both forms, which take the same words.
+#[test]
+fn formulas_are_asked_for(rt: HostRuntime) -> Result<(), Fail> {
+    let alloc = rt.alloc();
+    for (words, grid, level, size, version) in [
+        ("square 1", GridName::Square, 1, 60_000_000, Version::Two),
+        ("kite 6 --size 1", GridName::Kite, 6, 1, Version::Two),
+        (
+            "hex 2 --version 1 --size 60000000",
+            GridName::Hex,
+            2,
+            60_000_000,
+            Version::One,
+        ),
+    ] {
+        let formula = format!(in alloc; "formula {words}")?;
+        let request = Request::Formula {
+            grid,
+            level,
+            size,
+            version,
+        };
+        assert_eq!(rt;
+            parse(&words_of(alloc, &formula)?),
+            Ok(request),
+            "at {formula}"
+        );
+        let answer = format!(in alloc; "answer {words}")?;
+        let request = Request::Answer {
+            grid,
+            level,
+            size,
+            version,
+        };
+        assert_eq!(rt;
+            parse(&words_of(alloc, &answer)?),
+            Ok(request),
+            "at {answer}"
+        );
+    }
+    Ok(())
+}
+
 #[test]
 fn other_words_are_refused(rt: HostRuntime) -> Result<(), Fail> {
     let alloc = rt.alloc();
@@ -158,6 +202,7 @@ fn other_words_are_refused(rt: HostRuntime) -> Result<(), Fail> {
         "list Square 4",
         "list hex 13",
         "list iamond 19",
+        "list kite 11",
         "list square 4 5",
         "plain",
         "plain square 15",
@@ -172,6 +217,8 @@ fn other_words_are_refused(rt: HostRuntime) -> Result<(), Fail> {
         "classify square 13 --version 1",
         "classify hex 11 --brief --version 1",
         "classify iamond 16 --version 1",
+        "classify kite 1 --version 1",
+        "classify kite given --version 1",
         "classify square 4 --version",
         "classify square 4 --version 0",
         "classify square 4 --version 3",
@@ -206,6 +253,23 @@ fn other_words_are_refused(rt: HostRuntime) -> Result<(), Fail> {
         "sample square 8 40 18446744073709551616",
         "sample square 8 40 01",
         "sample square 8 40 1 --brief",
+        "sample kite 8 40 1 --version 1",
+        "formula",
+        "formula square",
+        "formula square 0",
+        "formula square 7",
+        "formula square 1 1",
+        "formula square 1 --turns 5",
+        "formula square 1 --workers 1",
+        "formula square 1 --size 0",
+        "formula square 1 --version 3",
+        "formula kite 1 --version 1",
+        "answer",
+        "answer square 01",
+        "answer square 2 --levels 2",
+        "answer square 2 --domain 2",
+        "answer square 2 --brief",
+        "answer kite 2 --size 5 --version 1",
     ] {
         let words = words_of(alloc, line)?;
         assert_eq!(rt; parse(&words), Err(Usage), "at {line}");

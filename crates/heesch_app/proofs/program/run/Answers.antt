@@ -1,10 +1,12 @@
 use Rattle.std.specs.Prelude.{map, string_bytes}
 use Rattle.std.proofs.Common.{◌≡◌, Some, sym, subst, inr, ◌∙◌}
 use Rattle.heesch_app.specs.declared.status.Status.TheVariants.{Done}
-use Rattle.heesch_app.specs.Outputs.{IsOutput}
+use Rattle.heesch_words.proofs.Forms.{one_request}
+use Rattle.heesch_app.specs.Outputs.{IsOutput, ReadsToEnd}
 use Rattle.heesch_app.proofs.Beginnings.{begins_itself}
 use Rattle.heesch_app.proofs.Headline.{catalogued}
 use Rattle.heesch_app.proofs.Ranges.{asked_in_range}
+use Rattle.heesch_app.proofs.ToldExchanges.{writes_formula, writes_answer}
 use Rattle.heesch_app.proofs.ValidOutputs.{valid_is_done, writes_valid, tallied_is_done, bad_is_long}
 use Rattle.heesch_app.proofs.program.run.Goals as goal
 
@@ -75,3 +77,26 @@ returns-in-Ok-put-clause-too_long g c = λ input workers told asks bad.
     let output : IsOutput request left status text = subst (λ t. IsOutput request left status t) (sym c.deref.ensures.value) c.in-Ok-reply.ensures.ok in
     let of_input : IsOutput request (Some input) status text = subst (λ l. IsOutput request l status text) told output in
     bad_is_long (map string_bytes c.args.words.now) input status text workers asks (request, c.in-Ok.ensures.ok, of_input) bad
+
+pub returns-in-Ok-put-clause-formulas : goal.returns-in-Ok-put-clause-formulas
+returns-in-Ok-put-clause-formulas g c = λ done grid level size version asks.
+    let request = c.in-Ok.request in
+    let left = g.R.Source.left c.args.source.now in
+    let status = c.in-Ok-reply.reply.status in
+    let text = c.deref.result.now in
+    let output : IsOutput request left status text = subst (λ t. IsOutput request left status t) (sym c.deref.ensures.value) c.in-Ok-reply.ensures.ok in
+    writes_formula (map string_bytes c.args.words.now) left status text _ _ grid level size version done (request, c.in-Ok.ensures.ok, output) c.in-Ok-put.ensures.ok asks
+
+pub returns-in-Ok-put-clause-answers : goal.returns-in-Ok-put-clause-answers
+returns-in-Ok-put-clause-answers g c = λ done grid level size version asks.
+    let request = c.in-Ok.request in
+    let left = g.R.Source.left c.args.source.now in
+    let status = c.in-Ok-reply.reply.status in
+    let text = c.deref.result.now in
+    let output : IsOutput request left status text = subst (λ t. IsOutput request left status t) (sym c.deref.ensures.value) c.in-Ok-reply.ensures.ok in
+    writes_answer (map string_bytes c.args.words.now) left status text _ _ grid level size version done (request, c.in-Ok.ensures.ok, output) c.in-Ok-put.ensures.ok asks
+
+pub returns-in-Ok-put-clause-read_to_end : goal.returns-in-Ok-put-clause-read_to_end
+returns-in-Ok-put-clause-read_to_end g c = λ done request asks reads.
+    let same : request ≡ c.in-Ok.request = one_request (map string_bytes c.args.words.now) request c.in-Ok.request asks c.in-Ok.ensures.ok in
+    c.in-Ok-reply.ensures.ended done (subst ReadsToEnd same reads)

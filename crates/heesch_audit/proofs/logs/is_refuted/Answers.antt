@@ -8,12 +8,12 @@ pub returns-in-Open : goal.returns-in-Open
 returns-in-Open c =
     let formula = c.args.formula.now in
     let log = c.args.log.now in
-    let found = subst (IsLogAnswer formula.vars formula.clauses log) c.in-Open.is c.in_ok-check_log_flat.ensures in
+    let found = subst (IsLogAnswer formula.vars formula.clauses log) c.in-Open.is c.in_ok-check_steps.ensures in
     refused (open_not_refuted formula.vars formula.clauses log found.1)
 
 pub returns-in-BadLine : goal.returns-in-BadLine
 returns-in-BadLine c =
     let formula = c.args.formula.now in
     let log = c.args.log.now in
-    let found = subst (IsLogAnswer formula.vars formula.clauses log) c.in-BadLine.is c.in_ok-check_log_flat.ensures in
+    let found = subst (IsLogAnswer formula.vars formula.clauses log) c.in-BadLine.is c.in_ok-check_steps.ensures in
     refused (bad_not_refuted formula.vars formula.clauses log c.in-BadLine.at found)

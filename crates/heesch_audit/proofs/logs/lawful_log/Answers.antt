@@ -1,9 +1,11 @@
-use Rattle.std.proofs.Common.{subst}
+use Rattle.std.proofs.Common.{◌≡◌, ◌∙◌, ◌≤◌, [], List, length, map, All, ap, subst}
+use Rattle.std.proofs.lemmas.List.{take_all}
 use Rattle.std.specs.Prelude.{Option, MatchOption}
-use Rattle.heesch_cnf.specs.declared.log.Line.{Line}
-use Rattle.heesch_cert.specs.Proofs.{IsLawfulStep, line_of_step}
-use Rattle.heesch_audit.specs.Logs.{IsLineOf}
-use Rattle.heesch_audit.proofs.LogLines.{all_more, lines_more}
+use Rattle.heesch_cnf.specs.declared.literal.Lit.{Lit}
+use Rattle.heesch_cnf.specs.declared.log.Log.{Log}
+use Rattle.heesch_cert.specs.Proofs.{HasNoCut, IsLawfulStep, log_of}
+use Rattle.heesch_audit.specs.Logs.{given_clause}
+use Rattle.heesch_audit.proofs.LogLines.{all_more, lines_more, lawful_of_learnt, log_of_given, log_of_none}
 use Rattle.heesch_audit.proofs.logs.lawful_log.Goals as goal
 
 pub loop-step-preserved : goal.loop-step-preserved
@@ -12,9 +14,25 @@ loop-step-preserved g c =
     let steps = c.as_slice-step-items.result.now in
     let i = c.loop-step.step-index in
     let step = c.step-item.result in
-    let line = c.in-Some.line in
-    let found = subst (λ (o : Option Line). MatchOption o (¬ IsLawfulStep g.G.Grid.geometry c.args.shape.now u.level u.vars step) (IsLineOf g.G.Grid.geometry c.args.shape.now u.level u.vars step)) c.in-Some.is c.in_ok-line.ensures in
+    let clause = c.in-Some-2.clause in
+    let Lawful = IsLawfulStep g.G.Grid.geometry c.args.shape.now u.level u.vars in
+    let found = subst (λ (o : Option (List Lit)). MatchOption o (¬ IsLawfulStep g.G.Grid.geometry c.args.shape.now u.level u.vars step) (λ ls. IsLawfulStep g.G.Grid.geometry c.args.shape.now u.level u.vars step × (ls ≡ given_clause u.vars step))) c.in-Some-2.is c.in_ok-clause.ensures in
     record {
-      lawful = all_more (IsLawfulStep g.G.Grid.geometry c.args.shape.now u.level u.vars) (line_of_step u.vars) steps i step c.loop-step-test.true c.step-item.is found.0 c.loop-step.invariant.lawful;
-      same = lines_more (IsLawfulStep g.G.Grid.geometry c.args.shape.now u.level u.vars) (line_of_step u.vars) steps i step c.loop-step-test.true c.step-item.is line c.loop-step.lines c.push.new.self found.1 c.loop-step.invariant.same c.in_ok-push.ensures.ok;
+      lawful = all_more Lawful (given_clause u.vars) steps i step c.loop-step-test.true c.step-item.is found.0 c.loop-step.invariant.lawful;
+      same = lines_more Lawful (given_clause u.vars) steps i step c.loop-step-test.true c.step-item.is clause c.loop-step.given c.push.new.self found.1 c.loop-step.invariant.same c.in_ok-push.ensures.ok;
     }
+
+pub returns-in-Some : goal.returns-in-Some
+returns-in-Some g c =
+    let u = c.args.universe.now in
+    let proof = c.args.proof.now in
+    let found = subst (λ (o : Option Log). MatchOption o (¬ HasNoCut proof) (λ l. HasNoCut proof × (l ≡ log_of [] proof))) c.in-Some.is c.learnt_log.ensures in
+    (lawful_of_learnt g.G.Grid.geometry c.args.shape.now u.level u.vars proof.steps found.0, found.1 ∙ log_of_none u.vars proof found.0)
+
+pub returns : goal.returns
+returns g c =
+    let u = c.args.universe.now in
+    let proof = c.args.proof.now in
+    let long : length c.as_slice-step-items.result.now ≤ c.loop-step.step-index = c.loop-step-test.false in
+    let all = take_all c.loop-step.step-index c.as_slice-step-items.result.now long ∙ c.as_slice-step-items.ensures in
+    (subst (All (IsLawfulStep g.G.Grid.geometry c.args.shape.now u.level u.vars)) all c.loop-step.invariant.lawful, log_of_given u.vars proof c.loop-step.given (c.loop-step.invariant.same ∙ ap (map (given_clause u.vars)) all))

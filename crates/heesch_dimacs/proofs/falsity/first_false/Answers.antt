@@ -1,33 +1,26 @@
-use Rattle.std.proofs.Common.{◌≡◌, ◌<◌, List, length, get_or, take, ap, subst, refl, arith}
-use Rattle.heesch_cnf.specs.declared.literal.Lit.{Lit}
-use Rattle.heesch_cnf.specs.Clauses.{assignment_of, Satisfies}
-use Rattle.heesch_dimacs.proofs.Untrue.{clause_at, first_is, one_more, all_true}
+use Rattle.std.proofs.Common.{◌<◌, [], length, refl, arith}
+use Rattle.std.proofs.lemmas.List.Elements.{All-more}
+use Rattle.heesch_cnf.specs.Clauses.{assignment_of, IsSatisfied}
+use Rattle.heesch_dimacs.proofs.Untrue.{first_is, all_true}
 use Rattle.heesch_dimacs.proofs.falsity.first_false.Goals as goal
 
 pub is_satisfied-requires-clause-form : goal.is_satisfied-requires-clause-form
-is_satisfied-requires-clause-form c =
-    let items = c.as_slice-clauses.ensures in
-    let lt : c.loop-index.index < length c.args.formula.now.clauses = omega (arith, ap length items) in
-    let here : c.as_slice.result.now ≡ get_or c.args.formula.now.clauses c.loop-index.index c.as_slice.result.now = cc in
-    clause_at c.args.formula.now.vars c.args.formula.now.clauses c.loop-index.index c.as_slice.result.now c.args.formula.now.well_formed lt here
+is_satisfied-requires-clause-form g c =
+    let formula = c.clause_count-index-end.ensures in
+    let lt : c.loop-index.index < length (g.F.HasLiterals.clauses c.args.formula.now) = omega (arith, formula.count) in
+    formula.form c.loop-index.index [] lt
 
 pub returns-then-not-is_satisfied : goal.returns-then-not-is_satisfied
-returns-then-not-is_satisfied c =
-    let items = c.as_slice-clauses.ensures in
-    let lt : c.loop-index.index < length c.args.formula.now.clauses = omega (arith, ap length items) in
-    let here : c.as_slice.result.now ≡ get_or c.args.formula.now.clauses c.loop-index.index c.as_slice.result.now = cc in
-    let before = subst (λ (cs : List (List Lit)). Satisfies (assignment_of c.args.values.now) (take c.loop-index.index cs)) items c.loop-index.invariant in
+returns-then-not-is_satisfied g c =
+    let lt : c.loop-index.index < length (g.F.HasLiterals.clauses c.args.formula.now) = omega (arith, c.clause_count-index-end.ensures.count) in
     let tested = c.if-not-is_satisfied.ensures in
-    first_is (assignment_of c.args.values.now) c.args.formula.now.clauses c.loop-index.index c.as_slice.result.now lt here (λ s. let no_truth = tested.1 s in absurd cc) before
+    first_is (assignment_of c.args.values.now) (g.F.HasLiterals.clauses c.args.formula.now) c.loop-index.index lt (λ s. let no_truth = tested.1 s in absurd cc) c.loop-index.invariant
 
 pub loop-index-preserved : goal.loop-index-preserved
-loop-index-preserved c =
-    let tested = c.if-not-is_satisfied.ensures in
-    let here : c.as_slice.result.now ≡ get_or c.as_slice-clauses.result.now c.loop-index.index c.as_slice.result.now = cc in
-    one_more (assignment_of c.args.values.now) c.as_slice-clauses.result.now c.loop-index.index c.as_slice.result.now c.loop-index-test.true here (tested.0 refl) c.loop-index.invariant
+loop-index-preserved g c =
+    let lt : c.loop-index.index < length (g.F.HasLiterals.clauses c.args.formula.now) = omega (arith, c.clause_count-index-end.ensures.count) in
+    All-more (IsSatisfied (assignment_of c.args.values.now)) (g.F.HasLiterals.clauses c.args.formula.now) c.loop-index.index [] lt c.loop-index.invariant (c.if-not-is_satisfied.ensures.0 refl)
 
 pub returns : goal.returns
-returns c =
-    let items = c.as_slice-clauses.ensures in
-    let whole = all_true (assignment_of c.args.values.now) c.as_slice-clauses.result.now c.loop-index.index c.loop-index-test.false c.loop-index.invariant in
-    subst (Satisfies (assignment_of c.args.values.now)) items whole
+returns g c =
+    all_true (assignment_of c.args.values.now) (g.F.HasLiterals.clauses c.args.formula.now) c.loop-index.index (omega (arith, c.loop-index-test.false, c.clause_count-index-end.ensures.count)) c.loop-index.invariant

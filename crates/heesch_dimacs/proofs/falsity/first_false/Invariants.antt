@@ -3,4 +3,4 @@ use Rattle.heesch_cnf.specs.Clauses.{assignment_of, Satisfies}
 use Rattle.heesch_dimacs.proofs.falsity.first_false.Given as goal
 
 abbrev pub invariant-loop-index : goal.invariant-loop-index
-invariant-loop-index l = Satisfies (assignment_of l.values) (take l.index l.clauses)
+invariant-loop-index g l = Satisfies (assignment_of l.values) (take l.index (g.F.HasLiterals.clauses l.formula))

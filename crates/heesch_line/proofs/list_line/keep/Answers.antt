@@ -1,4 +1,4 @@
-use Rattle.std.proofs.Common.{◌<◌, ◌≤◌, length, sym, subst, ◌∙◌}
+use Rattle.std.proofs.Common.{◌<◌, ◌≤◌, subst, ◌∙◌}
 use Rattle.heesch_line.proofs.Scans.{kept_more, kept_same}
 use Rattle.heesch_line.proofs.list_line.keep.Goals as goal
 

@@ -1,4 +1,4 @@
-use Rattle.std.proofs.Common.{◌≡◌, ◌≢◌, true, false, [], sym, ap, ◌∙◌, refl, inl, inr}
+use Rattle.std.proofs.Common.{◌≡◌, ◌≢◌, true, false, [], sym, ap, ◌∙◌, refl, inl}
 use Rattle.std.proofs.lemmas.Bool.{false≢true}
 use Rattle.heesch_line.specs.Scanning.{Scanned}
 use Rattle.heesch_line.proofs.Scans.{scanned_none, scanned_cells, none_begun, begun}

@@ -16,6 +16,9 @@ count_entries-requires-in-Some-Hex-clause-few c = few_more c.requires.0 c.args.i
 pub count_entries-requires-in-Some-Iamond-clause-few : goal.count_entries-requires-in-Some-Iamond-clause-few
 count_entries-requires-in-Some-Iamond-clause-few c = few_more c.requires.0 c.args.items.now c.args.self.now c.requires.1 c.requires.2
 
+pub count_entries-requires-in-Some-Kite-clause-few : goal.count_entries-requires-in-Some-Kite-clause-few
+count_entries-requires-in-Some-Kite-clause-few c = few_more c.requires.0 c.args.items.now c.args.self.now c.requires.1 c.requires.2
+
 pub returns-in-Some-Square : goal.returns-in-Some-Square
 returns-in-Some-Square c =
     let new : Table = record { grid = c.grid_behind-self.result; tally = c.count_entries.new.tally } in
@@ -39,3 +42,11 @@ returns-in-Some-Iamond c =
     let named : c.grid_behind-self.result ≡ Some grids.Iamond = c.in-Some-Iamond.is ∙ ap (λ (x : GridName). Some x) name in
     if_ok_more c.count_entries-in-Some-Iamond.result (CountsEntries (geometry_of grids.Iamond) c.args.self.now.tally c.count_entries-in-Some-Iamond.new.tally c.args.items.now) (CountsItems c.args.self.now new c.args.items.now)
     (λ told. counted_items c.args.self.now new c.args.items.now grids.Iamond told named c.grid_behind-self.ensures) c.count_entries-in-Some-Iamond.ensures
+
+pub returns-in-Some-Kite : goal.returns-in-Some-Kite
+returns-in-Some-Kite c =
+    let new : Table = record { grid = c.grid_behind-self.result; tally = c.count_entries-in-Some-Kite.new.tally } in
+    let name = rw c.in-Some-Kite.is at c.in-Some-Kite.field-0-is in
+    let named : c.grid_behind-self.result ≡ Some grids.Kite = c.in-Some-Kite.is ∙ ap (λ (x : GridName). Some x) name in
+    if_ok_more c.count_entries-in-Some-Kite.result (CountsEntries (geometry_of grids.Kite) c.args.self.now.tally c.count_entries-in-Some-Kite.new.tally c.args.items.now) (CountsItems c.args.self.now new c.args.items.now)
+    (λ told. counted_items c.args.self.now new c.args.items.now grids.Kite told named c.grid_behind-self.ensures) c.count_entries-in-Some-Kite.ensures

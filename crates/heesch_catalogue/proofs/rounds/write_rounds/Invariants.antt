@@ -1,0 +1,17 @@
+use Rattle.std.proofs.Common.{◌≤◌, ◌-◌, length, take}
+use Rattle.heesch_catalogue.specs.Rounds.{AreTextsOf, WritesOne}
+use Rattle.heesch_catalogue.proofs.rounds.write_rounds.Given as goal
+
+-- the entries of the shapes before this place are written
+abbrev pub invariant-loop-from : goal.invariant-loop-from
+invariant-loop-from g l =
+    let held = g.W.Sink.held in
+    let faults = g.W.Sink.faults in
+    record {
+      within : l.from ≤ length l.shapes;
+      written : WritesOne (AreTextsOf g.G.Grid.geometry l.header (take l.from l.shapes)) (held l.fn.sink) (held l.sink);
+      later : faults l.fn.sink ≤ faults l.sink;
+    }
+
+abbrev pub decreases-loop-from : goal.decreases-loop-from
+decreases-loop-from g l = l.count - l.from

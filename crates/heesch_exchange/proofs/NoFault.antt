@@ -1,0 +1,137 @@
+-- An input that is answered has no fault.
+use Rattle.std.proofs.Common.{◌≡◌, ◌≢◌, ◌∙◌, ◌⊎◌, ℕ, ◌≤◌, List, [], ◌∷◌, ◌++◌, refl, sym, subst, arith, append_assoc, append-nil, inl, inr}
+use Rattle.std.specs.Prelude.{Bool, Contains}
+use Rattle.heesch_grid.specs.declared.Cell.{Cell}
+use Rattle.heesch_grid.specs.Cells.{cell_before, IsCellListOf}
+use Rattle.heesch_grid.specs.Clauses.{formula_size}
+use Rattle.heesch_grid.specs.CoronaFormula.{Variable}
+use Rattle.heesch_grid.specs.Geometry.{Geometry, IsGrid}
+use Rattle.heesch_grid.specs.Polyform.{IsPolyform, IsCanonicalListOf}
+use Rattle.heesch_grid.proofs.CellFacts.{cell_before-irreflexive, cell_before-asymmetric}
+use Rattle.heesch_grid.proofs.IsometryFacts.{image_polyform}
+use Rattle.heesch_grid.proofs.ListFacts.{same_listing}
+use Rattle.heesch_grid.proofs.Pinned.{one_canonical_list}
+use Rattle.heesch_grid.proofs.VersionFacts.{formulas_of_versions_are_unique}
+use Rattle.heesch_cert.specs.Formulas.{IsCountedFormula, version_number}
+use Rattle.heesch_cert.specs.Literals.{literals}
+use Rattle.heesch_cert.specs.Proofs.{IsTooLarge}
+use Rattle.heesch_cert.proofs.Exactly.{too_large_exactly}
+use Rattle.heesch_cnf.specs.declared.literal.Lit.{Lit}
+use Rattle.heesch_cnf.specs.declared.version.Version.{Version}
+use Rattle.heesch_dimacs.specs.declared.model.ModelStop.TheVariants.{NotText}
+use Rattle.heesch_dimacs.specs.Models.{IsModel, IsModelText, ended}
+use Rattle.heesch_dimacs.specs.Stops.{Stops}
+use Rattle.heesch_dimacs.specs.Words.{HasNoNewline}
+use Rattle.heesch_dimacs.proofs.Bytes.{cut_same}
+use Rattle.heesch_line.proofs.OneList.{cells_tell}
+use Rattle.heesch_shape.specs.Faults.{IsFault}
+use Rattle.heesch_exchange.specs.Answers.{IsAnswer, HasAnswerFault, IsModelFault}
+use Rattle.heesch_exchange.specs.Formulas.{IsFormula, HasFormulaFault}
+use Rattle.heesch_given.specs.Given.{IsLineFault}
+use Rattle.heesch_exchange.specs.Shapes.{HasFirstLine, IsShapeFault, IsShapeLine}
+
+-- ---- the first line
+
+-- an input with a first line has one alone
+one_line : (input a b line behind : List ℕ) → HasFirstLine input a b → HasFirstLine input line behind → (a ≡ line) × (b ≡ behind)
+one_line input a b line behind x y = by x.text y.text
+  where
+    by : (input ≡ a ++ 10 ∷ b) ⊎ ((input ≡ a) × (b ≡ [])) → (input ≡ line ++ 10 ∷ behind) ⊎ ((input ≡ line) × (behind ≡ [])) → (a ≡ line) × (b ≡ behind)
+    by (inl p) (inl q) =
+        let both = cut_same 10 a (10 ∷ b) line (10 ∷ behind) x.whole y.whole refl refl (sym p ∙ q) in
+        (both.0, let same = both.1 in cc)
+    by (inl p) (inr q) =
+        let both = cut_same 10 a (10 ∷ b) line [] x.whole y.whole refl tt (sym p ∙ q.0 ∙ sym (append-nil line)) in
+        absurd (let same = both.1 in cc)
+    by (inr p) (inl q) =
+        let both = cut_same 10 a [] line (10 ∷ behind) x.whole y.whole tt refl (append-nil a ∙ sym p.0 ∙ q) in
+        absurd (let same = both.1 in cc)
+    by (inr p) (inr q) = (sym p.0 ∙ q.0, p.1 ∙ sym q.1)
+
+-- a line that ends is a first line
+as_first : (input line model : List ℕ) → HasNoNewline line → input ≡ line ++ 10 ∷ model → HasFirstLine input line model
+as_first input line model whole is = record { whole = whole; text = inl is }
+
+module _ (g : Geometry) (line : List ℕ) where
+  -- a line has the shape of one canonical list
+  one_shape : (a b : List Cell) → IsShapeLine g line a → IsShapeLine g line b → a ≡ b
+  one_shape a b x y =
+      let cells : x.cells ≡ y.cells = cells_tell x.cells y.cells x.are_cells y.are_cells (sym x.text ∙ y.text) in
+      let p = x.is_canonical in
+      let q = y.is_canonical in
+      let shapes : p.shape ≡ q.shape =
+      same_listing cell_before cell_before-irreflexive cell_before-asymmetric (Contains y.cells) p.shape q.shape (subst (λ (cs : List Cell). IsCellListOf cs p.shape) cells p.same_cells) q.same_cells in
+      one_canonical_list g q.shape a b (subst (λ (s : List Cell). IsCanonicalListOf g s a) shapes p.is_canonical) q.is_canonical
+
+  -- the line of a shape has no fault by itself
+  faultless : (shape : List Cell) (number : ℕ) → IsShapeLine g line shape → IsLineFault g line number → ⊥
+  faultless shape number x (inr (none, _)) = none x.cells x.are_cells x.text
+  faultless shape number x (inl f) =
+      let cells : f.cells ≡ x.cells = cells_tell f.cells x.cells f.are_cells x.are_cells (sym f.text ∙ x.text) in
+      x.faultless f.fault (subst (λ (cs : List Cell). IsFault g cs f.fault) cells f.is_fault)
+
+  module _ (law : IsGrid g) (version : Version) (j size : ℕ) (shape : List Cell) (is_shape : IsShapeLine g line shape) (vars : List Variable) (count : ℕ) (clauses : List (List Lit)) (formula : IsCountedFormula version g shape j vars count clauses) where
+    polyform : IsPolyform g shape
+    polyform = let p = is_shape.is_canonical in image_polyform g law p.shape shape p.polyform p.is_canonical.is_image
+
+    -- nor one by its formula, where that fits
+    no_shape_fault : (number : ℕ) → formula_size clauses ≤ size → IsShapeFault version g j size line number → ⊥
+    no_shape_fault number fits (inl f) = faultless shape number is_shape f
+    no_shape_fault number fits (inr (large, _)) =
+        let same : large.shape ≡ shape = one_shape large.shape shape large.is_shape is_shape in
+        let too_large : IsTooLarge version g shape j size = subst (λ (s : List Cell). IsTooLarge version g s j size) same large.too_large in
+        let above = (too_large_exactly version g law shape polyform j vars count clauses formula size).0 too_large in
+        omega (arith, above, fits)
+
+    -- a formula of the same line has as many variables
+    one_count : (other : List Cell) (others : List Variable) (number : ℕ) (rest : List (List Lit)) → IsShapeLine g line other → IsCountedFormula version g other j others number rest → count ≡ number
+    one_count other others number rest is_other formula_too =
+        let same : other ≡ shape = one_shape other shape is_other is_shape in
+        (formulas_of_versions_are_unique _ literals (version_number version) g shape j vars others count number clauses rest law polyform formula
+        (subst (λ (s : List Cell). IsCountedFormula version g s j others number rest) same formula_too)).1
+
+-- ---- `formula`
+
+pub formula_has_none : (version : Version) (g : Geometry) (j size : ℕ) (input text : List ℕ) (at number : ℕ) → IsGrid g → IsFormula version g j size input text → HasFormulaFault version g j size input at number → ⊥
+formula_has_none version g j size input text at number law f (inl (empty, _, _)) = f.some empty
+formula_has_none version g j size input text at number law f (inr (inl (fault, _))) =
+    let lines = one_line input fault.line fault.behind f.line [] fault.first f.only in
+    no_shape_fault g f.line law version j size f.shape f.is_shape f.vars f.count f.clauses f.formula number f.fits (subst (λ (l : List ℕ). IsShapeFault version g j size l number) lines.0 fault.fault)
+formula_has_none version g j size input text at number law f (inr (inr (second, _, _))) =
+    second.more (one_line input second.line second.behind f.line [] second.first f.only).1
+
+-- ---- `answer`
+
+-- a model text has no fault
+no_model_fault : (count : ℕ) (model : List ℕ) (values : List Bool) (at number : ℕ) → IsModel count model values → IsModelFault count model at number → ⊥
+no_model_fault count model values at number m (inl (line, stops, _, _)) = by stops
+  where
+    by : Stops count model (NotText line) → ⊥
+    by (inl e) = e.other m.literals m.text_is
+    by (inr o) =
+        let h = o.has_line in
+        let whole : model ≡ (o.front ++ ended o.line) ++ h.rest = h.reached.text_is ∙ sym (append_assoc o.front (ended o.line) h.rest) in
+        o.other (record { more = h.rest; literals = m.literals; text_is = subst (λ (t : List ℕ). IsModelText t m.literals) whole m.text_is })
+no_model_fault count model values at number m (inr (line, s, _, _)) =
+    let h = s.has_line in
+    let whole : model ≡ (s.front ++ ended s.line) ++ h.rest = h.reached.text_is ∙ sym (append_assoc s.front (ended s.line) h.rest) in
+    s.stranger (record { more = h.rest; literals = m.literals; text_is = subst (λ (t : List ℕ). IsModelText t m.literals) whole m.text_is; over = m.over })
+
+pub answer_has_none : (version : Version) (g : Geometry) (j size : ℕ) (input text : List ℕ) (at number : ℕ) → IsGrid g → IsAnswer version g j size input text → HasAnswerFault version g j size input at number → ⊥
+answer_has_none version g j size input text at number law a (inl (empty, _, _)) =
+    not_empty a.line (sym a.input_is ∙ empty)
+  where
+    not_empty : (line : List ℕ) → line ++ 10 ∷ a.model ≢ []
+    not_empty [] is = cc
+    not_empty (b ∷ line) is = cc
+answer_has_none version g j size input text at number law a (inr (inl (_, whole, _, _))) =
+    absurd (let same = (cut_same 10 a.line (10 ∷ a.model) input [] a.whole whole refl tt (sym a.input_is ∙ sym (append-nil input))).1 in cc)
+answer_has_none version g j size input text at number law a (inr (inr (inl (fault, _)))) =
+    let lines = one_line input fault.line fault.model a.line a.model (as_first input fault.line fault.model fault.whole fault.input_is) (as_first input a.line a.model a.whole a.input_is) in
+    no_shape_fault g a.line law version j size a.shape a.is_shape a.vars a.count a.clauses a.formula number a.fits (subst (λ (l : List ℕ). IsShapeFault version g j size l number) lines.0 fault.fault)
+answer_has_none version g j size input text at number law a (inr (inr (inr fault))) =
+    let lines = one_line input fault.line fault.model a.line a.model (as_first input fault.line fault.model fault.whole fault.input_is) (as_first input a.line a.model a.whole a.input_is) in
+    let is_shape : IsShapeLine g a.line fault.shape = subst (λ (l : List ℕ). IsShapeLine g l fault.shape) lines.0 fault.is_shape in
+    let counts : a.count ≡ fault.count = one_count g a.line law version j size a.shape a.is_shape a.vars a.count a.clauses a.formula fault.shape fault.vars fault.count fault.clauses is_shape fault.formula in
+    no_model_fault a.count a.model a.values at number a.is_model
+    (subst (λ (m : List ℕ). IsModelFault a.count m at number) lines.1 (subst (λ (n : ℕ). IsModelFault n fault.model at number) (sym counts) fault.fault))

@@ -1,0 +1,175 @@
+-- What is told of an input, from the steps.
+use Rattle.std.proofs.Common.{◌≡◌, ◌≢◌, ◌∙◌, ◌⊎◌, ◌↔◌, ℕ, ◌+◌, ◌≤◌, Bool, true, false, List, [], ◌∷◌, ◌++◌, length, length-append, refl, ap, sym, subst, arith, inl, inr, eqb-true}
+use Rattle.std.specs.Prelude.{◌==◌, Result, Ok, Err, IfErr}
+use Rattle.std.specs.List.{AllZip, range_with_len}
+use Rattle.std.specs.Result.{IsErrAnd}
+use Rattle.std.proofs.lemmas.List.{length-map}
+use Rattle.std.proofs.lemmas.List.FromFn.{length-range_with_len}
+use Rattle.std.proofs.lemmas.Slice.Zip.{AllZip-long}
+use Rattle.heesch_grid.specs.declared.Cell.{Cell}
+use Rattle.heesch_grid.specs.declared.isometries.Iso.{Iso}
+use Rattle.heesch_grid.specs.Clauses.{formula_size}
+use Rattle.heesch_grid.specs.Corona.{AreCoronas, HasCoronas}
+use Rattle.heesch_grid.specs.CoronaFormula.{Variable}
+use Rattle.heesch_grid.specs.Geometry.{Geometry}
+use Rattle.heesch_grid.specs.Placement.{IsLeastIsometry}
+use Rattle.heesch_grid.specs.Statements.{chosen_layer, chosen_layers}
+use Rattle.heesch_cert.specs.Formulas.{IsCountedFormula}
+use Rattle.heesch_cert.specs.Proofs.{IsTooLarge}
+use Rattle.heesch_cert.specs.TrueEntry.{Spells}
+use Rattle.heesch_cnf.specs.declared.literal.Lit.{Lit}
+use Rattle.heesch_cnf.specs.declared.version.Version.{Version}
+use Rattle.heesch_cnf.specs.Clauses.{Satisfies, assignment_of}
+use Rattle.heesch_dimacs.specs.declared.model.ModelStop.TheVariants.{NotText, Stranger}
+use Rattle.heesch_dimacs.specs.Formulas.{clause_text}
+use Rattle.heesch_dimacs.specs.Models.{IsModel, ended, text_of}
+use Rattle.heesch_dimacs.specs.Stops.{Stops, IsReached}
+use Rattle.heesch_dimacs.specs.Words.{HasNoNewline}
+use Rattle.heesch_encode.specs.declared.stop.EncodeStop.{EncodeStop}
+use Rattle.heesch_encode.specs.declared.stop.EncodeStop.TheVariants.{TooLarge, NoMemory}
+use Rattle.heesch_place.specs.Universes.{Levels}
+use Rattle.heesch_text.specs.Catalogue.{coronas_text}
+use Rattle.heesch_exchange.specs.declared.stop.ExchangeStop.{ExchangeStop}
+use Rattle.heesch_exchange.specs.declared.stop.ExchangeStop.TheVariants.{Fault, NoMemory as NoStop}
+use Rattle.heesch_exchange.specs.Answers.{IsAnswer, IsAnswerStop, IsModelStop, TellsCoronas, TellsFalse}
+use Rattle.heesch_exchange.specs.Formulas.{IsFormula, IsFormulaStop, HasSecondLine}
+use Rattle.heesch_exchange.specs.Shapes.{HasFirstLine, IsShapeLine, IsShapeFault, IsLineStop, encode_stop}
+
+-- ---- empty texts
+
+pub not_empty : (xs : List ℕ) (b : Bool) → b ≡ (length xs == 0) → b ≡ false → xs ≢ []
+not_empty [] b is f = λ _. let t : b ≡ true = is in cc
+not_empty (x ∷ xs) b is f = λ e. cc
+
+pub empty_is : (xs : List ℕ) (b : Bool) → b ≡ (length xs == 0) → b ≡ true → xs ≡ []
+empty_is [] b is t = refl
+empty_is (x ∷ xs) b is t = let none : length (x ∷ xs) ≡ 0 = eqb-true (length (x ∷ xs)) 0 (sym is ∙ t) in absurd (omega arith)
+
+-- ---- a formula that is too large
+
+-- what holds of the error that another was turned into
+pub as_error : {T E : Type 0} (result : Result T E) (e : E) (P : E → Type 0) → IsErrAnd result (λ x. x ≡ e) → P e → IfErr result P
+as_error (Ok t) e P is p = tt
+as_error (Err x) e P is p = subst P (sym is) p
+
+module _ (version : Version) (g : Geometry) (j size : ℕ) (line : List ℕ) (shape : List Cell) (is_shape : IsShapeLine g line shape) where
+  large : IsTooLarge version g shape j size → IsShapeFault version g j size line 14
+  large too_large = inr (record { shape = shape; is_shape = is_shape; too_large = too_large }, refl)
+
+  -- what encoding answers is told of an input to `formula`
+  pub formula_stop : (input behind : List ℕ) → input ≢ [] → HasFirstLine input line behind → (stop : EncodeStop) → (stop ≡ TooLarge → IsTooLarge version g shape j size) → IsFormulaStop version g j size input (encode_stop stop)
+  formula_stop input behind some first TooLarge too_large = inr (inl (record { some = some; line = line; behind = behind; first = first; fault = large (too_large refl) }, refl))
+  formula_stop input behind some first NoMemory too_large = tt
+
+  -- and of one to `answer`
+  pub answer_stop : (input model : List ℕ) → HasNoNewline line → input ≡ line ++ 10 ∷ model → (stop : EncodeStop) → (stop ≡ TooLarge → IsTooLarge version g shape j size) → IsAnswerStop version g j size input (encode_stop stop)
+  answer_stop input model whole is TooLarge too_large = inr (inr (inl (record { line = line; model = model; whole = whole; input_is = is; fault = large (too_large refl) }, refl)))
+  answer_stop input model whole is NoMemory too_large = tt
+
+-- the fault of the shape's line is told of an input to `answer`
+pub line_stop : (version : Version) (g : Geometry) (j size : ℕ) (input line model : List ℕ) → HasNoNewline line → input ≡ line ++ 10 ∷ model → (stop : ExchangeStop) → IsLineStop g line stop → IsAnswerStop version g j size input stop
+line_stop version g j size input line model whole is (Fault at number) (at_is, fault) = inr (inr (inl (record { line = line; model = model; whole = whole; input_is = is; fault = inl fault }, at_is)))
+line_stop version g j size input line model whole is NoStop _ = tt
+
+-- ---- `formula`
+
+module _ (version : Version) (g : Geometry) (j size : ℕ) (input line behind : List ℕ) (first : HasFirstLine input line behind) (shape : List Cell) (is_shape : IsShapeLine g line shape) (vars : List Variable) (count : ℕ) (clauses : List (List Lit)) (formula : IsCountedFormula version g shape j vars count clauses) (fits : formula_size clauses ≤ size) where
+  pub second_line : behind ≢ [] → HasSecondLine version g j size input
+  second_line more = record { line = line; behind = behind; first = first; shape = shape; is_shape = is_shape; vars = vars; count = count; clauses = clauses; formula = formula; fits = fits; more = more }
+
+  pub is_formula : input ≢ [] → behind ≡ [] → (text : List ℕ) → text ≡ clause_text count clauses → ((values : ℕ → Bool) × Satisfies values clauses) ↔ HasCoronas g shape j → IsFormula version g j size input text
+  is_formula some none text is satisfiable = record {
+    some = some;
+    line = line;
+    only = subst (HasFirstLine input line) none first;
+    shape = shape;
+    is_shape = is_shape;
+    vars = vars;
+    count = count;
+    clauses = clauses;
+    formula = formula;
+    fits = fits;
+    text_is = is;
+    satisfiable = satisfiable;
+  }
+
+-- ---- `answer`
+
+-- as many layers are spelled as levels
+layer_count : (g : Geometry) (shape : List Cell) (j : ℕ) (vars : List Variable) (v : ℕ → Bool) (layers : List (List Iso)) → Spells g shape layers (chosen_layers v vars j) → length layers ≡ j
+layer_count g shape j vars v layers s =
+    let long : length (chosen_layers v vars j) ≡ length layers =
+    AllZip-long (λ (layer : List Iso) (placed : List (List Cell)). AllZip (λ by tile. IsLeastIsometry g shape tile by) layer placed) layers (chosen_layers v vars j) s.isometries in
+    sym long ∙ length-map (range_with_len 1 j) (chosen_layer v vars) ∙ length-range_with_len 1 j
+
+-- the layers of a universe are spelled as those of its shape and level
+pub spelled_of : (g : Geometry) (u : Levels) (shape : List Cell) (j : ℕ) (values other : List Bool) (layers : List (List Iso)) → u.shape ≡ shape → u.level ≡ j → other ≡ values
+    → Spells g u.shape layers (chosen_layers (assignment_of other) u.vars u.level) → Spells g shape layers (chosen_layers (assignment_of values) u.vars j)
+spelled_of g u shape j values other layers shape_is level_is same s =
+    subst (λ (cells : List Cell). Spells g cells layers (chosen_layers (assignment_of values) u.vars j)) shape_is
+    (subst (λ (k : ℕ). Spells g u.shape layers (chosen_layers (assignment_of values) u.vars k)) level_is
+    (subst (λ (vs : List Bool). Spells g u.shape layers (chosen_layers (assignment_of vs) u.vars u.level)) same s))
+
+pub tells_coronas : (g : Geometry) (shape : List Cell) (j : ℕ) (vars : List Variable) (v : ℕ → Bool) (clauses : List (List Lit)) (layers : List (List Iso)) (text : List ℕ) → Satisfies v clauses
+    → Spells g shape layers (chosen_layers v vars j) → AreCoronas g shape (chosen_layers v vars j) → text ≡ coronas_text layers → TellsCoronas g shape j vars v clauses text
+tells_coronas g shape j vars v clauses layers text satisfies spelled coronas is =
+    record { satisfies = satisfies; layers = layers; count = layer_count g shape j vars v layers spelled; spelled = spelled; coronas = coronas; text_is = is }
+
+module _ (version : Version) (g : Geometry) (j size : ℕ) (input line model : List ℕ) (whole : HasNoNewline line) (input_is : input ≡ line ++ 10 ∷ model) (shape : List Cell) (is_shape : IsShapeLine g line shape) (vars : List Variable) (count : ℕ) (clauses : List (List Lit)) (formula : IsCountedFormula version g shape j vars count clauses) (fits : formula_size clauses ≤ size) where
+  -- the fault of the model text is told
+  pub model_stop : (stop : ExchangeStop) → IsModelStop count model stop → IsAnswerStop version g j size input stop
+  model_stop (Fault at number) fault = inr (inr (inr (record {
+    line = line;
+    model = model;
+    whole = whole;
+    input_is = input_is;
+    shape = shape;
+    is_shape = is_shape;
+    vars = vars;
+    count = count;
+    clauses = clauses;
+    formula = formula;
+    fits = fits;
+    fault = fault;
+  })))
+  model_stop NoStop _ = tt
+
+  pub is_answer : (values : List Bool) → IsModel count model values → (text : List ℕ) → TellsCoronas g shape j vars (assignment_of values) clauses text ⊎ TellsFalse (assignment_of values) clauses text → IsAnswer version g j size input text
+  is_answer values is_model text told = record {
+    line = line;
+    model = model;
+    whole = whole;
+    input_is = input_is;
+    shape = shape;
+    is_shape = is_shape;
+    vars = vars;
+    count = count;
+    clauses = clauses;
+    formula = formula;
+    fits = fits;
+    values = values;
+    is_model = is_model;
+    told = told;
+  }
+
+-- ---- the numbers of a model text's lines
+
+-- a text has as many bytes as lines
+few_lines : (lines : List (List ℕ)) → length lines ≤ length (text_of lines)
+few_lines [] = omega arith
+few_lines (line ∷ lines) =
+    omega (arith, length-append (ended line) (text_of lines), length-append line (10 ∷ []), few_lines lines)
+
+reached_few : (vars : ℕ) (text : List ℕ) (number : ℕ) (front rest : List ℕ) → IsReached vars text number front rest → number ≤ length text + 1
+reached_few vars text number front rest r =
+    let parts : length text ≡ length front + length rest = subst (λ (t : List ℕ). length t ≡ length front + length rest) (sym r.text_is) (length-append front rest) in
+    let fronts : length front ≡ length (text_of r.lines) = ap length r.front_is in
+    omega (arith, r.number_is, parts, fronts, few_lines r.lines)
+
+-- the line of a model text's fault is at most the one behind as many as it has bytes
+pub few_before : (vars : ℕ) (text : List ℕ) (line : ℕ) → Stops vars text (NotText line) → line ≤ length text + 1
+few_before vars text line (inl e) = reached_few vars text line e.front e.rest e.reached
+few_before vars text line (inr o) = reached_few vars text line o.front (ended o.line ++ o.has_line.rest) o.has_line.reached
+
+pub few_before_stranger : (vars : ℕ) (text : List ℕ) (line : ℕ) → Stops vars text (Stranger line) → line ≤ length text + 1
+few_before_stranger vars text line s = reached_few vars text line s.front (ended s.line ++ s.has_line.rest) s.has_line.reached

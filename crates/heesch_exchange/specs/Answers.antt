@@ -1,0 +1,110 @@
+-- What `answer` answers of an input.
+use Rattle.std.specs.Prelude.{◌≡◌, ◌≢◌, ◌⊎◌, ℕ, ◌+◌, ◌≤◌, Bool, List, [], ◌∷◌, ◌++◌, length, codes, decimal, ⊤}
+use Rattle.heesch_grid.specs.declared.Cell.{Cell}
+use Rattle.heesch_grid.specs.declared.isometries.Iso.{Iso}
+use Rattle.heesch_grid.specs.Clauses.{formula_size}
+use Rattle.heesch_grid.specs.Corona.{AreCoronas}
+use Rattle.heesch_grid.specs.CoronaFormula.{Variable}
+use Rattle.heesch_grid.specs.Geometry.{Geometry}
+use Rattle.heesch_grid.specs.Statements.{chosen_layers}
+use Rattle.heesch_cert.specs.Formulas.{IsCountedFormula}
+use Rattle.heesch_cert.specs.TrueEntry.{Spells}
+use Rattle.heesch_cnf.specs.declared.literal.Lit.{Lit}
+use Rattle.heesch_cnf.specs.declared.version.Version.{Version}
+use Rattle.heesch_cnf.specs.Clauses.{Satisfies, assignment_of}
+use Rattle.heesch_dimacs.specs.declared.model.ModelStop.TheVariants as model_stops
+use Rattle.heesch_dimacs.specs.Formulas.{IsFirstFalse}
+use Rattle.heesch_dimacs.specs.Models.{IsModel}
+use Rattle.heesch_dimacs.specs.Stops.{Stops}
+use Rattle.heesch_dimacs.specs.Words.{HasNoNewline}
+use Rattle.heesch_text.specs.Catalogue.{coronas_text}
+use Rattle.heesch_exchange.specs.declared.stop.ExchangeStop.{ExchangeStop}
+use Rattle.heesch_exchange.specs.declared.stop.ExchangeStop.TheVariants.{Fault, NoMemory}
+use Rattle.heesch_exchange.specs.Shapes.{IsShapeLine, IsShapeFault}
+
+-- ---- the texts
+
+-- `false I`
+abbrev pub false_text : ℕ → List ℕ
+false_text number = codes "false " ++ decimal number ++ codes "\n"
+
+-- the text tells the least clause that the assignment makes false
+pub record TellsFalse (v : ℕ → Bool) (clauses : List (List Lit)) (text : List ℕ) : Type 0 where
+  pub number : ℕ
+  pub first : IsFirstFalse v clauses number
+  pub text_is : text ≡ false_text number
+
+-- The assignment makes all clauses true, and the text is that of the layers of its true variables: they are j coronas of the shape, holes allowed, spelled as the layers of a true entry.
+pub record TellsCoronas (g : Geometry) (shape : List Cell) (j : ℕ) (vars : List Variable) (v : ℕ → Bool) (clauses : List (List Lit)) (text : List ℕ) : Type 0 where
+  pub satisfies : Satisfies v clauses
+  pub layers : List (List Iso)
+  pub count : length layers ≡ j
+  pub spelled : Spells g shape layers (chosen_layers v vars j)
+  pub coronas : AreCoronas g shape (chosen_layers v vars j)
+  pub text_is : text ≡ coronas_text layers
+
+-- The input is the line of a shape S and behind it a model text over the variables of E(S, j) of the version, which has at most `size` literals; and the text tells the coronas or the least false clause of the model text's assignment.
+pub record IsAnswer (version : Version) (g : Geometry) (j size : ℕ) (input text : List ℕ) : Type 0 where
+  pub line : List ℕ
+  pub model : List ℕ
+  pub whole : HasNoNewline line
+  pub input_is : input ≡ line ++ 10 ∷ model
+  pub shape : List Cell
+  pub is_shape : IsShapeLine g line shape
+  pub vars : List Variable
+  pub count : ℕ
+  pub clauses : List (List Lit)
+  pub formula : IsCountedFormula version g shape j vars count clauses
+  pub fits : formula_size clauses ≤ size
+  pub values : List Bool
+  pub is_model : IsModel count model values
+  pub told : TellsCoronas g shape j vars (assignment_of values) clauses text ⊎ TellsFalse (assignment_of values) clauses text
+
+-- ---- the faults
+
+-- the first line, which ends, has this fault
+pub record HasEndedShapeFault (version : Version) (g : Geometry) (j size : ℕ) (input : List ℕ) (number : ℕ) : Type 0 where
+  pub line : List ℕ
+  pub model : List ℕ
+  pub whole : HasNoNewline line
+  pub input_is : input ≡ line ++ 10 ∷ model
+  pub fault : IsShapeFault version g j size line number
+
+-- the fault of a model text over the variables that begins with line 2: 6 where it isn't one, 15 where it names a variable that is above the greatest, or one twice
+abbrev pub IsModelFault : ℕ → List ℕ → ℕ → ℕ → Type 0
+IsModelFault count model at number =
+    ((line : ℕ) × Stops count model (model_stops.NotText line) × (at ≡ line + 1) × (number ≡ 6))
+    ⊎ ((line : ℕ) × Stops count model (model_stops.Stranger line) × (at ≡ line + 1) × (number ≡ 15))
+
+-- the first line is that of a shape, whose formula fits, and the text behind it has this fault
+pub record HasModelFault (version : Version) (g : Geometry) (j size : ℕ) (input : List ℕ) (at number : ℕ) : Type 0 where
+  pub line : List ℕ
+  pub model : List ℕ
+  pub whole : HasNoNewline line
+  pub input_is : input ≡ line ++ 10 ∷ model
+  pub shape : List Cell
+  pub is_shape : IsShapeLine g line shape
+  pub vars : List Variable
+  pub count : ℕ
+  pub clauses : List (List Lit)
+  pub formula : IsCountedFormula version g shape j vars count clauses
+  pub fits : formula_size clauses ≤ size
+  pub fault : IsModelFault count model at number
+
+-- The first line at fault and the number of its fault: 13 for an empty input and 6 for a line without its newline, both at line 1; that of the shape's line; that of the model text.
+abbrev pub HasAnswerFault : Version → Geometry → ℕ → ℕ → List ℕ → ℕ → ℕ → Type 0
+HasAnswerFault version g j size input at number =
+    ((input ≡ []) × (at ≡ 1) × (number ≡ 13))
+    ⊎ ((input ≢ []) × HasNoNewline input × (at ≡ 1) × (number ≡ 6))
+    ⊎ (HasEndedShapeFault version g j size input number × (at ≡ 1))
+    ⊎ HasModelFault version g j size input at number
+
+-- the input has this fault, unless memory was refused
+abbrev pub IsAnswerStop : Version → Geometry → ℕ → ℕ → List ℕ → ExchangeStop → Type 0
+IsAnswerStop version g j size input (Fault at number) = HasAnswerFault version g j size input at number
+IsAnswerStop version g j size input NoMemory = ⊤
+
+-- the model text has this fault, unless memory was refused
+abbrev pub IsModelStop : ℕ → List ℕ → ExchangeStop → Type 0
+IsModelStop count model (Fault at number) = IsModelFault count model at number
+IsModelStop count model NoMemory = ⊤

@@ -1,0 +1,4 @@
+pub mod Answers
+pub mod Formulas
+pub mod Shapes
+pub mod Statements

@@ -1,0 +1,86 @@
+//! The answer to `formula`.
+ghost use Rattle.std.specs.Prelude.{◌≡◌, ◌≤◌, IfOk, IfErr};
+ghost use Rattle.heesch_grid.specs.Names.{geometry_of};
+ghost use Rattle.heesch_exchange.specs.Shapes.{HasFirstLine};
+ghost use Rattle.heesch_exchange.specs.Formulas.{IsFormula, IsFormulaStop};
+
+use crate::shapes::shape_of;
+use crate::stop::ExchangeStop;
+use heesch_cnf::Version;
+use heesch_dimacs::{cut_line, write_flat_cnf};
+use heesch_encode::encode_flat;
+use heesch_grid::{Grid, GridName, Hex, Iamond, Square};
+use heesch_kite::Kite;
+use std::alloc::Global;
+
+/// The fault of an input that isn't just one line: of its first line where it is empty, else of its second.
+const NOT_ONE_LINE: u32 = 13;
+
+/// The clause text of the corona formula of a level and a version, of the shape whose cells are the one line of the input.
+/// The line's newline may be missing.
+///
+/// Condition: the level is 1 to 6, the size 1 to 60,000,000. A fault is that of the first faulty line; in one line 13 comes
+/// before 6, and 6 before 1 to 5, 14 last. 14 comes exactly where the formula has more than `size` literals. The cost is
+/// that of `encode_flat` and of the text.
+pub fn formula(
+    alloc: Global,
+    grid: GridName,
+    level: u32,
+    size: u32,
+    version: Version,
+    input: &[u8],
+) -> Result<Vec<u8>, ExchangeStop>
+    requires level { (1 ≤ level) × (level ≤ 6) }
+    requires size { (1 ≤ size) × (size ≤ 60000000) }
+    ensures ok { IfOk result (λ text. IsFormula version (geometry_of grid) level size input.now text.items) }
+    ensures stop { IfErr result (IsFormulaStop version (geometry_of grid) level size input.now) }
+{
+    match grid {
+        GridName::Square => formula_of::<Square>(alloc, level, size, version, input),
+        GridName::Hex => formula_of::<Hex>(alloc, level, size, version, input),
+        GridName::Iamond => formula_of::<Iamond>(alloc, level, size, version, input),
+        GridName::Kite => formula_of::<Kite>(alloc, level, size, version, input),
+    }
+}
+
+fn formula_of<G: Grid>(
+    alloc: Global,
+    level: u32,
+    size: u32,
+    version: Version,
+    input: &[u8],
+) -> Result<Vec<u8>, ExchangeStop>
+    requires level { (1 ≤ level) × (level ≤ 6) }
+    requires size { (1 ≤ size) × (size ≤ 60000000) }
+    ensures ok { IfOk result (λ text. IsFormula version G.geometry level size input.now text.items) }
+    ensures stop { IfErr result (IsFormulaStop version G.geometry level size input.now) }
+{
+    if input.is_empty() {
+        return Err(ExchangeStop::Fault {
+            line: 1,
+            number: NOT_ONE_LINE,
+        });
+    }
+    let (line, behind) = first_line(input);
+    let shape = shape_of::<G>(alloc, line)?;
+    let encoded = encode_flat(alloc, &shape, level, size, version)?;
+    if !behind.is_empty() {
+        return Err(ExchangeStop::Fault {
+            line: 2,
+            number: NOT_ONE_LINE,
+        });
+    }
+    let mut text = Vec::new(alloc);
+    write_flat_cnf(&encoded.formula, &mut text)?;
+    Ok(text)
+}
+
+/// The first line without its newline, and the bytes behind it.
+fn first_line(input: &[u8]) -> (&[u8], &[u8])
+    ensures { HasFirstLine input.now result.0.now result.1.now }
+{
+    match cut_line(input) {
+        Some(parts) => parts,
+        None => input.split_at(input.len()),
+    }
+}

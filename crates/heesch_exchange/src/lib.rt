@@ -1,0 +1,15 @@
+//! The corona formula of a given shape for other solvers, and what their model of it says.
+#![tactic(auto)]
+
+mod answers;
+mod formulas;
+pub mod laws;
+mod model;
+mod shapes;
+mod stop;
+#[cfg(test)]
+mod tests;
+
+pub use answers::answer;
+pub use formulas::formula;
+pub use stop::ExchangeStop;

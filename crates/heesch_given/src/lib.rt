@@ -1,0 +1,13 @@
+//! Shapes from input: the text of a list, read from a source line by line.
+#![tactic(auto)]
+
+mod given;
+pub mod laws;
+mod lines;
+mod stop;
+#[cfg(test)]
+mod tests;
+
+pub use given::shapes_given;
+pub use lines::canonical_of;
+pub use stop::GivenStop;
