@@ -12,6 +12,10 @@ returns-clause-ok g c =
     let input = c.deref.result.now in
     let geometry = geometry_of c.args.grid in
     let all : IsAllOf left input = subst (λ bytes. IsAllOf left bytes) (sym c.deref.ensures.value) c.in_ok-input.ensures.ok in
-    IfOk-weaker c.told.result _ _ (λ r is. (input, all, told (λ (v : Vec ℕ Global). v.items) (IsFormula c.args.version geometry c.args.level c.args.size input)
-        (IsFormulaStop c.args.version geometry c.args.level c.args.size input) c.formula.result r.status r.text c.formula.ensures.ok c.formula.ensures.stop is))
-        c.told.ensures.ok
+    IfOk-weaker c.told.result _ _ (λ r is. (
+      input,
+      all,
+      told (λ (v : Vec ℕ Global). v.items) (IsFormula c.args.version geometry c.args.level c.args.size input)
+          (IsFormulaStop c.args.version geometry c.args.level c.args.size input) c.formula.result r.status r.text c.formula.ensures.ok c.formula.ensures.stop is,
+    ))
+    c.told.ensures.ok
