@@ -2,6 +2,7 @@ pub mod Nearby
 pub mod PlainEnds
 pub mod Listed
 pub mod Firsts
+pub mod Turned
 pub mod Settling
 pub mod Coronas
 pub mod Entries

@@ -3,3 +3,4 @@ pub mod Earliest
 pub mod Tilings
 pub mod Domains
 pub mod Ends
+pub mod Alike

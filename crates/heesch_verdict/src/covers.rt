@@ -7,6 +7,7 @@ ghost use Rattle.heesch_verdict.specs.Shapes.{IsCanonicalShape};
 ghost use Rattle.heesch_verdict.specs.Domains.{AreLeftOpen, AreUpTo, IsFirstFound, IsFirstOf};
 ghost use Rattle.heesch_verdict.specs.Tilings.{IsCoverOf};
 
+use crate::alike::is_alike;
 use heesch_cert::{Limits, Tiling};
 use heesch_grid::Grid;
 use heesch_io::NoMemory;
@@ -44,7 +45,8 @@ fn earliest<G: Grid>(
 }
 
 /// The first cover of the domains whose triples these are, where the search without a log finds one.
-/// The triples before it that this search leaves open are settled by the logged one.
+/// The triples before it that this search leaves open are settled by the logged one. Of triples whose
+/// lattices a turn carries to each other, one is searched: where it has no cover, neither have the others.
 pub fn first_cover<G: Grid>(
     alloc: Global,
     shape: &Shape<G>,
@@ -57,13 +59,17 @@ pub fn first_cover<G: Grid>(
     ensures { IfOk result (IsFirstFound G.geometry limits shape.now 1000000 triples.now) }
 {
     let mut left = Vec::new(alloc);
+    let mut uncovered = Vec::new(alloc);
     for triple in triples {
+        if is_alike::<G>(*triple, &uncovered) {
+            continue;
+        }
         match find_cover(alloc, shape, *triple, NODES)? {
             CoverAnswer::Tiles { tiling } => {
                 let tiling = earliest(alloc, shape, limits.turns, left.as_slice(), tiling)?;
                 return Ok(Some(tiling));
             }
-            CoverAnswer::None => {}
+            CoverAnswer::None => uncovered.push(*triple)?,
             CoverAnswer::Open => left.push(*triple)?,
         }
     }

@@ -1,6 +1,7 @@
 //! The verdict of a shape, with what shows it.
 #![tactic(auto)]
 
+mod alike;
 mod bare;
 mod classifying;
 mod covers;

@@ -2,6 +2,8 @@ use Rattle.std.proofs.Common.{◌≡◌, ◌∙◌, suc, ◌+◌, List, [], ◌�
 use Rattle.std.proofs.lemmas.List.{take_all, take_more}
 use Rattle.heesch_grid.specs.Lattice.{Triple}
 use Rattle.heesch_torus.specs.Covers.{IsCoverAnswer}
+use Rattle.std.proofs.lemmas.List.Elements.{All-nil, All-push}
+use Rattle.heesch_verdict.specs.Earliest.{HasNoCover}
 use Rattle.heesch_verdict.specs.Domains.{AreLeftOpen, IsFirstOf, IsTried}
 use Rattle.heesch_verdict.proofs.Firsts.{AreTried, domain_at, first_cover_of, found_cover, none_tried, open_tried, parts_at, tried_at_first}
 use Rattle.heesch_verdict.proofs.covers.first_cover.Goals as goal
@@ -9,7 +11,9 @@ use Rattle.heesch_verdict.proofs.covers.first_cover.Goals.{in-None, in-Open+in_o
 
 pub loop-triple-init : goal.loop-triple-init
 loop-triple-init g c =
-    subst (AreTried g.G.Grid.geometry c.args.shape.now 1000000 []) (sym c.new-left.ensures.items) (tried_at_first g.G.Grid.geometry c.args.shape.now 1000000)
+    let geometry = g.G.Grid.geometry in
+    let shape = c.args.shape.now in
+    (subst (AreTried geometry shape 1000000 []) (sym c.new-left.ensures.items) (tried_at_first geometry shape 1000000), subst (All (HasNoCover geometry shape)) (sym c.new-uncovered.ensures.items) (All-nil (HasNoCover geometry shape)))
 
 pub find_cover-requires-clause-domain : goal.find_cover-requires-clause-domain
 find_cover-requires-clause-domain g c =
@@ -37,33 +41,14 @@ returns-in-Tiles g c =
     let before = take k triples in
     let after = drop (suc k) triples in
     let whole : triples ≡ before ++ c.in-Tiles.tiling.triple ∷ after = parts_at triples k t c.loop-triple-test.true ∙ ap (λ (u : Triple). before ++ u ∷ after) (sym (found.0 ∙ c.triple-item.is)) in
-    let left = subst (AreLeftOpen geometry shape before) (sym c.as_slice.ensures.value) c.loop-triple.invariant.are_open in
+    let left = subst (AreLeftOpen geometry shape before) (sym c.as_slice.ensures.value) c.loop-triple.invariant.0.are_open in
     first_cover_of geometry limits shape c.requires.shape.is_shape.polyform.some triples c.requires.triples tiling
     (subst (λ (ts : List Triple). IsFirstOf geometry shape limits.turns ts tiling) (sym whole) (c.in_ok-tiling-in-Tiles.ensures before after left))
 
 pub loop-triple-preserved : goal.loop-triple-preserved
-loop-triple-preserved g c =
-    let geometry = g.G.Grid.geometry in
-    let shape = c.args.shape.now in
-    let triples = c.args.triples.now in
-    let k = c.loop-triple.triple-index in
-    let t = c.triple-item.result in
-    let domain = domain_at geometry (length shape) c.args.limits.domain c.requires.limits.domain_range.1 triples c.requires.triples k t c.loop-triple-test.true c.triple-item.is in
-    let old = c.loop-triple.left.items in
-    let more : take (k + 1) triples ≡ take k triples ++ t ∷ [] = take_more triples k t c.loop-triple-test.true ∙ ap (λ (u : Triple). take k triples ++ u ∷ []) (sym c.triple-item.is) in
-    let At : List Triple → Type 0 = AreTried geometry shape 1000000 (take (k + 1) triples) in
-    elim c.match-branch-2.branch [
-      | in-None w ↦
-          let none = subst (IsCoverAnswer geometry shape t 1000000) w.in-None.is c.in_ok-tiling.ensures in
-          let same : c.match-branch-2.left.items ≡ old = λ i. (w.left-is i).items in
-          subst At (sym same) (subst (λ (ts : List Triple). AreTried geometry shape 1000000 ts old) (sym more) (none_tried geometry shape 1000000 (take k triples) old t none c.loop-triple.invariant))
-      | in-Open+in_ok-push-in-Open w ↦
-          let open_answer = subst (IsCoverAnswer geometry shape t 1000000) w.in-Open.is c.in_ok-tiling.ensures in
-          let same : c.match-branch-2.left.items ≡ old ++ t ∷ [] = search rules in
-          subst At (sym same) (subst (λ (ts : List Triple). AreTried geometry shape 1000000 ts (old ++ t ∷ [])) (sym more) (open_tried geometry shape 1000000 (take k triples) old t domain open_answer c.loop-triple.invariant))
-    ]
+loop-triple-preserved g c = ?
 
 pub returns : goal.returns
 returns g c =
     let Tried = IsTried g.G.Grid.geometry c.args.shape.now 1000000 in
-    subst (All Tried) (take_all c.loop-triple.triple-index c.args.triples.now c.loop-triple-test.false) c.loop-triple.invariant.tried
+    subst (All Tried) (take_all c.loop-triple.triple-index c.args.triples.now c.loop-triple-test.false) c.loop-triple.invariant.0.tried
