@@ -3,11 +3,13 @@ use Rattle.std.proofs.lemmas.List.{take_all, take_more}
 use Rattle.heesch_grid.specs.Lattice.{Triple}
 use Rattle.heesch_torus.specs.Covers.{IsCoverAnswer}
 use Rattle.std.proofs.lemmas.List.Elements.{All-nil, All-push}
+use Rattle.heesch_verdict.specs.Alike.{IsAlikeOne}
 use Rattle.heesch_verdict.specs.Earliest.{HasNoCover}
 use Rattle.heesch_verdict.specs.Domains.{AreLeftOpen, IsFirstOf, IsTried}
+use Rattle.heesch_verdict.proofs.Turned.{none_alike}
 use Rattle.heesch_verdict.proofs.Firsts.{AreTried, domain_at, first_cover_of, found_cover, none_tried, open_tried, parts_at, tried_at_first}
 use Rattle.heesch_verdict.proofs.covers.first_cover.Goals as goal
-use Rattle.heesch_verdict.proofs.covers.first_cover.Goals.{in-None, in-Open+in_ok-push-in-Open}
+use Rattle.heesch_verdict.proofs.covers.first_cover.Goals.{in-None+in_ok-push-in-None, in-Open+in_ok-push-in-Open}
 
 pub loop-triple-init : goal.loop-triple-init
 loop-triple-init g c =
@@ -45,8 +47,48 @@ returns-in-Tiles g c =
     first_cover_of geometry limits shape c.requires.shape.is_shape.polyform.some triples c.requires.triples tiling
     (subst (λ (ts : List Triple). IsFirstOf geometry shape limits.turns ts tiling) (sym whole) (c.in_ok-tiling-in-Tiles.ensures before after left))
 
+pub loop-triple-preserved-then-is_alike : goal.loop-triple-preserved-then-is_alike
+loop-triple-preserved-then-is_alike g c =
+    let geometry = g.G.Grid.geometry in
+    let shape = c.args.shape.now in
+    let triples = c.args.triples.now in
+    let k = c.loop-triple.triple-index in
+    let t = c.triple-item.result in
+    let old = c.loop-triple.left.items in
+    let more : take (k + 1) triples ≡ take k triples ++ t ∷ [] = take_more triples k t c.loop-triple-test.true ∙ ap (λ (u : Triple). take k triples ++ u ∷ []) (sym c.triple-item.is) in
+    let alike = subst (IsAlikeOne geometry t) c.deref.ensures.value (c.is_alike.ensures c.if-is_alike.true) in
+    let none : HasNoCover geometry shape t = none_alike geometry g.met.G.Grid.laws shape t c.loop-triple.uncovered.items alike c.loop-triple.invariant.1 in
+    (subst (λ (ts : List Triple). AreTried geometry shape 1000000 ts old) (sym more) (none_tried geometry shape 1000000 (take k triples) old t none c.loop-triple.invariant.0), c.loop-triple.invariant.1)
+
 pub loop-triple-preserved : goal.loop-triple-preserved
-loop-triple-preserved g c = ?
+loop-triple-preserved g c =
+    let geometry = g.G.Grid.geometry in
+    let shape = c.args.shape.now in
+    let triples = c.args.triples.now in
+    let k = c.loop-triple.triple-index in
+    let t = c.triple-item.result in
+    let domain = domain_at geometry (length shape) c.args.limits.domain c.requires.limits.domain_range.1 triples c.requires.triples k t c.loop-triple-test.true c.triple-item.is in
+    let old = c.loop-triple.left.items in
+    let uncovered = c.loop-triple.uncovered.items in
+    let more : take (k + 1) triples ≡ take k triples ++ t ∷ [] = take_more triples k t c.loop-triple-test.true ∙ ap (λ (u : Triple). take k triples ++ u ∷ []) (sym c.triple-item.is) in
+    let At : List Triple → Type 0 = AreTried geometry shape 1000000 (take (k + 1) triples) in
+    let NoneOf : List Triple → Type 0 = All (HasNoCover geometry shape) in
+    elim c.match-branch-2.branch [
+      | in-None+in_ok-push-in-None w ↦
+          let none = subst (IsCoverAnswer geometry shape t 1000000) w.in-None.is c.in_ok-tiling.ensures in
+          let same : c.match-branch-2.left.items ≡ old = λ i. (w.left-is i).items in
+          let pushed : c.match-branch-2.uncovered.items ≡ uncovered ++ t ∷ [] = search rules in (
+            subst At (sym same) (subst (λ (ts : List Triple). AreTried geometry shape 1000000 ts old) (sym more) (none_tried geometry shape 1000000 (take k triples) old t none c.loop-triple.invariant.0)),
+            subst NoneOf (sym pushed) (All-push (HasNoCover geometry shape) uncovered t c.loop-triple.invariant.1 none),
+          )
+      | in-Open+in_ok-push-in-Open w ↦
+          let open_answer = subst (IsCoverAnswer geometry shape t 1000000) w.in-Open.is c.in_ok-tiling.ensures in
+          let same : c.match-branch-2.left.items ≡ old ++ t ∷ [] = search rules in
+          let kept : c.match-branch-2.uncovered.items ≡ uncovered = λ i. (w.uncovered-is i).items in (
+            subst At (sym same) (subst (λ (ts : List Triple). AreTried geometry shape 1000000 ts (old ++ t ∷ [])) (sym more) (open_tried geometry shape 1000000 (take k triples) old t domain open_answer c.loop-triple.invariant.0)),
+            subst NoneOf (sym kept) c.loop-triple.invariant.1,
+          )
+    ]
 
 pub returns : goal.returns
 returns g c =
