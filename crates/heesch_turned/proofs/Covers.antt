@@ -1,5 +1,5 @@
 -- A cover by a lattice, turned, is one by the turned lattice.
-use Rattle.std.proofs.Common.{◌≡◌, refl, sym, ap, subst, ◌∙◌, ℕ, ◌<◌, List, map, All, Contains}
+use Rattle.std.proofs.Common.{◌≡◌, refl, sym, ap, subst, ◌∙◌, ℕ, ◌<◌, List, map, Contains}
 use Rattle.std.specs.Prelude.{ℤ, pos, neg_ℤ, Option, Some, None, option_map}
 use Rattle.std.specs.List.{slice_get}
 use Rattle.std.proofs.lemmas.List.Elements.{All-contains, All-map}

@@ -1,4 +1,4 @@
-use Rattle.std.proofs.Common.{◌≡◌, subst, sym, ◌∙◌, true, false, true≢false}
+use Rattle.std.proofs.Common.{subst, sym, ◌∙◌, true≢false}
 use Rattle.heesch_grid.specs.declared.Cell.{Cell}
 use Rattle.heesch_grid.specs.Geometry.{moved}
 use Rattle.heesch_grid.specs.Lattice.{DiffersByLattice}

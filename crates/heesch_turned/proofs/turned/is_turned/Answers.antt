@@ -1,5 +1,5 @@
-use Rattle.std.proofs.Common.{◌≡◌, ℕ, ◌<◌, subst, sym, ◌∙◌, true, false, true≢false}
-use Rattle.heesch_turned.specs.Turned.{TurnsOnto, CarriesInto, CarriesVectors}
+use Rattle.std.proofs.Common.{ℕ, subst, sym, ◌∙◌, true≢false}
+use Rattle.heesch_turned.specs.Turned.{CarriesVectors}
 use Rattle.heesch_turned.proofs.Vectors.{by_vectors, vectors_by}
 use Rattle.heesch_turned.proofs.turned.is_turned.Goals as goal
 

@@ -1,5 +1,4 @@
 use Rattle.std.proofs.Common.{◌∙◌}
-use Rattle.std.specs.Prelude.{pos}
 use Rattle.heesch_turned.proofs.Vectors.{turned_moved}
 use Rattle.heesch_turned.proofs.turned.turned_end.Goals as goal
 
