@@ -16,9 +16,9 @@ use Rattle.heesch_grid.specs.declared.GridName.TheVariants.{Square, Hex, Iamond,
 use Rattle.heesch_grid.specs.Names.{grid_word}
 use Rattle.heesch_words.specs.declared.options.Options.{Options}
 use Rattle.heesch_words.specs.declared.requests.Request.{Request}
-use Rattle.heesch_words.specs.declared.requests.Request.TheVariants.{List as ListRequest, Plain as PlainRequest, Classify as ClassifyRequest, Check as CheckRequest, Table as TableRequest, Sample as SampleRequest, Formula as FormulaRequest, Answer as AnswerRequest}
+use Rattle.heesch_words.specs.declared.requests.Request.TheVariants.{List as ListRequest, Plain as PlainRequest, Classify as ClassifyRequest, Check as CheckRequest, Table as TableRequest, Sample as SampleRequest, Formula as FormulaRequest, Answer as AnswerRequest, Share as ShareRequest, Join as JoinRequest}
 use Rattle.heesch_words.specs.Options.{AreOptions, HasWorkersAlone, HasSizeAndVersionAlone, workers_of, limits_of}
-use Rattle.heesch_words.specs.Requests.{Asks, HasForm, HaveOptions, HasCheckForm, HasListForm, HasSampleForm, HasClassifyForm, HasFormulaForm, form_word, subject_word}
+use Rattle.heesch_words.specs.Requests.{Asks, HasForm, HaveOptions, HasCheckForm, HasListForm, HasSampleForm, HasClassifyForm, HasFormulaForm, HasShareForm, form_word, subject_word}
 use Rattle.heesch_words.proofs.Settings.{one_reading}
 
 -- Words before options.
@@ -191,6 +191,55 @@ subject_refused text_of (x ∷ y ∷ words) first second read version grid some 
     let in_range : IsSubject version grid' subject = subst (λ (v : Version). IsSubject v grid' subject) versions has.in_range in
     refused subject (subst (λ (g : GridName). IsSubject version g subject) grids in_range) cc
 
+-- the options of the form of a share are those that were read
+share_options : {X : Type 0} (text_of : X → List ℕ) (words : List X) (read : Options) (grid : GridName) (n i k : ℕ) (limits : Limits) (workers : ℕ)
+    → AreOptions (map text_of (take (length words - 4) (drop 4 words))) read → (has : HasShareForm (map text_of words) grid n i k limits workers) → has.options ≡ read
+share_options text_of words read grid n i k limits workers given has = read_options text_of words 4 _ has.options read refl given has.have
+
+pub share_is_brief : {X : Type 0} (text_of : X → List ℕ) (words : List X) (read : Options)
+    → AreOptions (map text_of (take (length words - 4) (drop 4 words))) read → read.brief ≡ true
+    → (grid : GridName) (n i k : ℕ) (limits : Limits) (workers : ℕ) → ¬ HasShareForm (map text_of words) grid n i k limits workers
+share_is_brief text_of words read given brief grid n i k limits workers has =
+    let same : has.options ≡ read = share_options text_of words read grid n i k limits workers given has in
+    let both : read.brief ≡ false = subst (λ (o : Options). o.brief ≡ false) same has.not_brief in
+    cc
+
+-- the number of a share isn't among those of so many as the fourth word says
+pub share_number_refused : {X : Type 0} (text_of : X → List ℕ) (words : List X) (third fourth : X) (all : ℕ)
+    → 4 ≤ length words → third ≡ get_or words 2 third → fourth ≡ get_or words 3 fourth
+    → text_of fourth ≡ decimal all → all ≤ 1000 → ((m : ℕ) → 1 ≤ m → m ≤ all → text_of third ≢ decimal m)
+    → (grid : GridName) (n i k : ℕ) (limits : Limits) (workers : ℕ) → ¬ HasShareForm (map text_of words) grid n i k limits workers
+share_number_refused text_of [] third fourth all some is is' named few none grid n i k limits workers has = absurd (omega arith)
+share_number_refused text_of (w ∷ []) third fourth all some is is' named few none grid n i k limits workers has = absurd (omega arith)
+share_number_refused text_of (w ∷ x ∷ []) third fourth all some is is' named few none grid n i k limits workers has = absurd (omega arith)
+share_number_refused text_of (w ∷ x ∷ y ∷ []) third fourth all some is is' named few none grid n i k limits workers has = absurd (omega arith)
+share_number_refused text_of (w ∷ x ∷ y ∷ z ∷ words) third fourth all some is is' named few none grid n i k limits workers has =
+    let spelled : text_of w ∷ text_of x ∷ text_of y ∷ text_of z ∷ map text_of words ≡ grid_word grid ∷ decimal n ∷ decimal i ∷ decimal k ∷ has.have.others = has.have.spelled in
+    let third_is : third ≡ y = is in
+    let fourth_is : fourth ≡ z = is' in
+    let shares : decimal k ≡ decimal all = cc in
+    let same : k ≡ all = decimal_injective k all (omega (arith, has.share.most)) (omega (arith, few)) shares in
+    none i has.share.number.0 (omega (arith, has.share.number.1, same)) cc
+
+-- the size isn't one of the grid in the version that was read
+pub share_size_refused : {X : Type 0} (text_of : X → List ℕ) (words : List X) (first second : X) (read : Options) (version : Version) (grid : GridName)
+    → 4 ≤ length words → first ≡ get_or words 0 first → second ≡ get_or words 1 second
+    → text_of first ≡ grid_word grid → version ≡ (limits_of read).version
+    → AreOptions (map text_of (take (length words - 4) (drop 4 words))) read
+    → ((m : ℕ) → 1 ≤ m → m ≤ most_cells version grid → text_of second ≢ decimal m)
+    → (grid' : GridName) (n i k : ℕ) (limits : Limits) (workers : ℕ) → ¬ HasShareForm (map text_of words) grid' n i k limits workers
+share_size_refused text_of [] first second read version grid some is is' named of given none grid' n i k limits workers has = absurd (omega arith)
+share_size_refused text_of (w ∷ []) first second read version grid some is is' named of given none grid' n i k limits workers has = absurd (omega arith)
+share_size_refused text_of (w ∷ x ∷ words) first second read version grid some is is' named of given none grid' n i k limits workers has =
+    let same : has.options ≡ read = share_options text_of (w ∷ x ∷ words) read grid' n i k limits workers given has in
+    let spelled : text_of w ∷ text_of x ∷ map text_of words ≡ grid_word grid' ∷ decimal n ∷ decimal i ∷ decimal k ∷ has.have.others = has.have.spelled in
+    let first_is : first ≡ w = is in
+    let second_is : second ≡ x = is' in
+    let grids : grid' ≡ grid = same_grid grid' grid cc in
+    let versions : limits.version ≡ version = ap (λ (l : Limits). l.version) (has.limits_is ∙ ap limits_of same) ∙ sym of in
+    let in_range : IsSubject version grid (Size n) = subst (λ (g : GridName). IsSubject version g (Size n)) grids (subst (λ (v : Version). IsSubject v grid' (Size n)) versions has.in_range) in
+    none n in_range.0 in_range.1 cc
+
 -- Words ask for one thing at most.
 
 -- words have one form of a list
@@ -258,6 +307,20 @@ one_of_form words (FormulaRequest grid level size version) (FormulaRequest grid'
 one_of_form words (AnswerRequest grid level size version) (AnswerRequest grid' level' size' version') is first second =
     let (grids, levels, sizes, versions) = one_formula words grid grid' level level' size size' version version' first second in
     cc
+one_of_form words (ShareRequest grid n i k limits workers) (ShareRequest grid' n' i' k' limits' workers') is first second =
+    let (parts, same) = one_choice words _ _ first.options second.options refl first.have second.have in
+    let grids : grid_word grid ≡ grid_word grid' = cc in
+    let sizes : decimal n ≡ decimal n' = cc in
+    let numbers : decimal i ≡ decimal i' = cc in
+    let counts : decimal k ≡ decimal k' = cc in
+    let same_grids : grid ≡ grid' = same_grid grid grid' grids in
+    let same_sizes : n ≡ n' = one_size limits.version limits'.version grid grid' n n' first.in_range.1 second.in_range.1 sizes in
+    let same_numbers : i ≡ i' = decimal_injective i i' (omega (arith, first.share.number.1, first.share.most)) (omega (arith, second.share.number.1, second.share.most)) numbers in
+    let same_counts : k ≡ k' = decimal_injective k k' (omega (arith, first.share.most)) (omega (arith, second.share.most)) counts in
+    let same_limits : limits ≡ limits' = first.limits_is ∙ ap limits_of same ∙ sym second.limits_is in
+    let same_workers : workers ≡ workers' = first.workers_is ∙ ap workers_of same ∙ sym second.workers_is in
+    cc
+one_of_form words JoinRequest JoinRequest is first second = refl
 one_of_form words x y is first second = absurd (grind arith)
 
 -- words ask for one thing at most

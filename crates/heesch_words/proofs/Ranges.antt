@@ -7,7 +7,7 @@ use Rattle.heesch_cert.specs.Limits.{AreLimits}
 use Rattle.heesch_grid.specs.declared.GridName.{GridName}
 use Rattle.heesch_words.specs.declared.options.Options.{Options}
 use Rattle.heesch_words.specs.declared.requests.Request.{Request}
-use Rattle.heesch_words.specs.declared.requests.Request.TheVariants.{List as ListRequest, Plain as PlainRequest, Classify as ClassifyRequest, Check as CheckRequest, Table as TableRequest, Sample as SampleRequest, Formula as FormulaRequest, Answer as AnswerRequest}
+use Rattle.heesch_words.specs.declared.requests.Request.TheVariants.{List as ListRequest, Plain as PlainRequest, Classify as ClassifyRequest, Check as CheckRequest, Table as TableRequest, Sample as SampleRequest, Formula as FormulaRequest, Answer as AnswerRequest, Share as ShareRequest, Join as JoinRequest}
 use Rattle.heesch_words.specs.Options.{Name, Workers, Turns, Levels, Domain, Size, Version, Setting, Number, Brief, IsNumberInRange, IsInRange as IsSettingInRange, number_of, held, default_limits, AreOptions, workers_of, limits_of}
 use Rattle.heesch_cert.specs.Sizes.{HasGrid}
 use Rattle.heesch_cnf.specs.declared.version.Version.{Version as FormulaVersion}
@@ -80,6 +80,11 @@ form_in_range words (SampleRequest grid n count seed limits workers) has =
     (has.in_range, has.has_grid, in_range, omega (arith, has.workers_is, low), omega (arith, has.workers_is, high))
 form_in_range words (FormulaRequest grid level size version) has = formula_in_range words grid level size version has
 form_in_range words (AnswerRequest grid level size version) has = formula_in_range words grid level size version has
+form_in_range words (ShareRequest grid n i k limits workers) has =
+    let (low, high) = workers_in_range has.have.others has.options has.have.given in
+    let in_range : AreLimits limits = subst AreLimits (sym has.limits_is) (limits_in_range has.have.others has.options has.have.given) in
+    (has.in_range, has.share, in_range, omega (arith, has.workers_is, low), omega (arith, has.workers_is, high))
+form_in_range words JoinRequest has = tt
 
 -- what words ask for is in range
 pub asked_in_range : (words : List (List ℕ)) (request : Request) → Asks words request → IsInRange request

@@ -11,7 +11,7 @@ use Rattle.heesch_grid.specs.declared.GridName.{GridName}
 use Rattle.heesch_grid.specs.Names.{grid_word}
 use Rattle.heesch_words.specs.declared.options.Options.{Options}
 use Rattle.heesch_words.specs.declared.requests.Request.{Request}
-use Rattle.heesch_words.specs.declared.requests.Request.TheVariants.{List as ListRequest, Plain as PlainRequest, Classify as ClassifyRequest, Check as CheckRequest, Table as TableRequest, Sample as SampleRequest, Formula as FormulaRequest, Answer as AnswerRequest}
+use Rattle.heesch_words.specs.declared.requests.Request.TheVariants.{List as ListRequest, Plain as PlainRequest, Classify as ClassifyRequest, Check as CheckRequest, Table as TableRequest, Sample as SampleRequest, Formula as FormulaRequest, Answer as AnswerRequest, Share as ShareRequest, Join as JoinRequest}
 use Rattle.heesch_words.specs.Options.{AreOptions, HasWorkersAlone, HasSizeAndVersionAlone, workers_of, limits_of}
 
 -- the shapes of so many cells are listed: version 2 has the larger ranges
@@ -28,6 +28,11 @@ pub record IsSample (n count seed : ℕ) : Type 0 where
   pub cells : (1 ≤ n) × (n ≤ 32)
   pub shapes : (1 ≤ count) × (count ≤ 1000)
   pub seed_range : seed ≤ 18446744073709551615
+
+-- one of so many shares, by its number
+pub record IsShare (i k : ℕ) : Type 0 where
+  pub number : (1 ≤ i) × (i ≤ k)
+  pub most : k ≤ 1000
 
 -- a formula is asked for at this level, with at most so many literals
 pub record IsFormulaInRange (level size : ℕ) : Type 0 where
@@ -74,6 +79,16 @@ pub record HasSampleForm (words : List (List ℕ)) (grid : GridName) (n count se
   pub limits_is : limits ≡ limits_of options
   pub workers_is : workers ≡ workers_of options
 
+-- GRID N I K, and the options that are wanted, but for `--brief`
+pub record HasShareForm (words : List (List ℕ)) (grid : GridName) (n i k : ℕ) (limits : Limits) (workers : ℕ) : Type 0 where
+  pub options : Options
+  pub have : HaveOptions (grid_word grid ∷ decimal n ∷ decimal i ∷ decimal k ∷ []) words options
+  pub in_range : IsSubject limits.version grid (Size n)
+  pub share : IsShare i k
+  pub not_brief : options.brief ≡ false
+  pub limits_is : limits ≡ limits_of options
+  pub workers_is : workers ≡ workers_of options
+
 -- GRID J, and `--size` and `--version` where they are wanted
 pub record HasFormulaForm (words : List (List ℕ)) (grid : GridName) (level size : ℕ) (version : Version) : Type 0 where
   pub options : Options
@@ -94,6 +109,8 @@ form_word TableRequest = codes "table"
 form_word (SampleRequest grid n count seed limits workers) = codes "sample"
 form_word (FormulaRequest grid level size version) = codes "formula"
 form_word (AnswerRequest grid level size version) = codes "answer"
+form_word (ShareRequest grid n i k limits workers) = codes "share"
+form_word JoinRequest = codes "join"
 
 -- The words after the first one have the form of the request, with its values.
 abbrev pub HasForm : List (List ℕ) → Request → Type 0
@@ -105,6 +122,8 @@ HasForm words TableRequest = words ≡ []
 HasForm words (SampleRequest grid n count seed limits workers) = HasSampleForm words grid n count seed limits workers
 HasForm words (FormulaRequest grid level size version) = HasFormulaForm words grid level size version
 HasForm words (AnswerRequest grid level size version) = HasFormulaForm words grid level size version
+HasForm words (ShareRequest grid n i k limits workers) = HasShareForm words grid n i k limits workers
+HasForm words JoinRequest = words ≡ []
 
 -- The words ask for this: they have the request's form, with its values.
 pub record Asks (words : List (List ℕ)) (request : Request) : Type 0 where
@@ -122,3 +141,5 @@ IsInRange TableRequest = ⊤
 IsInRange (SampleRequest grid n count seed limits workers) = IsSample n count seed × HasGrid limits.version grid × AreLimits limits × (1 ≤ workers) × (workers ≤ 64)
 IsInRange (FormulaRequest grid level size version) = IsFormulaInRange level size × HasGrid version grid
 IsInRange (AnswerRequest grid level size version) = IsFormulaInRange level size × HasGrid version grid
+IsInRange (ShareRequest grid n i k limits workers) = IsSubject limits.version grid (Size n) × IsShare i k × AreLimits limits × (1 ≤ workers) × (workers ≤ 64)
+IsInRange JoinRequest = ⊤

@@ -3,7 +3,7 @@ ghost use Rattle.heesch_cert.specs.declared.header.Subject.{Subject};
 ghost use Rattle.heesch_cert.specs.declared.limits.Limits.{Limits};
 ghost use Rattle.heesch_grid.specs.declared.GridName.{GridName};
 ghost use Rattle.heesch_cnf.specs.declared.version.Version.{Version as FormulaVersion};
-ghost use Rattle.heesch_words.specs.Requests.{Asks, HasListForm, HasClassifyForm, HasCheckForm, HasSampleForm, HasFormulaForm};
+ghost use Rattle.heesch_words.specs.Requests.{Asks, HasListForm, HasClassifyForm, HasCheckForm, HasSampleForm, HasFormulaForm, HasShareForm};
 
 use crate::numbers::number;
 use crate::options::{MOST_LEVELS, Options};
@@ -72,6 +72,17 @@ pub enum Request {
         size: u32,
         version: Version,
     },
+    /// Share `i` of `k` of the catalogue of the size `n` under these limits, found by so many workers.
+    Share {
+        grid: GridName,
+        n: u32,
+        i: u32,
+        k: u32,
+        limits: Limits,
+        workers: u32,
+    },
+    /// The catalogue whose shares, in order, are given.
+    Join,
 }
 
 /// The greatest number of cells of a sample's shapes.
@@ -79,6 +90,9 @@ const MOST_SAMPLE_CELLS: u64 = 32;
 
 /// The greatest number of a sample's shapes.
 const MOST_SAMPLE_SHAPES: u64 = 1_000;
+
+/// The greatest number of shares of a catalogue.
+const MOST_SHARES: u64 = 1_000;
 
 /// What the words ask for: the arguments of the program, without its name.
 ///
@@ -91,12 +105,14 @@ const MOST_SAMPLE_SHAPES: u64 = 1_000;
 /// - `table`: none;
 /// - `sample GRID N COUNT SEED`: `--workers`, `--turns`, `--levels`, `--domain`, `--size` and
 ///   `--version`;
-/// - `formula GRID J` and `answer GRID J`: `--size` and `--version`.
+/// - `formula GRID J` and `answer GRID J`: `--size` and `--version`;
+/// - `share GRID N I K`: the options of `classify`, but for `--brief`;
+/// - `join`: none.
 ///
 /// GRID is `square`, `hex`, `iamond` or `kite`, and `kite` doesn't go with `--version 1`. N is 1 to 14
 /// for `square`, 1 to 12 for `hex`, 1 to 18 for `iamond` and 1 to 10 for `kite`, but with `--version 1`
 /// it is 1 to 12, 1 to 10 and 1 to 15 for the first three; for `sample` N is 1 to 32, COUNT 1 to 1,000
-/// and SEED below 2^64. J is 1 to 6.
+/// and SEED below 2^64. J is 1 to 6. K is 1 to 1,000, and I is 1 to K.
 ///
 /// Options follow the other words in any order, each at most once; each but `--brief` is followed by
 /// its number as the next word. `--workers` is 1 to 64, by default 1; `--turns` 1 to 1,000,000, by
@@ -123,6 +139,8 @@ pub fn parse(words: &[String]) -> Result<Request, Usage>
         "sample" => sample(rest),
         "formula" => formula(rest),
         "answer" => answer(rest),
+        "share" => share(rest),
+        "join" => join(rest),
         _ => Err(Usage),
     }
 }
@@ -295,6 +313,48 @@ fn answer(words: &[String]) -> Result<Request, Usage>
         size,
         version,
     })
+}
+
+/// The request whose words are `share` and these.
+fn share(words: &[String]) -> Result<Request, Usage>
+    ensures ok { IfOk result
+        (λ request. Asks (codes "share" ∷ map string_bytes words.now) request) }
+    ensures usage { OnErr result ((grid : GridName) (n i k : ℕ) (limits : Limits) (workers : ℕ)
+        → ¬ HasShareForm (map string_bytes words.now) grid n i k limits workers) }
+{
+    let [grid, n, i, k, options @ ..] = words else {
+        return Err(Usage);
+    };
+    let grid = grid_named(grid.as_str())?;
+    let k = number(k.as_str(), 1, MOST_SHARES)? as u32;
+    let i = number(i.as_str(), 1, u64::from(k))? as u32;
+    let options = Options::read(options)?;
+    if options.brief {
+        return Err(Usage);
+    }
+    let limits = options.limits();
+    let n = number(n.as_str(), 1, u64::from(most_cells(limits.version, grid)))? as u32;
+    Ok(Request::Share {
+        grid,
+        n,
+        i,
+        k,
+        limits,
+        workers: options.workers(),
+    })
+}
+
+/// The request whose words are `join` and these.
+fn join(words: &[String]) -> Result<Request, Usage>
+    ensures ok { IfOk result
+        (λ request. Asks (codes "join" ∷ map string_bytes words.now) request) }
+    ensures usage { OnErr result (map string_bytes words.now ≢ []) }
+{
+    if words.is_empty() {
+        Ok(Request::Join)
+    } else {
+        Err(Usage)
+    }
 }
 
 /// What the words GRID J give, with the options `--size` and `--version`.

@@ -138,6 +138,18 @@ fn other_forms_are_asked_for(rt: HostRuntime) -> Result<(), Fail> {
                 brief: true,
             },
         ),
+        (
+            "share square 12 2 1000 --turns 200 --levels 1 --domain 2 --version 1 --workers 3",
+            Request::Share {
+                grid,
+                n: 12,
+                i: 2,
+                k: 1_000,
+                limits,
+                workers: 3,
+            },
+        ),
+        ("join", Request::Join),
     ] {
         let words = words_of(alloc, line)?;
         assert_eq!(rt; parse(&words), Ok(request), "at {line}");
@@ -270,6 +282,15 @@ fn other_words_are_refused(rt: HostRuntime) -> Result<(), Fail> {
         "answer square 2 --domain 2",
         "answer square 2 --brief",
         "answer kite 2 --size 5 --version 1",
+        "share square 4 1",
+        "share square 4 0 2",
+        "share square 4 3 2",
+        "share square 4 1 1001",
+        "share square 4 1 2 --brief",
+        "share square 13 1 2 --version 1",
+        "share square given 1 2",
+        "join 2",
+        "join --workers 2",
     ] {
         let words = words_of(alloc, line)?;
         assert_eq!(rt; parse(&words), Err(Usage), "at {line}");
