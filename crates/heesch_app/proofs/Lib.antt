@@ -1,4 +1,5 @@
 mod Beginnings
+mod Endings
 mod GivenLists
 mod Headline
 mod PlainAnswers
