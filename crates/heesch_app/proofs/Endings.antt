@@ -37,7 +37,8 @@ IsWhole ReadFault = ⊥
 IsWhole WriteFault = ⊥
 IsWhole NoMemory = ⊥
 
-whole_if : (status whole : Status) → status ≡ whole → IsWhole whole → IsWhole status
+-- a status that is one of these
+pub whole_if : (status whole : Status) → status ≡ whole → IsWhole whole → IsWhole status
 whole_if status whole same is = subst IsWhole (sym same) is
 
 check_is_whole : (checked : Checked) → IsWhole (check_status checked)
@@ -134,6 +135,7 @@ request_ends request left S held old new before now reply result is put stops =
 pub writing_ends : {A : Type 0} (W : Status → List ℕ → Type 0) (B One Part : List ℕ → Type 0) (old new : Option (List ℕ)) (written : Result A WriteStop) (result : Status)
     → ((output : List ℕ) → One output → W Done output) → ((output : List ℕ) → Part output → B output)
     → OnOk written (WritesOne One old new) → OnErr written (BeginsOne Part old new) → result ≡ written_status written → EndsAs W B old new result
+unfolding EndsAs
 writing_ends {A} W B One Part old new written result whole begun ok err same = subst (λ s. EndsAs W B old new s) (sym same) (by_writing written ok err)
   where
     begins : BeginsOne Part old new → BeginsOne B old new
@@ -141,7 +143,6 @@ writing_ends {A} W B One Part old new written result whole begun ok err same = s
     begins (inr (output, is, prefix)) = inr (output, begun output is, prefix)
 
     by_writing : (written : Result A WriteStop) → OnOk written (WritesOne One old new) → OnErr written (BeginsOne Part old new) → EndsAs W B old new (written_status written)
-    unfolding EndsAs
     by_writing (Ok x) (output, is, appends) err = (output, whole output is, appends)
     by_writing (Err write_stops.Failed) ok err = begins err
     by_writing (Err write_stops.NoMemory) ok err = begins err
@@ -230,19 +231,19 @@ memory_prefix words request left old new result asks ends same =
     begins_prefix words request left old new asks (subst (λ s. EndsAs (IsOutput request left) (IsBegunOutput request left) old new s) same ends)
 
 -- no request ends Usage
-pub ends_in_use : (W : Status → List ℕ → Type 0) (B : List ℕ → Type 0) (old new : Option (List ℕ)) (result : Status) → EndsAs W B old new result → result ≢ Usage
+pub not_usage : (request : Request) (left old new : Option (List ℕ)) (result : Status) → EndsAs (IsOutput request left) (IsBegunOutput request left) old new result → result ≢ Usage
 unfolding EndsAs
-ends_in_use W B old new result ends same = subst (λ s. EndsAs W B old new s) same ends
+not_usage request left old new result ends same = subst (λ s. EndsAs (IsOutput request left) (IsBegunOutput request left) old new s) same ends
 
 -- a run is done, or told a fault of the input, or was refused memory, or a count rose
-pub run_completes : (W : Status → List ℕ → Type 0) (B : List ℕ → Type 0) (old new : Option (List ℕ)) (Reading Writing : Type 0) (result : Status) → EndsAs W B old new result
+pub run_completes : (request : Request) (left old new : Option (List ℕ)) (Reading Writing : Type 0) (result : Status) → EndsAs (IsOutput request left) (IsBegunOutput request left) old new result
     → (result ≡ ReadFault → Reading) → (result ≡ WriteFault → Writing)
     → (result ≡ Done) ⊎ (result ≡ Invalid) ⊎ (result ≡ BadInput) ⊎ (result ≡ NoMemory) ⊎ Reading ⊎ Writing
 unfolding EndsAs
-run_completes W B old new Reading Writing Done ends read write = inl refl
-run_completes W B old new Reading Writing Invalid ends read write = inr (inl refl)
-run_completes W B old new Reading Writing Usage ends read write = absurd ends
-run_completes W B old new Reading Writing BadInput ends read write = inr (inr (inl refl))
-run_completes W B old new Reading Writing ReadFault ends read write = inr (inr (inr (inr (inl (read refl)))))
-run_completes W B old new Reading Writing WriteFault ends read write = inr (inr (inr (inr (inr (write refl)))))
-run_completes W B old new Reading Writing NoMemory ends read write = inr (inr (inr (inl refl)))
+run_completes request left old new Reading Writing Done ends read write = inl refl
+run_completes request left old new Reading Writing Invalid ends read write = inr (inl refl)
+run_completes request left old new Reading Writing Usage ends read write = absurd ends
+run_completes request left old new Reading Writing BadInput ends read write = inr (inr (inl refl))
+run_completes request left old new Reading Writing ReadFault ends read write = inr (inr (inr (inr (inl (read refl)))))
+run_completes request left old new Reading Writing WriteFault ends read write = inr (inr (inr (inr (inr (write refl)))))
+run_completes request left old new Reading Writing NoMemory ends read write = inr (inr (inr (inl refl)))

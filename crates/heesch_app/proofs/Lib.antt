@@ -1,4 +1,5 @@
 mod Beginnings
+mod CatalogueEndings
 mod Endings
 mod GivenLists
 mod Headline

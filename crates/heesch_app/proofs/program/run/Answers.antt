@@ -4,7 +4,7 @@ use Rattle.heesch_app.specs.declared.status.Status.TheVariants.{Done, Invalid, B
 use Rattle.heesch_app.specs.declared.status.Status.{Status}
 use Rattle.heesch_words.proofs.Forms.{one_request}
 use Rattle.heesch_app.specs.Outputs.{IsAnswer, ReadsToEnd}
-use Rattle.heesch_app.proofs.Endings.{IsWhole, ends_in_use, fault_prefix, memory_prefix, run_completes, run_writes}
+use Rattle.heesch_app.proofs.Endings.{IsWhole, fault_prefix, memory_prefix, not_usage, run_completes, run_writes}
 use Rattle.heesch_app.proofs.Headline.{catalogued}
 use Rattle.heesch_app.proofs.Ranges.{asked_in_range}
 use Rattle.heesch_app.proofs.ToldExchanges.{writes_formula, writes_answer}
@@ -14,11 +14,11 @@ use Rattle.heesch_app.proofs.program.run.Goals as goal
 pub answer-requires-after_bounds : goal.answer-requires-after_bounds
 answer-requires-after_bounds g c κs within = asked_in_range (map string_bytes c.args.words.now) c.in-Ok.request c.in-Ok.ensures.ok
 
-pub returns-clause-refused : goal.returns-clause-refused
-returns-clause-refused g c = λ _ accepted. c.in-Err.ensures.usage accepted.0 accepted.1
+pub returns-in-Err-clause-refused : goal.returns-in-Err-clause-refused
+returns-in-Err-clause-refused g c = λ _ accepted. c.in-Err.ensures.usage accepted.0 accepted.1
 
-pub returns-clause-complete : goal.returns-clause-complete
-returns-clause-complete g c = λ accepted. absurd (c.in-Err.ensures.usage accepted.0 accepted.1)
+pub returns-in-Err-clause-complete : goal.returns-in-Err-clause-complete
+returns-in-Err-clause-complete g c = λ accepted. absurd (c.in-Err.ensures.usage accepted.0 accepted.1)
 
 pub returns-in-Ok-clause-refused : goal.returns-in-Ok-clause-refused
 returns-in-Ok-clause-refused g c = λ usage.
@@ -26,7 +26,7 @@ returns-in-Ok-clause-refused g c = λ usage.
     let left = g.R.Source.left c.args.source.now in
     let old = g.W.Sink.held c.args.sink.now in
     let new = g.W.Sink.held c.answer.new.sink in
-    absurd (ends_in_use _ _ old new c.answer.result c.answer.ensures.ends usage)
+    absurd (not_usage c.in-Ok.request left old new c.answer.result c.answer.ensures.ends usage)
 
 pub returns-in-Ok-clause-untouched : goal.returns-in-Ok-clause-untouched
 returns-in-Ok-clause-untouched g c = λ usage.
@@ -34,7 +34,7 @@ returns-in-Ok-clause-untouched g c = λ usage.
     let left = g.R.Source.left c.args.source.now in
     let old = g.W.Sink.held c.args.sink.now in
     let new = g.W.Sink.held c.answer.new.sink in
-    absurd (ends_in_use _ _ old new c.answer.result c.answer.ensures.ends usage)
+    absurd (not_usage c.in-Ok.request left old new c.answer.result c.answer.ensures.ends usage)
 
 pub returns-in-Ok-clause-read_to_end : goal.returns-in-Ok-clause-read_to_end
 returns-in-Ok-clause-read_to_end g c = λ done request asks reads.
@@ -163,4 +163,4 @@ returns-in-Ok-clause-complete g c = λ accepted.
     let left = g.R.Source.left c.args.source.now in
     let old = g.W.Sink.held c.args.sink.now in
     let new = g.W.Sink.held c.answer.new.sink in
-    run_completes _ _ old new _ _ c.answer.result c.answer.ensures.ends (λ fault. (c.answer.ensures.read_fault fault).1) c.answer.ensures.write_fault
+    run_completes c.in-Ok.request left old new _ _ c.answer.result c.answer.ensures.ends (λ fault. (c.answer.ensures.read_fault fault).1) c.answer.ensures.write_fault
