@@ -84,13 +84,13 @@ size_ends {A} request grid subject limits workers brief n left old new written r
     let header = header_of grid (Size n) limits brief in
     let asked = ClassifyRequest grid (Size n) limits workers brief in
     let ends : EndsAs (IsOutput asked left) (IsBegunOutput asked left) old new result =
-        writing_ends (IsOutput asked left) (IsBegunOutput asked left) (IsCatalogueOfSize g header n) (IsBegunCatalogueOfSize g header n) old new written result
-        (λ output whole. (refl, whole)) (λ output begun. begun)
-        (subst (λ s. OnOk written (WritesOne (IsCatalogueOfSize g (header_of grid s limits brief) n) old new)) size ok)
-        (subst (λ s. OnErr written (BeginsOne (IsBegunCatalogueOfSize g (header_of grid s limits brief) n) old new)) size err) same
+    writing_ends (IsOutput asked left) (IsBegunOutput asked left) (IsCatalogueOfSize g header n) (IsBegunCatalogueOfSize g header n) old new written result
+    (λ output whole. (refl, whole)) (λ output begun. begun)
+    (subst (λ s. OnOk written (WritesOne (IsCatalogueOfSize g (header_of grid s limits brief) n) old new)) size ok)
+    (subst (λ s. OnErr written (BeginsOne (IsBegunCatalogueOfSize g (header_of grid s limits brief) n) old new)) size err) same
     in
     let of_subject : EndsAs (IsOutput (ClassifyRequest grid subject limits workers brief) left) (IsBegunOutput (ClassifyRequest grid subject limits workers brief) left) old new result =
-        subst (λ s. EndsAs (IsOutput (ClassifyRequest grid s limits workers brief) left) (IsBegunOutput (ClassifyRequest grid s limits workers brief) left) old new result) (sym size) ends
+    subst (λ s. EndsAs (IsOutput (ClassifyRequest grid s limits workers brief) left) (IsBegunOutput (ClassifyRequest grid s limits workers brief) left) old new result) (sym size) ends
     in
     subst (λ r. EndsAs (IsOutput r left) (IsBegunOutput r left) old new result) (sym is) of_subject
 
@@ -103,9 +103,9 @@ given_ends request grid subject limits workers brief left old new result is give
     let g = geometry_of grid in
     let asked = ClassifyRequest grid Given limits workers brief in
     let of_given : EndsAs (IsOutput asked left) (IsBegunOutput asked left) old new result =
-        subst (λ s. EndsAs (GivenWhole g (header_of grid s limits brief) left) (GivenBegun g (header_of grid s limits brief) left) old new result) given ends
+    subst (λ s. EndsAs (GivenWhole g (header_of grid s limits brief) left) (GivenBegun g (header_of grid s limits brief) left) old new result) given ends
     in
     let of_subject : EndsAs (IsOutput (ClassifyRequest grid subject limits workers brief) left) (IsBegunOutput (ClassifyRequest grid subject limits workers brief) left) old new result =
-        subst (λ s. EndsAs (IsOutput (ClassifyRequest grid s limits workers brief) left) (IsBegunOutput (ClassifyRequest grid s limits workers brief) left) old new result) (sym given) of_given
+    subst (λ s. EndsAs (IsOutput (ClassifyRequest grid s limits workers brief) left) (IsBegunOutput (ClassifyRequest grid s limits workers brief) left) old new result) (sym given) of_given
     in
     subst (λ r. EndsAs (IsOutput r left) (IsBegunOutput r left) old new result) (sym is) of_subject

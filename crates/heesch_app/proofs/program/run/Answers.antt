@@ -94,8 +94,8 @@ returns-in-Ok-clause-passes g c = λ input workers count told short asks valid.
     let old = g.W.Sink.held c.args.sink.now in
     let new = g.W.Sink.held c.answer.new.sink in
     let says : (status : Status) → IsWhole status → c.answer.result ≡ status → status ≡ Done = λ status whole same.
-        let (text, is, appends) = run_writes words c.in-Ok.request left old new c.answer.result status c.in-Ok.ensures.ok c.answer.ensures.ends whole same in
-        valid_is_done words input status text workers count asks short valid (subst (λ l. IsAnswer words l status text) told is)
+    let (text, is, appends) = run_writes words c.in-Ok.request left old new c.answer.result status c.in-Ok.ensures.ok c.answer.ensures.ends whole same in
+    valid_is_done words input status text workers count asks short valid (subst (λ l. IsAnswer words l status text) told is)
     in
     ((λ same. let no : Invalid ≡ Done = says Invalid tt same in cc), λ same. let no : BadInput ≡ Done = says BadInput tt same in cc)
 
