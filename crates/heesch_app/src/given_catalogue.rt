@@ -21,8 +21,8 @@ use heesch_stream::INPUT_MAX;
 use std::alloc::Global;
 use std::thread::Threads;
 
-/// Writes the catalogue text, under the header, of the shapes of the list text that the source has left, in their order,
-/// each by its canonical list; or the first fault of the text. The text is read whole, as `shapes_given` reads it, before
+/// Writes the catalogue text, under the header, of the shapes of the list text that the source has left, in their
+/// order, each by its canonical list; or the first fault of the text. The text is read as `shapes_given` reads it before
 /// anything is written, and the catalogue is written as `write_catalogue` writes it.
 pub fn write_given_catalogue<T: Threads + Sync, R: Source, W: Sink, H: Gate + Sync>(
     rt: &T,
@@ -36,7 +36,8 @@ pub fn write_given_catalogue<T: Threads + Sync, R: Source, W: Sink, H: Gate + Sy
     requires limits { AreLimits header.now.limits }
     requires workers { (1 ≤ workers) × (workers ≤ 64) }
     ensures ends { EndsAs
-        (λ status output. OfInput (R.left source.old) (IsGivenAnswer (geometry_of header.now.grid) header.now status output))
+        (λ status output. OfInput (R.left source.old)
+        (IsGivenAnswer (geometry_of header.now.grid) header.now status output))
         (λ output. OfInput (R.left source.old) (IsBegunGivenAnswer (geometry_of header.now.grid) header.now output))
         (W.held sink.old) (W.held sink.new) result }
     ensures ended { result ≡ Status.Done → IsAtEnd (R.left source.new) }

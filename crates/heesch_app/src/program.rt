@@ -35,7 +35,8 @@ use std::alloc::Global;
 use std::thread::Threads;
 
 /// Does what the words ask for. The words are the arguments without the program's name; the gate is
-/// told of each piece of work that a worker takes, and the program's own is open.
+/// told of each piece of work that a worker takes, and the program's own is open. `classify` writes its
+/// catalogue after each 256 shapes, and each other form its one text at once.
 pub fn run<T: Threads + Sync, R: Source, W: Sink, H: Gate + Sync>(
     rt: &T,
     alloc: Global,
@@ -155,7 +156,7 @@ fn answer<T: Threads + Sync, R: Source, W: Sink, H: Gate + Sync>(
     }
 }
 
-/// The status and the text that a request asks for which has one text.
+/// The status and the one text that a request asks for; a catalogue has none, since it is written as it is made.
 fn reply<T: Threads + Sync, R: Source, H: Gate + Sync>(
     rt: &T,
     alloc: Global,

@@ -29,10 +29,11 @@ impl Reply {
     }
 }
 
-/// Puts the reply's text, and says how the run ended: with the reply's status, or why it stopped. Where there is no reply
-/// nothing is put.
+/// Puts the reply's text, and answers how the run ended: with the reply's status, or why it stopped. Where there is no
+/// reply nothing is put.
 pub fn put_reply<W: Sink>(reply: Result<Reply, ReadStop>, sink: &mut W) -> Status
-    ensures ok { IfOk reply (λ r. IsPut r.text.items r.status result (W.held sink.old) (W.held sink.new) (W.faults sink.old) (W.faults sink.new)) }
+    ensures ok { IfOk reply (λ r. IsPut r.text.items r.status result
+        (W.held sink.old) (W.held sink.new) (W.faults sink.old) (W.faults sink.new)) }
     ensures err { IfErr reply (λ stop. (result ≡ read_status stop) × (sink.new ≡ sink.old)) }
 {
     let Reply { status, text } = match reply {

@@ -239,8 +239,7 @@ impl Drop for Passes {
     }
 }
 
-/// There are 369 octominoes. Where the sink fails its second call, the first 256 were classified and the header's text is
-/// all that it holds.
+/// There are 369 octominoes. A sink that fails its second call holds the header's text alone, and 256 were classified.
 #[test]
 fn a_catalogue_ends_where_its_sink_fails(rt: HostRuntime) -> Result<(), Fail> {
     let alloc = rt.alloc();
