@@ -1,7 +1,7 @@
 -- How the parts of a run end, and what follows for the run.
 use Rattle.std.proofs.Common.{◌≡◌, ◌≢◌, ◌⊎◌, ◌∙◌, ℕ, List, refl, sym, subst, inl, inr}
 use Rattle.std.specs.Prelude.{Option, Some, None, Result, Ok, Err, IfOk, IfErr, OnOk, OnErr, ⊤}
-use Rattle.std.specs.Io.KnownBytes.{Appends, Keeps}
+use Rattle.std.specs.Io.KnownBytes.{Keeps}
 use Rattle.heesch_io.specs.Causes.{Rose}
 use Rattle.heesch_catalogue.specs.declared.rounds.WriteStop.{WriteStop}
 use Rattle.heesch_catalogue.specs.declared.rounds.WriteStop.TheVariants as write_stops
