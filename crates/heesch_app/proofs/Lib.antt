@@ -1,4 +1,6 @@
 mod Beginnings
+mod CatalogueEndings
+mod Endings
 mod GivenLists
 mod Headline
 mod PlainAnswers

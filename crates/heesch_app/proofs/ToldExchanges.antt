@@ -7,7 +7,6 @@ use Rattle.heesch_exchange.specs.declared.stop.ExchangeStop.{ExchangeStop}
 use Rattle.heesch_exchange.specs.declared.stop.ExchangeStop.TheVariants.{Fault, NoMemory}
 use Rattle.heesch_grid.specs.declared.GridName.{GridName}
 use Rattle.heesch_grid.specs.Names.{geometry_of}
-use Rattle.heesch_words.specs.declared.requests.Request.{Request}
 use Rattle.heesch_words.specs.declared.requests.Request.TheVariants.{Formula as FormulaRequest, Answer as AnswerRequest}
 use Rattle.heesch_words.specs.Requests.{Asks}
 use Rattle.heesch_words.proofs.Forms.{one_request}

@@ -1,4 +1,5 @@
 pub mod Checks
+pub mod Endings
 pub mod Exchanges
 pub mod Inputs
 pub mod Outputs

@@ -70,6 +70,11 @@ ReadsToEnd (FormulaRequest grid level size version) = ⊤
 ReadsToEnd (AnswerRequest grid level size version) = ⊤
 ReadsToEnd _ = ⊥
 
+-- what the request asks for is one text, which is put at once; a catalogue is written as it is made
+abbrev pub HasOneText : Request → Type 0
+HasOneText (ClassifyRequest grid subject limits workers brief) = ⊥
+HasOneText _ = ⊤
+
 -- this holds of the bytes that the source had left, or of some bytes where it doesn't tell them
 abbrev pub OfInput : Option (List ℕ) → (List ℕ → Type 0) → Type 0
 OfInput left P = (input : List ℕ) × IsAllOf left input × P input

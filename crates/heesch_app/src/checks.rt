@@ -1,5 +1,5 @@
 //! The answer to `check`.
-ghost use Rattle.std.specs.Prelude.{◌≡◌, ◌≤◌, Err, IfOk};
+ghost use Rattle.std.specs.Prelude.{◌≡◌, ◌≤◌, Err, IfErr, IfOk};
 ghost use Rattle.heesch_io.specs.Causes.{Rose};
 ghost use Rattle.heesch_app.specs.Checks.{check_status, check_text};
 ghost use Rattle.heesch_app.specs.Outputs.{OfInput, IsCheckAnswer};
@@ -9,7 +9,7 @@ use crate::bad_input::bad_input;
 use crate::reading::ReadStop;
 use crate::reply::Reply;
 use heesch_check::{CheckStop, Checked, check, write_checked};
-use heesch_io::{NoMemory, Source};
+use heesch_io::Source;
 use heesch_pool::Gate;
 use std::alloc::Global;
 use std::thread::Threads;
@@ -34,13 +34,14 @@ pub fn checked_reply<T: Threads + Sync, R: Source, H: Gate + Sync>(
         Err(CheckStop::Failed) => return Err(ReadStop::Failed),
         Err(CheckStop::NoMemory) => return Err(ReadStop::NoMemory),
     };
-    told(alloc, checked).map_err(|_| ReadStop::NoMemory)
+    told(alloc, checked)
 }
 
 /// The line of an answer, and the status that comes with it.
-fn told(alloc: Global, checked: Checked) -> Result<Reply, NoMemory>
+fn told(alloc: Global, checked: Checked) -> Result<Reply, ReadStop>
     ensures status { IfOk result (λ r. r.status ≡ check_status checked) }
     ensures text { IfOk result (λ r. r.text.items ≡ check_text checked) }
+    ensures err { IfErr result (λ e. e ≡ ReadStop.NoMemory) }
 {
     let status = match checked {
         Checked::TooLong { line } => return bad_input(alloc, line, TOO_LONG),

@@ -67,9 +67,7 @@ fn told(alloc: Global, text: Result<Vec<u8>, ExchangeStop>) -> Result<Reply, Rea
             status: Status::Done,
             text,
         }),
-        Err(ExchangeStop::Fault { line, number }) => {
-            bad_input(alloc, line, number).map_err(|_| ReadStop::NoMemory)
-        }
+        Err(ExchangeStop::Fault { line, number }) => bad_input(alloc, line, number),
         Err(ExchangeStop::NoMemory) => Err(ReadStop::NoMemory),
     }
 }

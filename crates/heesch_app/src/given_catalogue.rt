@@ -1,99 +1,93 @@
 //! The catalogue of the shapes of a list text.
-ghost use Rattle.std.specs.Prelude.{◌≡◌, ◌≤◌, All, Err, IfOk};
+ghost use Rattle.std.specs.Prelude.{◌≡◌, ◌≤◌};
 ghost use Rattle.std.specs.Io.KnownBytes.{IsAtEnd};
 ghost use Rattle.heesch_cert.specs.Limits.{AreLimits};
 ghost use Rattle.heesch_grid.specs.Names.{geometry_of};
-ghost use Rattle.heesch_grid.specs.Polyform.{IsCanonicalListOf};
 ghost use Rattle.heesch_io.specs.Causes.{Rose};
-ghost use Rattle.heesch_catalogue.specs.Catalogues.{IsCatalogue};
-ghost use Rattle.heesch_app.specs.Outputs.{OfInput, IsGivenAnswer};
+ghost use Rattle.heesch_app.specs.Endings.{EndsAs};
+ghost use Rattle.heesch_app.specs.Outputs.{OfInput, IsBegunGivenAnswer, IsGivenAnswer};
 
 use crate::Status;
 use crate::bad_input::bad_input;
-use crate::reading::ReadStop;
-use crate::reply::Reply;
-use heesch_catalogue::{entries_of, text_of};
+use crate::reply::put_reply;
+use heesch_catalogue::write_catalogue;
 use heesch_cert::Header;
 use heesch_given::{GivenStop, shapes_given};
 use heesch_grid::{Grid, GridName, Hex, Iamond, Square};
-use heesch_io::{NoMemory, Source};
+use heesch_io::{Sink, Source};
 use heesch_kite::Kite;
 use heesch_pool::Gate;
-use heesch_shape::Shape;
 use heesch_stream::INPUT_MAX;
 use std::alloc::Global;
 use std::thread::Threads;
 
-/// The catalogue text, under the header, of the shapes of the list text that the source has left, in their order, each by
-/// its canonical list; or the first fault of the text. The text is read as `shapes_given` reads it.
-pub fn given_catalogue<T: Threads + Sync, R: Source, H: Gate + Sync>(
+/// Writes the catalogue text, under the header, of the shapes of the list text that the source has left, in their
+/// order, each by its canonical list; or the first fault of the text. The text is read as `shapes_given` reads it before
+/// anything is written, and the catalogue is written as `write_catalogue` writes it.
+pub fn write_given_catalogue<T: Threads + Sync, R: Source, W: Sink, H: Gate + Sync>(
     rt: &T,
     alloc: Global,
     header: &Header,
-    source: &mut R,
     workers: u32,
+    source: &mut R,
+    sink: &mut W,
     gate: &H,
-) -> Result<Reply, ReadStop>
+) -> Status
     requires limits { AreLimits header.now.limits }
     requires workers { (1 ≤ workers) × (workers ≤ 64) }
-    ensures ok { IfOk result (λ r. OfInput (R.left source.old) (IsGivenAnswer (geometry_of header.now.grid) header.now r.status r.text.items)) }
-    ensures ended { IfOk result (λ r. r.status ≡ Status.Done → IsAtEnd (R.left source.new)) }
-    ensures failed { result ≡ Err ReadStop.Failed → Rose (R.faults source.old) (R.faults source.new) }
+    ensures ends { EndsAs
+        (λ status output. OfInput (R.left source.old)
+        (IsGivenAnswer (geometry_of header.now.grid) header.now status output))
+        (λ output. OfInput (R.left source.old) (IsBegunGivenAnswer (geometry_of header.now.grid) header.now output))
+        (W.held sink.old) (W.held sink.new) result }
+    ensures ended { result ≡ Status.Done → IsAtEnd (R.left source.new) }
+    ensures read_fault { result ≡ Status.ReadFault → Rose (R.faults source.old) (R.faults source.new) }
+    ensures unwritten { result ≡ Status.ReadFault → sink.new ≡ sink.old }
+    ensures write_fault { result ≡ Status.WriteFault → Rose (W.faults sink.old) (W.faults sink.new) }
 {
     match header.grid {
-        GridName::Square => catalogue_of::<Square, T, R, H>(
-            rt, alloc, header, source, workers, gate,
+        GridName::Square => write_given::<Square, T, R, W, H>(
+            rt, alloc, header, workers, source, sink, gate,
         ),
-        GridName::Hex => catalogue_of::<Hex, T, R, H>(rt, alloc, header, source, workers, gate),
-        GridName::Iamond => catalogue_of::<Iamond, T, R, H>(
-            rt, alloc, header, source, workers, gate,
+        GridName::Hex => write_given::<Hex, T, R, W, H>(
+            rt, alloc, header, workers, source, sink, gate,
         ),
-        GridName::Kite => catalogue_of::<Kite, T, R, H>(rt, alloc, header, source, workers, gate),
+        GridName::Iamond => write_given::<Iamond, T, R, W, H>(
+            rt, alloc, header, workers, source, sink, gate,
+        ),
+        GridName::Kite => write_given::<Kite, T, R, W, H>(
+            rt, alloc, header, workers, source, sink, gate,
+        ),
     }
 }
 
-fn catalogue_of<G: Grid + Send + Sync, T: Threads + Sync, R: Source, H: Gate + Sync>(
+fn write_given<G: Grid + Send + Sync, T: Threads + Sync, R: Source, W: Sink, H: Gate + Sync>(
     rt: &T,
     alloc: Global,
     header: &Header,
-    source: &mut R,
     workers: u32,
+    source: &mut R,
+    sink: &mut W,
     gate: &H,
-) -> Result<Reply, ReadStop>
+) -> Status
     requires limits { AreLimits header.now.limits }
     requires workers { (1 ≤ workers) × (workers ≤ 64) }
-    ensures ok { IfOk result (λ r. OfInput (R.left source.old) (IsGivenAnswer G.geometry header.now r.status r.text.items)) }
-    ensures ended { IfOk result (λ r. r.status ≡ Status.Done → IsAtEnd (R.left source.new)) }
-    ensures failed { result ≡ Err ReadStop.Failed → Rose (R.faults source.old) (R.faults source.new) }
+    ensures ends { EndsAs
+        (λ status output. OfInput (R.left source.old) (IsGivenAnswer G.geometry header.now status output))
+        (λ output. OfInput (R.left source.old) (IsBegunGivenAnswer G.geometry header.now output))
+        (W.held sink.old) (W.held sink.new) result }
+    ensures ended { result ≡ Status.Done → IsAtEnd (R.left source.new) }
+    ensures read_fault { result ≡ Status.ReadFault → Rose (R.faults source.old) (R.faults source.new) }
+    ensures unwritten { result ≡ Status.ReadFault → sink.new ≡ sink.old }
+    ensures write_fault { result ≡ Status.WriteFault → Rose (W.faults sink.old) (W.faults sink.new) }
 {
     match shapes_given::<G, R, INPUT_MAX>(alloc, source) {
-        Ok(shapes) => Reply::done(text_of_shapes(rt, alloc, header, &shapes, workers, gate)),
-        Err(GivenStop::Fault { line, number }) => {
-            match bad_input(alloc, line, number) {
-                Ok(reply) => Ok(reply),
-                Err(NoMemory) => Err(ReadStop::NoMemory),
-            }
+        Ok(shapes) => {
+            let written = write_catalogue(rt, alloc, header, &shapes, workers, gate, sink);
+            Status::of_writing(written)
         }
-        Err(GivenStop::Failed) => Err(ReadStop::Failed),
-        Err(GivenStop::NoMemory) => Err(ReadStop::NoMemory),
+        Err(GivenStop::Fault { line, number }) => put_reply(bad_input(alloc, line, number), sink),
+        Err(GivenStop::Failed) => Status::ReadFault,
+        Err(GivenStop::NoMemory) => Status::NoMemory,
     }
-}
-
-/// The catalogue text of shapes in their order.
-fn text_of_shapes<G: Grid + Send + Sync, T: Threads + Sync, H: Gate + Sync>(
-    rt: &T,
-    alloc: Global,
-    header: &Header,
-    shapes: &[Shape<G>],
-    workers: u32,
-    gate: &H,
-) -> Result<Vec<u8>, NoMemory>
-    requires limits { AreLimits header.now.limits }
-    requires workers { (1 ≤ workers) × (workers ≤ 64) }
-    requires canonical { All (λ s. IsCanonicalListOf G.geometry s s) shapes.now }
-    ensures { IfOk result (λ text. IsCatalogue G.geometry header.now shapes.now text.items) }
-{
-    let entries = entries_of(rt, alloc, shapes, header.limits, workers, gate)?;
-    let text = text_of(alloc, header, &entries)?;
-    Ok(text)
 }

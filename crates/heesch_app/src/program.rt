@@ -11,22 +11,23 @@ ghost use Rattle.heesch_words.specs.declared.requests.Request.{Request as Reques
 ghost use Rattle.heesch_words.specs.declared.requests.Request.TheVariants.{Classify as ClassifyRequest, Check as CheckRequest, Table as TableRequest, Formula as FormulaRequest, Answer as AnswerRequest};
 ghost use Rattle.heesch_tabulate.specs.Tabulating.{IsTallied};
 ghost use Rattle.heesch_words.specs.Requests.{Asks};
-ghost use Rattle.heesch_app.specs.Outputs.{IsAccepted, IsOutput, Reads, ReadsToEnd, AreReading, Writes, WritesPrefix, AsksForCatalogue, IsCatalogued, WritesValid};
+ghost use Rattle.heesch_app.specs.Outputs.{IsAccepted, IsOutput, IsBegunOutput, HasOneText, Reads, ReadsToEnd, AreReading, Writes, WritesPrefix, AsksForCatalogue, IsCatalogued, WritesValid};
+ghost use Rattle.heesch_app.specs.Endings.{EndsAs};
 ghost use Rattle.heesch_app.specs.Exchanges.{WritesFormula, WritesAnswer};
 ghost use Rattle.heesch_app.specs.Ranges.{IsInRange};
 
 use crate::Status;
 use crate::checks::checked_reply;
 use crate::exchanges::{formula_reply, model_reply};
-use crate::given_catalogue::given_catalogue;
+use crate::given_catalogue::write_given_catalogue;
 use crate::listing::listing;
 use crate::reading::ReadStop;
-use crate::reply::Reply;
+use crate::reply::{Reply, put_reply};
 use crate::tables::table_reply;
 use crate::tilings::plain_listing;
-use heesch_catalogue::catalogue;
+use heesch_catalogue::write_catalogue_of_size;
 use heesch_cert::{Header, Subject};
-use heesch_io::{Failed, NoMemory, Sink, Source, put};
+use heesch_io::{Sink, Source};
 use heesch_pool::Gate;
 use heesch_sample::sample;
 use heesch_words::{Request, Usage, parse};
@@ -34,7 +35,8 @@ use std::alloc::Global;
 use std::thread::Threads;
 
 /// Does what the words ask for. The words are the arguments without the program's name; the gate is
-/// told of each piece of work that a worker takes, and the program's own is open.
+/// told of each piece of work that a worker takes, and the program's own is open. `classify` writes its
+/// catalogue after each 256 shapes, and each other form its one text at once.
 pub fn run<T: Threads + Sync, R: Source, W: Sink, H: Gate + Sync>(
     rt: &T,
     alloc: Global,
@@ -100,22 +102,61 @@ pub fn run<T: Threads + Sync, R: Source, W: Sink, H: Gate + Sync>(
         (result ≡ Status.Done) ⊎ (result ≡ Status.Invalid) ⊎ (result ≡ Status.BadInput) ⊎ (result ≡ Status.NoMemory)
         ⊎ Rose (R.faults source.old) (R.faults source.new) ⊎ Rose (W.faults sink.old) (W.faults sink.new) }
 {
-    let request = match parse(words) {
-        Ok(request) => request,
-        Err(Usage) => return Status::Usage,
-    };
-    let Reply { status, text } = match reply(rt, alloc, request, source, gate) {
-        Ok(reply) => reply,
-        Err(ReadStop::Failed) => return Status::ReadFault,
-        Err(ReadStop::NoMemory) => return Status::NoMemory,
-    };
-    match put(sink, &text) {
-        Ok(()) => status,
-        Err(Failed) => Status::WriteFault,
+    match parse(words) {
+        Ok(request) => answer(rt, alloc, request, source, sink, gate),
+        Err(Usage) => Status::Usage,
     }
 }
 
-/// The status and the text that a request asks for.
+/// Does what a request asks for.
+fn answer<T: Threads + Sync, R: Source, W: Sink, H: Gate + Sync>(
+    rt: &T,
+    alloc: Global,
+    request: Request,
+    source: &mut R,
+    sink: &mut W,
+    gate: &H,
+) -> Status
+    requires { IsInRange request }
+    ensures ends { EndsAs (IsOutput request (R.left source.old)) (IsBegunOutput request (R.left source.old))
+        (W.held sink.old) (W.held sink.new) result }
+    ensures ended { result ≡ Status.Done → ReadsToEnd request → IsAtEnd (R.left source.new) }
+    ensures read_fault { result ≡ Status.ReadFault → Reads request × Rose (R.faults source.old) (R.faults source.new) }
+    ensures unwritten { result ≡ Status.ReadFault → sink.new ≡ sink.old }
+    ensures write_fault { result ≡ Status.WriteFault → Rose (W.faults sink.old) (W.faults sink.new) }
+    ensures unread { ¬ Reads request → source.new ≡ source.old }
+{
+    match request {
+        Request::Classify {
+            grid,
+            subject,
+            limits,
+            workers,
+            brief,
+        } => {
+            let header = Header {
+                brief,
+                grid,
+                subject,
+                limits,
+            };
+            match subject {
+                Subject::Size { n } => {
+                    let written = write_catalogue_of_size(
+                        rt, alloc, &header, n, workers, gate, sink,
+                    );
+                    Status::of_writing(written)
+                }
+                Subject::Given => {
+                    write_given_catalogue(rt, alloc, &header, workers, source, sink, gate)
+                }
+            }
+        }
+        _ => put_reply(reply(rt, alloc, request, source, gate), sink),
+    }
+}
+
+/// The status and the one text that a request asks for; a catalogue has none, since it is written as it is made.
 fn reply<T: Threads + Sync, R: Source, H: Gate + Sync>(
     rt: &T,
     alloc: Global,
@@ -123,7 +164,8 @@ fn reply<T: Threads + Sync, R: Source, H: Gate + Sync>(
     source: &mut R,
     gate: &H,
 ) -> Result<Reply, ReadStop>
-    requires { IsInRange request }
+    requires range { IsInRange request }
+    requires text { HasOneText request }
     ensures ok { IfOk result (λ r. IsOutput request (R.left source.old) r.status r.text.items) }
     ensures ended { IfOk result (λ r. r.status ≡ Status.Done → ReadsToEnd request → IsAtEnd (R.left source.new)) }
     ensures failed { result ≡ Err ReadStop.Failed → Reads request × Rose (R.faults source.old) (R.faults source.new) }
@@ -158,23 +200,6 @@ fn reply<T: Threads + Sync, R: Source, H: Gate + Sync>(
             limits,
             workers,
         } => Reply::done(sample(rt, alloc, grid, n, count, seed, limits, workers, gate)),
-        Request::Classify {
-            grid,
-            subject,
-            limits,
-            workers,
-            brief,
-        } => {
-            let header = Header {
-                brief,
-                grid,
-                subject,
-                limits,
-            };
-            match subject {
-                Subject::Size { n } => Reply::done(catalogue(rt, alloc, &header, n, workers, gate)),
-                Subject::Given => given_catalogue(rt, alloc, &header, source, workers, gate),
-            }
-        }
+        Request::Classify { .. } => unreachable!(),
     }
 }

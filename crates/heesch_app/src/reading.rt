@@ -4,7 +4,7 @@ ghost use Rattle.std.specs.Io.KnownBytes.{IsAtEnd};
 ghost use Rattle.heesch_io.specs.Causes.{Rose};
 ghost use Rattle.heesch_stream.specs.Input.{IsAllOf};
 
-use heesch_io::Source;
+use heesch_io::{NoMemory, Source};
 use std::alloc::Global;
 
 /// The most bytes that are read. Memory for more is never there.
@@ -17,6 +17,17 @@ pub enum ReadStop {
     Failed,
     /// Memory was refused, or the input has `INPUT_MAX` bytes or more.
     NoMemory,
+}
+
+impl From<NoMemory> for ReadStop {
+    ghost use Rattle.heesch_app.specs.declared.reading.ReadStop.TheVariants as stops;
+    ghost use Rattle.std.specs.Prelude.{◌≡◌};
+
+    ghost from_gives = { λ _ e. e ≡ stops.NoMemory };
+
+    fn from(_error: NoMemory) -> ReadStop {
+        ReadStop::NoMemory
+    }
 }
 
 /// All bytes that the source has left. The cost is linear in their number.

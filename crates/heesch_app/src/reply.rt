@@ -1,9 +1,10 @@
 //! What is written, and the status that comes with it.
 ghost use Rattle.std.specs.Prelude.{◌≡◌, IfOk, IfErr, Ok};
+ghost use Rattle.heesch_app.specs.Endings.{IsPut, read_status};
 
 use crate::Status;
 use crate::reading::ReadStop;
-use heesch_io::NoMemory;
+use heesch_io::{Failed, NoMemory, Sink, put};
 
 /// What is written, and the status that comes with it where all of it is.
 #[derive(Drop)]
@@ -25,5 +26,23 @@ impl Reply {
             }),
             Err(NoMemory) => Err(ReadStop::NoMemory),
         }
+    }
+}
+
+/// Puts the reply's text, and answers how the run ended: with the reply's status, or why it stopped. Where there is no
+/// reply nothing is put.
+pub fn put_reply<W: Sink>(reply: Result<Reply, ReadStop>, sink: &mut W) -> Status
+    ensures ok { IfOk reply (λ r. IsPut r.text.items r.status result
+        (W.held sink.old) (W.held sink.new) (W.faults sink.old) (W.faults sink.new)) }
+    ensures err { IfErr reply (λ stop. (result ≡ read_status stop) × (sink.new ≡ sink.old)) }
+{
+    let Reply { status, text } = match reply {
+        Ok(reply) => reply,
+        Err(ReadStop::Failed) => return Status::ReadFault,
+        Err(ReadStop::NoMemory) => return Status::NoMemory,
+    };
+    match put(sink, &text) {
+        Ok(()) => status,
+        Err(Failed) => Status::WriteFault,
     }
 }

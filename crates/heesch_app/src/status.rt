@@ -1,5 +1,8 @@
 ghost use Rattle.std.specs.Prelude.{◌≡◌};
+ghost use Rattle.heesch_app.specs.Endings.{written_status};
 ghost use Rattle.heesch_app.specs.Statuses.{status_number};
+
+use heesch_catalogue::WriteStop;
 
 /// How a run ended. The program ends with this number.
 #[derive(Clone, Copy, Debug, PartialEq, Eq)]
@@ -26,5 +29,16 @@ impl Status {
         ensures { result ≡ status_number self }
     {
         self as u8
+    }
+
+    /// How a run ended that wrote a catalogue, or stopped.
+    pub(crate) fn of_writing(written: Result<(), WriteStop>) -> Status
+        ensures { result ≡ written_status written }
+    {
+        match written {
+            Ok(()) => Status::Done,
+            Err(WriteStop::Failed) => Status::WriteFault,
+            Err(WriteStop::NoMemory) => Status::NoMemory,
+        }
     }
 }

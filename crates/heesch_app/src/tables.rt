@@ -21,12 +21,7 @@ pub fn table_reply<R: Source>(alloc: Global, source: &mut R) -> Result<Reply, Re
             status: Status::Done,
             text,
         }),
-        Ok(Tabulated::Fault { line, number }) => {
-            match bad_input(alloc, line, number) {
-                Ok(reply) => Ok(reply),
-                Err(_) => Err(ReadStop::NoMemory),
-            }
-        }
+        Ok(Tabulated::Fault { line, number }) => bad_input(alloc, line, number),
         Err(TableStop::Failed) => Err(ReadStop::Failed),
         Err(TableStop::NoMemory) => Err(ReadStop::NoMemory),
     }

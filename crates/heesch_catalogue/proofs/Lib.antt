@@ -1,4 +1,4 @@
 pub mod EntryLists
 mod LimitTests
-pub mod Readable
+mod Readable
 mod RoundTexts

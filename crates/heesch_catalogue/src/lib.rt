@@ -1,12 +1,11 @@
-//! The entries of shapes, each classified by itself by several workers, and the text of a catalogue.
+//! The entries of shapes, each classified by itself by several workers, and catalogues that are written as they are made.
 #![tactic(auto)]
 
-mod catalogues;
 mod entries;
 mod rounds;
 #[cfg(test)]
 mod tests;
+mod texts;
 
-pub use catalogues::{catalogue, text_of};
 pub use entries::entries_of;
 pub use rounds::{WriteStop, write_catalogue, write_catalogue_of_size};

@@ -11,8 +11,8 @@ ghost use Rattle.heesch_catalogue.specs.Catalogues.{IsBegunCatalogue, IsBegunCat
 ghost use Rattle.heesch_catalogue.specs.Catalogues.{IsCatalogue, IsCatalogueOfSize};
 ghost use Rattle.heesch_catalogue.specs.Rounds.{AreBegunTextsOf, AreTextsOf, BeginsOne, WritesOne};
 
-use crate::catalogues::append_entries;
 use crate::entries::entries_between;
+use crate::texts::append_entries;
 use heesch_cert::Header;
 use heesch_grid::{Grid, GridName, Hex, Iamond, Square};
 use heesch_io::{Failed, NoMemory, Sink, put};

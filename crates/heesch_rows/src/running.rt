@@ -1,7 +1,7 @@
 //! Runs of the program over a source and a sink in memory.
 use heesch_app::{Status, run};
 use heesch_io::{MemorySink, MemorySource, NoMemory};
-use heesch_pool::Open;
+use heesch_pool::{Gate, Open};
 use std::alloc::Global;
 use std::thread::Threads;
 
@@ -30,11 +30,23 @@ pub(crate) fn run_over<T: Threads + Sync>(
     rt: &T,
     alloc: Global,
     line: &str,
+    source: MemorySource,
+    sink: MemorySink,
+) -> Result<(Status, MemorySink), NoMemory> {
+    run_past(rt, alloc, line, source, sink, &Open)
+}
+
+/// The same of a run whose tickets pass a gate.
+pub(crate) fn run_past<T: Threads + Sync, H: Gate + Sync>(
+    rt: &T,
+    alloc: Global,
+    line: &str,
     mut source: MemorySource,
     mut sink: MemorySink,
+    gate: &H,
 ) -> Result<(Status, MemorySink), NoMemory> {
     let words = words_of(alloc, line)?;
-    let status = run(rt, alloc, &words, &mut source, &mut sink, &Open);
+    let status = run(rt, alloc, &words, &mut source, &mut sink, gate);
     Ok((status, sink))
 }
 

@@ -1,0 +1,42 @@
+use Rattle.heesch_app.proofs.CatalogueEndings.{given_ends, size_ends}
+use Rattle.heesch_app.proofs.Endings.{put_done, put_read_fault, put_write_fault, reply_is_whole, request_ends}
+use Rattle.heesch_app.proofs.program.answer.Goals as goal
+
+pub returns-in-Size-clause-ends : goal.returns-in-Size-clause-ends
+returns-in-Size-clause-ends g c =
+    let held = g.W.Sink.held in
+    let asked = c.in-Classify in
+    size_ends c.args.request asked.grid asked.subject asked.limits asked.workers asked.brief c.in-Size.n (g.R.Source.left c.args.source.now)
+    (held c.args.sink.now) (held c.write_catalogue_of_size-written.new.sink) c.write_catalogue_of_size-written.result c.of_writing.result asked.is c.in-Size.is
+    c.write_catalogue_of_size-written.ensures.ok c.write_catalogue_of_size-written.ensures.err c.of_writing.ensures
+
+pub returns-in-Given-clause-ends : goal.returns-in-Given-clause-ends
+returns-in-Given-clause-ends g c =
+    let held = g.W.Sink.held in
+    let asked = c.in-Classify in
+    given_ends c.args.request asked.grid asked.subject asked.limits asked.workers asked.brief (g.R.Source.left c.args.source.now)
+    (held c.args.sink.now) (held c.write_given_catalogue.new.sink) c.write_given_catalogue.result asked.is c.in-Given.is c.write_given_catalogue.ensures.ends
+
+pub returns-in_default-clause-ends : goal.returns-in_default-clause-ends
+returns-in_default-clause-ends g c =
+    request_ends c.args.request (g.R.Source.left c.args.source.now) _ g.W.Sink.held c.args.sink.now c.put_reply.new.sink _ _ c.reply.result c.put_reply.result
+    c.reply.ensures.ok c.put_reply.ensures.ok c.put_reply.ensures.err
+
+pub returns-in_default-clause-ended : goal.returns-in_default-clause-ended
+returns-in_default-clause-ended g c =
+    put_done _ _ g.W.Sink.held c.args.sink.now c.put_reply.new.sink _ _ c.reply.result c.put_reply.result c.reply.ensures.ended c.put_reply.ensures.ok c.put_reply.ensures.err
+
+pub returns-in_default-clause-read_fault : goal.returns-in_default-clause-read_fault
+returns-in_default-clause-read_fault g c = λ fault.
+    let whole = reply_is_whole c.args.request (g.R.Source.left c.args.source.now) c.reply.result c.reply.ensures.ok in
+    c.reply.ensures.failed (put_read_fault _ g.W.Sink.held c.args.sink.now c.put_reply.new.sink _ _ c.reply.result c.put_reply.result whole c.put_reply.ensures.ok c.put_reply.ensures.err fault).0
+
+pub returns-in_default-clause-unwritten : goal.returns-in_default-clause-unwritten
+returns-in_default-clause-unwritten g c = λ fault.
+    let whole = reply_is_whole c.args.request (g.R.Source.left c.args.source.now) c.reply.result c.reply.ensures.ok in
+    (put_read_fault _ g.W.Sink.held c.args.sink.now c.put_reply.new.sink _ _ c.reply.result c.put_reply.result whole c.put_reply.ensures.ok c.put_reply.ensures.err fault).1
+
+pub returns-in_default-clause-write_fault : goal.returns-in_default-clause-write_fault
+returns-in_default-clause-write_fault g c = λ fault.
+    let whole = reply_is_whole c.args.request (g.R.Source.left c.args.source.now) c.reply.result c.reply.ensures.ok in
+    put_write_fault _ g.W.Sink.held c.args.sink.now c.put_reply.new.sink _ _ c.reply.result c.put_reply.result whole c.put_reply.ensures.ok c.put_reply.ensures.err fault
