@@ -1,4 +1,5 @@
 pub mod Answering
+pub mod Audits
 pub mod Batches
 pub mod Behind
 pub mod Blocks
