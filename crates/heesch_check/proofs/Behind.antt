@@ -81,7 +81,7 @@ lacks_items first before now found front gathered s enough h m few piece = recor
 -- ---- the judgement of items behind others
 
 -- a header alone was judged
-pub first_judged : (header : Header) → AreJudged header (items.Header header ∷ []) 0
+unfoldable pub first_judged : (header : Header) → AreJudged header (items.Header header ∷ []) 0
 first_judged header = record { es = []; body = []; ends = []; split = refl; are = tt; good = tt; count = refl; ends_all = inl refl }
 
 none_more : (header : Header) (n : ℕ) (reading : Reading) → IsAnswerOf header n reading None → reading ≡ readings.More

@@ -5,6 +5,7 @@ pub mod Behind
 pub mod Blocks
 pub mod Deciding
 pub mod Early
+pub mod FirstFault
 pub mod Headers
 pub mod Leading
 pub mod Near

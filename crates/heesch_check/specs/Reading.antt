@@ -6,6 +6,7 @@ use Rattle.heesch_text.specs.declared.line.Line.TheVariants as lines
 use Rattle.heesch_line.specs.Forms.{IsLine}
 use Rattle.heesch_reader.specs.declared.item.Item.{Item}
 use Rattle.heesch_reader.specs.declared.item.Item.TheVariants as items
+use Rattle.heesch_reader.specs.declared.item.Part.{Part}
 use Rattle.heesch_reader.specs.declared.item.Part.TheVariants as parts
 use Rattle.heesch_reader.specs.declared.progress.AtHand.{AtHand}
 use Rattle.heesch_reader.specs.declared.progress.AtHand.TheVariants as endings
@@ -39,6 +40,13 @@ IsAnswerOf header entries (readings.Fault parts.Header) answer = answer ≡ Some
 IsAnswerOf header entries (readings.Fault parts.Entry) answer = answer ≡ Some (answers.InvalidEntry (entries + 1))
 IsAnswerOf header entries (readings.Fault parts.End) answer = answer ≡ Some answers.InvalidEnd
 IsAnswerOf header entries (readings.TooLong line ending) answer = (told : Checked) × (answer ≡ Some told) × AnswersLong header entries line ending told
+
+-- a fault stands behind the header, before anything whole, and this is its answer
+pub record FaultsFirst (all : List Item) (reading : Reading) (answer : Checked) : Type 0 where
+  pub alone : length all ≤ 1
+  pub part : Part
+  pub fault : reading ≡ readings.Fault part
+  pub tells : (header : Header) → IsAnswerOf header 0 (readings.Fault part) (Some answer)
 
 -- since the source had `first` left, these items were read, and reading came so far
 abbrev pub IsReading : (first now : Option (List ℕ)) → List Item → Streamed → Reading → Type 0

@@ -9,6 +9,7 @@ ghost use Rattle.heesch_stream.specs.Input.{IsAllOf};
 ghost use Rattle.heesch_check.specs.Answers.{IsChecked};
 ghost use Rattle.heesch_check.specs.Judging.{HasShapes};
 ghost use Rattle.heesch_check.specs.Reading.{
+  FaultsFirst,
   IsReading,
   IsUnderway,
   BeginWith,
@@ -18,7 +19,7 @@ ghost use Rattle.heesch_check.specs.Reading.{
 };
 
 use crate::answers::{CheckStop, Checked};
-use crate::judging::Judge;
+use crate::judging::{Judge, fault_behind};
 use crate::reading::{Reading, gather, read_first};
 use heesch_cert::{Header, Subject};
 use heesch_grid::{Grid, GridName, Hex, Iamond, Square};
@@ -36,11 +37,13 @@ const ROUND: usize = 256;
 
 /// Whether what the source has left is a valid catalogue, else its first invalid part.
 ///
-/// `TooLong` comes where the first 2^40 bytes decide no invalid part and more follow. The free list of a size is made once, by so
-/// many workers. Entries are judged by rounds: items are gathered from as many pieces as that takes until there are 256, the input
-/// is at fault or ends, or as much is read as may be; then the entries that are in their places are audited by the workers, each
-/// once, and the answer is that of the first item at fault. The gate is told of each entry's number, from 0. Reading stops with the
-/// round that decides the answer, and no more is held than the items of a round and those of one piece.
+/// `TooLong` comes where the first 2^40 bytes decide no invalid part and more follow.
+///
+/// Entries are judged by rounds: items are gathered from as many pieces as that takes until there are 256, the input is at fault or
+/// ends, or as much is read as may be; then the entries that are in their places are audited by the workers, each once, and the
+/// answer is that of the first item at fault. The gate is told of each entry's number, from 0. Reading stops with the round that
+/// decides the answer, and no more is held than the items of a round and those of one piece. The free list of a size is made once,
+/// by the workers, before the first round, but where the input is at fault with nothing whole behind its header.
 ///
 /// Errors: `Failed` only where the source's count of faults rose; `NoMemory` where memory was refused.
 pub fn check<T: Threads + Sync, R: Source, H: Gate + Sync>(
@@ -66,6 +69,9 @@ pub fn check<T: Threads + Sync, R: Source, H: Gate + Sync>(
         return Ok(Checked::InvalidHeader);
     }
     let reading = gather(&mut stream, source, &mut items, reading, ROUND + 1)?;
+    if let Some(answer) = first_fault(items.as_slice(), reading) {
+        return Ok(answer);
+    }
     let opening = Opening {
         stream,
         header,
@@ -85,6 +91,16 @@ fn header_of(items: &[Item]) -> Option<Header>
     }
     match &items[0] {
         Item::Header { header } => Some(*header),
+        _ => None,
+    }
+}
+
+/// The answer where a fault stands behind the header, before anything whole. No list is needed for it.
+fn first_fault(items: &[Item], reading: Reading) -> Option<Checked>
+    ensures { IfSome result (FaultsFirst items.now reading) }
+{
+    match reading {
+        Reading::Fault { part } if items.len() <= 1 => Some(fault_behind(0, part)),
         _ => None,
     }
 }

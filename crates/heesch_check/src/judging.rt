@@ -1,6 +1,7 @@
 //! The judgement of the items of a catalogue.
-ghost use Rattle.std.specs.Prelude.{◌≡◌, ◌+◌, ◌-◌, ◌↔◌, ◌<◌, ◌≤◌, ◌^◌, IfOk, IsTrue, length, take};
+ghost use Rattle.std.specs.Prelude.{◌≡◌, ◌+◌, ◌-◌, ◌↔◌, ◌<◌, ◌≤◌, ◌^◌, IfOk, IsTrue, Some, length, take};
 ghost use Rattle.std.specs.List.{AllByRecursion};
+ghost use Rattle.heesch_cert.specs.declared.header.Header.{Header as CatalogueHeader};
 ghost use Rattle.heesch_cert.specs.Limits.{AreLimits};
 ghost use Rattle.heesch_grid.specs.Names.{geometry_of};
 ghost use Rattle.heesch_grammar.specs.Entries.{HoldsItsLines};
@@ -25,6 +26,19 @@ use std::thread::Threads;
 
 /// How many shapes may be given.
 const GIVEN_MAX: u32 = 10_000;
+
+/// The answer where this part is at fault behind so many good entries.
+pub(crate) fn fault_behind(entries: u32, part: Part) -> Checked
+    ensures { (header : CatalogueHeader) → IsAnswerOf header entries (Reading.Fault part) (Some result) }
+{
+    match part {
+        Part::Header => Checked::InvalidHeader,
+        Part::Entry => Checked::InvalidEntry {
+            number: u64::from(entries) + 1,
+        },
+        Part::End => Checked::InvalidEnd,
+    }
+}
 
 /// A catalogue as far as it was judged: its header, the free list where it is of a size, and how many entries were good.
 #[derive(Drop)]
@@ -223,9 +237,7 @@ impl<G: Grid + Send + Sync> Judge<G> {
         match reading {
             Reading::More => None,
             Reading::End => Some(Checked::Valid { count: entries }),
-            Reading::Fault { part: Part::Header } => Some(Checked::InvalidHeader),
-            Reading::Fault { part: Part::Entry } => Some(self.next_is_invalid()),
-            Reading::Fault { part: Part::End } => Some(Checked::InvalidEnd),
+            Reading::Fault { part } => Some(fault_behind(entries, part)),
             Reading::TooLong { line, ending } => Some(self.answer_long(line, ending)),
         }
     }

@@ -16,6 +16,8 @@ const TILES: &str = "tile 0 0 0 class 1 by 0 0 0\ntile 3 0 0 class 1 by 1 0 -1\n
 
 const END: &str = "end 1\n";
 
+const LARGE: &str = "heesch 1 iamond 15 turns 20000 levels 3 domain 4 size 60000000\n";
+
 const GIVEN: &str = "heesch 1 iamond given turns 20000 levels 3 domain 4 size 60000000\n";
 
 /// The answer of a text that comes in pieces of at most 5 bytes.
@@ -95,6 +97,7 @@ fn the_first_invalid_part_is_told(rt: HostRuntime) -> Result<(), Fail> {
             format!(in alloc; "{brief}{SHAPE}{TILES}{END}")?,
             Checked::InvalidHeader,
         ),
+        (format!(in alloc; "{LARGE}xyz\n")?, Checked::InvalidEnd),
         (format!(in alloc; "")?, Checked::InvalidHeader),
     ] {
         assert_eq!(rt; answer_of(&rt, alloc, &text), Ok(answer), "{text}");

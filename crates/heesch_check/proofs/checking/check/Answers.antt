@@ -1,6 +1,7 @@
 use Rattle.std.proofs.Common.{[]}
 use Rattle.heesch_check.proofs.Readings.{no_header_answers, brief_opened, opened}
 use Rattle.heesch_check.proofs.Behind.{begin_on, start_no_further}
+use Rattle.heesch_check.proofs.FirstFault.{faults_first}
 use Rattle.heesch_check.proofs.checking.check.Goals as goal
 
 pub read_first-requires-clause-may : goal.read_first-requires-clause-may
@@ -22,6 +23,21 @@ pub gather-requires : goal.gather-requires
 gather-requires g c =
     let first = g.R.Source.left c.args.source.now in
     record { may = (first, [], c.in_ok-reading.ensures.ok first (c.new-stream.ensures first)) }
+
+pub returns-in-Some-first_fault-clause-ok : goal.returns-in-Some-first_fault-clause-ok
+returns-in-Some-first_fault-clause-ok g c =
+    let first = g.R.Source.left c.args.source.now in
+    let r = c.in_ok-reading-2.ensures.ok in
+    faults_first first (g.R.Source.left c.gather.new.source) c.in-Some.header c.gather.new.items c.gather.new.stream c.in_ok-reading-2.reading c.in-Some-first_fault.answer c.if-header.false
+    (begin_on c.in-Some.header c.read_first.new.items c.gather.new.items r.more r.after_is (rw c.as_slice.ensures at c.in-Some.ensures.some))
+    (r.goes_on first [] (c.in_ok-reading.ensures.ok first (c.new-stream.ensures first))) (rw c.as_slice-2.ensures at c.in-Some-first_fault.ensures)
+
+pub returns-in-Some-first_fault-clause-no_further : goal.returns-in-Some-first_fault-clause-no_further
+returns-in-Some-first_fault-clause-no_further g c =
+    let first = g.R.Source.left c.args.source.now in
+    let h = c.in_ok-reading.ensures.ok first (c.new-stream.ensures first) in
+    start_no_further first (g.R.Source.left c.read_first.new.source) (g.R.Source.left c.gather.new.source) c.in-Some.header c.read_first.new.items c.if-header.false (rw c.as_slice.ensures at c.in-Some.ensures.some)
+    (c.in_ok-reading-2.ensures.no_further first [] h) (c.in_ok-reading.ensures.no_further first (c.new-stream.ensures first))
 
 pub check_named-requires-clause-opened : goal.check_named-requires-clause-opened
 check_named-requires-clause-opened g c κs within =
