@@ -32,7 +32,7 @@ use Rattle.heesch_check.specs.Judging.{AreItemsOf, AreGood, AreJudged, Judges, H
 use Rattle.heesch_check.proofs.Blocks.{IsNext, block_lines}
 use Rattle.heesch_reader.proofs.SameLines.{same_lines}
 use Rattle.heesch_reader.proofs.EntryLines.{body_lines, body_inside, not_brief}
-use Rattle.heesch_check.proofs.Leading.{IsBounded, end_counts, no_second_header}
+use Rattle.heesch_check.proofs.Leading.{IsBounded, up_to, end_counts, no_second_header}
 use Rattle.heesch_check.proofs.Seen.{IsRead, Stand, placed, checked, counted}
 
 -- ---- the next item
@@ -73,7 +73,7 @@ all_left (x ∷ xs) ys h = (h.0, all_left xs ys h.1)
 pub next_item : (input : List ℕ) (header : Header) (front back : List Item) (item : Item) (n : ℕ) (held : List Line) (tail : List ℕ) (reached : Progress) → IsBounded header → header.brief ≡ false
     → (j : AreJudged header front n) → IsRead input (front ++ item ∷ back) held tail reached → (j.ends ≡ []) × Next input header j.es item back held tail reached
 next_item input header front back item n held tail reached bound full j read =
-    let s = placed input header front (item ∷ back) n held tail reached bound full j read in
+    let s = placed input header front (item ∷ back) n held tail reached (up_to header n bound) full j read in
     let none = none_ended input header front back item n held tail reached j s in
     let more : lines_of j.ends ++ (lines_of (item ∷ back) ++ held) ≡ item_lines item ++ (lines_of back ++ held) =
     ap (λ (x : List Item). lines_of x ++ (lines_of (item ∷ back) ++ held)) none ∙ append_assoc (item_lines item) (lines_of back) held in

@@ -39,7 +39,7 @@ use Rattle.heesch_check.specs.Catalogues.{block_of, behind_block, IsGoodEntry, A
 use Rattle.heesch_check.specs.Judging.{AreGood}
 use Rattle.heesch_check.proofs.Answering.{BadBlock, bad_checked, bad_none}
 use Rattle.heesch_check.proofs.Blocks.{IsNext, block_split}
-use Rattle.heesch_check.proofs.Leading.{IsBounded, over_entries}
+use Rattle.heesch_check.proofs.Leading.{IsBounded, IsBoundedTo, up_to, over_entries}
 use Rattle.heesch_check.proofs.OneAnswer.{same_header, along_blocks, begins_entry, short_decided}
 use Rattle.heesch_check.proofs.Seen.{IsRead}
 use Rattle.heesch_check.proofs.Stopping.{few_entries}
@@ -116,13 +116,13 @@ steps_walk brief s t (line ∷ ls) e =
     ap (λ (o : Option Spot). option_and_then (λ q. walk q ls) (option_map (λ u. stages.Behind brief u) o)) b.1 ∙ steps_walk brief b.0 t ls b.2
 
 -- the lines that end in the bytes, and the bytes left
-record Leads (bytes : List ℕ) : Type 0 where
-  ls : List Line
-  left : List ℕ
-  reached : Progress
-  lead : Lead stages.Start ls reached
-  one_line : HasNoNewline left
-  text : bytes ≡ text_of ls ++ left
+pub record Leads (bytes : List ℕ) : Type 0 where
+  pub ls : List Line
+  pub left : List ℕ
+  pub reached : Progress
+  pub lead : Lead stages.Start ls reached
+  pub one_line : HasNoNewline left
+  pub text : bytes ≡ text_of ls ++ left
 
 begun_steps : (s t : Spot) (n : ℕ) (held : List Line) → BeginEntry held → is_whole s.place ≡ true → s.shapes ≡ n → steps false (record { shapes = n; place = places.Between }) held ≡ Some t → (u : Spot) × (steps false s held ≡ Some u)
 begun_steps s t n [] b whole shapes e = (s, refl)
@@ -130,9 +130,9 @@ begun_steps s t n (lines.Shape cells ∷ held) b whole shapes e =
     (t, steps_between false s (lines.Shape cells) held whole tt ∙ subst (λ (x : ℕ). steps false (record { shapes = x; place = places.Between }) (lines.Shape cells ∷ held) ≡ Some t) (sym shapes) e)
 begun_steps s t n (line ∷ held) b whole shapes e = absurd b.0
 
-leads_by : (bytes : List ℕ) (header : Header) (es : List Entry) (rest left : List ℕ) (ms : List Line) (u : Spot) → IsBounded header → AreChecked bytes header es rest → rest ≡ text_of ms ++ left → AllByRecursion IsLine ms → HasNoNewline left
+leads_by : (bytes : List ℕ) (header : Header) (es : List Entry) (rest left : List ℕ) (ms : List Line) (u : Spot) → AreChecked bytes header es rest → rest ≡ text_of ms ++ left → AllByRecursion IsLine ms → HasNoNewline left
     → (s : Spot) → steps false start (flat_map entry_lines es) ≡ Some s → steps false s ms ≡ Some u → Leads bytes
-leads_by bytes header es rest left ms u bound c split forms one_line s through goes =
+leads_by bytes header es rest left ms u c split forms one_line s through goes =
     let all = flat_map entry_lines es ++ ms in
     let walked : walk (stages.Behind false start) all ≡ Some (stages.Behind false u) = steps_walk false start u all (steps_through false start s (flat_map entry_lines es) ms through ∙ goes) in
     record {
@@ -152,17 +152,17 @@ leads_by bytes header es rest left ms u bound c split forms one_line s through g
 end_goes : (s : Spot) (n : ℕ) → is_whole s.place ≡ true → s.shapes ≡ n → steps false s (lines.End n ∷ []) ≡ Some (record { shapes = s.shapes; place = places.Ended })
 end_goes s n whole shapes = rw (whole, eq-eqb n s.shapes (sym shapes)) refl
 
-open_leads : (bytes : List ℕ) → (o : IsOpen bytes) → IsBounded o.header → Leads bytes
+pub open_leads : (bytes : List ℕ) → (o : IsOpen bytes) → IsBoundedTo o.header (length o.es) → Leads bytes
 open_leads bytes o bound =
     let c = o.checked in
-    let a = over_entries o.header 0 o.es start bound (blocks_good o.header 0 c.body o.es o.rest c.blocks) refl refl in
+    let a = over_entries o.header 0 (length o.es) o.es start bound (omega arith) (blocks_good o.header 0 c.body o.es o.rest c.blocks) refl refl in
     let shapes : a.spot.shapes ≡ length o.es = a.shapes ∙ omega arith in
     elim o.goes_on [
       | inl g ↦
           let n = begun_steps a.spot g.reached (length o.es) g.held g.one_entry a.whole shapes g.may_stand in
-          leads_by bytes o.header o.es o.rest g.left g.held n.0 bound c g.text g.forms g.one_line a.spot a.reached n.1
+          leads_by bytes o.header o.es o.rest g.left g.held n.0 c g.text g.forms g.one_line a.spot a.reached n.1
       | inr g ↦
-          leads_by bytes o.header o.es o.rest g.left (lines.End (length o.es) ∷ []) _ bound c (g.text ∙ ap (λ (x : List ℕ). x ++ g.left) (sym (append-nil (end_text (length o.es)))))
+          leads_by bytes o.header o.es o.rest g.left (lines.End (length o.es) ∷ []) _ c (g.text ∙ ap (λ (x : List ℕ). x ++ g.left) (sym (append-nil (end_text (length o.es)))))
           (few_entries o.header o.es bound (blocks_good o.header 0 c.body o.es o.rest c.blocks), tt) g.one_line a.spot a.reached (end_goes a.spot (length o.es) a.whole shapes)
     ]
 
@@ -179,16 +179,20 @@ one_header input header body line h t =
     } in
     (same_header input (t.goes_on.checked.body ++ t.byte ∷ t.behind) body t.goes_on.header header whole h).0
 
--- a line at fault among the bytes that are read decides
-pub refused_decided : (input : List ℕ) (header : Header) (body : List ℕ) → IsBounded header → IsHeaded input header body → (length input ≤ 1099511627776) ⊎ RefusedIn input → IsDecided input
-refused_decided input header body bound h (inl few) = short_decided input few
-refused_decided input header body bound h (inr r) = λ line t.
+-- a line at fault among the bytes that are read doesn't stand where all their lines lead
+pub refused_leads : (input : List ℕ) (line : ℕ) → RefusedIn input → (t : IsTooLong input line) → Leads t.front → ⊥
+refused_leads input line r t l =
     let more = reads_on input line r.front r.behind t r.split r.few in
-    let l = open_leads t.front t.goes_on (subst IsBounded (sym (one_header input header body line h t)) bound) in
     let f = r.fault in
     no_fault stages.Start l.reached r.reached l.ls r.ls l.left (r.left ++ more.0) r.part l.lead l.one_line r.lead
     (record { words = f.words; back = f.back ++ more.0; split = ap (λ (x : List ℕ). x ++ more.0) f.split ∙ append_assoc f.words (10 ∷ f.back) more.0; one_line = f.one_line; may_not = f.may_not; part_is = f.part_is })
     (sym l.text ∙ more.1 ∙ ap (λ (x : List ℕ). x ++ more.0) r.text ∙ append_assoc (text_of r.ls) r.left more.0)
+
+-- a line at fault among the bytes that are read decides
+pub refused_decided : (input : List ℕ) (header : Header) (body : List ℕ) → IsBounded header → IsHeaded input header body → (length input ≤ 1099511627776) ⊎ RefusedIn input → IsDecided input
+refused_decided input header body bound h (inl few) = short_decided input few
+refused_decided input header body bound h (inr r) = λ line t.
+    refused_leads input line r t (open_leads t.front t.goes_on (up_to t.goes_on.header (length t.goes_on.es) (subst IsBounded (sym (one_header input header body line h t)) bound)))
 
 -- ---- a block at fault
 

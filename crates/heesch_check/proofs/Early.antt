@@ -35,7 +35,7 @@ use Rattle.heesch_check.specs.Catalogues.{block_of, IsGoodEntry, AreAll}
 use Rattle.heesch_check.specs.Judging.{AreJudged, Judges}
 use Rattle.heesch_check.proofs.Answering.{BadBlock, bad_none, invalid_block, entry_bad, brief_bad, holds_at, next_item}
 use Rattle.heesch_check.proofs.Deciding.{RefusedIn, refused_decided, same_rest, block_decides, end_decides}
-use Rattle.heesch_check.proofs.Leading.{IsBounded, no_second_header}
+use Rattle.heesch_check.proofs.Leading.{IsBounded, up_to, no_second_header}
 use Rattle.heesch_check.proofs.OneAnswer.{begins_entry}
 use Rattle.heesch_check.proofs.Seen.{IsRead, checked}
 use Rattle.heesch_check.proofs.Stopping.{Held, behind_all, held_at, same_place}
@@ -53,7 +53,7 @@ comes input answers.InvalidEnd d = d
 pub fault_decided : (input : List ℕ) (header : Header) (all : List Item) (n : ℕ) (held : List Line) (tail : List ℕ) (reached : Progress) → IsBounded header → header.brief ≡ false
     → AreJudged header all n → IsRead input all held tail reached → (length input ≤ 1099511627776) ⊎ RefusedIn input → IsDecided input
 fault_decided input header all n held tail reached bound full j read r =
-    let s = behind_all input header all n held tail reached bound full j read in
+    let s = behind_all input header all n held tail reached (up_to header n bound) full j read in
     refused_decided input header _ bound (record { text = s.text; form = s.form; full = full }) r
 
 -- ---- an item at fault
@@ -185,7 +185,7 @@ none_ended header all n j bad = elim j.ends_all [
 -- behind the judged items
 held_here : (bytes : List ℕ) (header : Header) (all : List Item) (n : ℕ) (held : List Line) (tail : List ℕ) (reached : Progress) → IsBounded header → header.brief ≡ false → (j : AreJudged header all n) → j.ends ≡ [] → IsRead bytes all held tail reached
     → Held bytes header j.es held tail reached
-held_here bytes header all n held tail reached bound full j none read = held_at bytes header all n held tail reached j none read (behind_all bytes header all n held tail reached bound full j read)
+held_here bytes header all n held tail reached bound full j none read = held_at bytes header all n held tail reached j none read (behind_all bytes header all n held tail reached (up_to header n bound) full j read)
 
 -- what is read ends in a last line that comes too early, so what is read isn't open
 early_open : (front : List ℕ) (header : Header) (all : List Item) (n : ℕ) (held : List Line) (left : List ℕ) (reached : Progress) → IsBounded header → header.brief ≡ false → (j : AreJudged header all n) → j.ends ≡ [] → IsRead front all held left reached

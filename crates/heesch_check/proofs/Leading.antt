@@ -1,5 +1,5 @@
 -- Where the lines of good entries lead, and which lines may not stand behind others.
-use Rattle.std.proofs.Common.{◌≡◌, ℕ, zero, suc, ◌+◌, ◌<◌, ◌&&◌, ◌==◌, true, false, List, [], ◌∷◌, ◌++◌, length, Option, Some, None, refl, sym, ap, subst, ◌∙◌, arith}
+use Rattle.std.proofs.Common.{◌≡◌, ℕ, zero, suc, ◌+◌, ◌<◌, ◌≤◌, ◌&&◌, ◌==◌, true, false, List, [], ◌∷◌, ◌++◌, length, Option, Some, None, refl, sym, ap, subst, ◌∙◌, arith}
 use Rattle.std.specs.List.{flat_map}
 use Rattle.std.specs.Prelude.{slice_get}
 use Rattle.std.proofs.lemmas.Bool.{and_parts, eqb-true}
@@ -30,6 +30,17 @@ use Rattle.heesch_check.specs.Judging.{HasShapes, AreGood}
 pub record IsBounded (header : Header) : Type 0 where
   pub below : (before : ℕ) (cells : List Cell) → IsInPlace (geometry_of header.grid) header.subject before cells → before < 4294967295
 
+-- an entry that is in its place with so many before it, or fewer, has fewer than this many before it
+pub record IsBoundedTo (header : Header) (most : ℕ) : Type 0 where
+  pub below : (before : ℕ) (cells : List Cell) → before ≤ most → IsInPlace (geometry_of header.grid) header.subject before cells → before < 4294967295
+
+pub up_to : (header : Header) (most : ℕ) → IsBounded header → IsBoundedTo header most
+up_to header most bound = record { below = λ before cells low place. bound.below before cells place }
+
+-- so it is of the first entry, whatever the list
+pub up_to_none : (header : Header) → IsBoundedTo header 0
+up_to_none header = record { below = λ before cells low place. omega (arith, low) }
+
 there : (xs : List (List Cell)) (i : ℕ) (x : List Cell) → slice_get xs i ≡ Some x → i < length xs
 there [] i x e = absurd cc
 there (y ∷ xs) zero x e = omega arith
@@ -57,13 +68,13 @@ pub record Arrives (s : Spot) (ls : List Line) (entries : ℕ) : Type 0 where
   pub whole : is_whole spot.place ≡ true
   pub shapes : spot.shapes ≡ entries
 
-pub over_entries : (header : Header) (before : ℕ) (es : List Entry) (s : Spot) → IsBounded header → AreGood header before es → is_whole s.place ≡ true → s.shapes ≡ before → Arrives s (flat_map entry_lines es) (before + length es)
-over_entries header before [] s bound good whole here = record { spot = s; reached = refl; whole = whole; shapes = omega (arith, here) }
-over_entries header before (e ∷ es) s bound good whole here =
-    let low = bound.below before e.cells good.0.in_place in
+pub over_entries : (header : Header) (before most : ℕ) (es : List Entry) (s : Spot) → IsBoundedTo header most → before + length es ≤ most + 1 → AreGood header before es → is_whole s.place ≡ true → s.shapes ≡ before → Arrives s (flat_map entry_lines es) (before + length es)
+over_entries header before most [] s bound few good whole here = record { spot = s; reached = refl; whole = whole; shapes = omega (arith, here) }
+over_entries header before most (e ∷ es) s bound few good whole here =
+    let low = bound.below before e.cells (omega (arith, few)) good.0.in_place in
     let m = (may_stand (geometry_of header.grid) header.limits e good.0.is_true).full s whole (omega (arith, low, here)) in
     let more : m.behind.shapes ≡ before + 1 = omega (arith, m.one_more, here) in
-    let r = over_entries header (before + 1) es m.behind bound good.1 m.whole more in
+    let r = over_entries header (before + 1) most es m.behind bound (omega (arith, few)) good.1 m.whole more in
     record {
       spot = r.spot;
       reached = steps_through false s m.behind (entry_lines e) (flat_map entry_lines es) m.reached ∙ r.reached;

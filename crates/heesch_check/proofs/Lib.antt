@@ -1,9 +1,11 @@
 pub mod Answering
+pub mod Audits
 pub mod Batches
 pub mod Behind
 pub mod Blocks
 pub mod Deciding
 pub mod Early
+pub mod FirstFault
 pub mod Headers
 pub mod Leading
 pub mod Near

@@ -32,7 +32,7 @@ use Rattle.heesch_check.specs.Answers.{HasNoHeader, IsTooLong, IsDecided, IsChec
 use Rattle.heesch_check.specs.Catalogues.{AreAll}
 use Rattle.heesch_check.specs.Judging.{IsFit, HoldsLines, AreJudged}
 use Rattle.heesch_check.specs.Reading.{AnswersLong, IsAnswerOf, IsReading, BeginWith, IsOpened}
-use Rattle.heesch_check.proofs.Leading.{IsBounded}
+use Rattle.heesch_check.proofs.Leading.{IsBounded, IsBoundedTo, up_to}
 use Rattle.heesch_check.proofs.Seen.{IsRead}
 use Rattle.heesch_check.proofs.Stopping.{StopsAt, refused, fallen, stops_in_entry, stops_at_end, stops_behind_header, ends_valid, goes_on_open}
 use Rattle.heesch_check.proofs.Deciding.{Fronted, RefusedIn, stands_read, shown_on}
@@ -92,51 +92,49 @@ pub record FaultRead (first : Option (List ℕ)) (all : List Item) (part : Part)
   pub behind_end : (with_items none_appended all).ended ≡ true → as_read.tail ≢ []
   pub refusal : (length as_read.input ≤ 1099511627776) ⊎ RefusedIn as_read.input
 
-some_left : (words more : List ℕ) → words ++ 10 ∷ more ≡ [] → ⊥
+pub some_left : (words more : List ℕ) → words ++ 10 ∷ more ≡ [] → ⊥
 some_left [] more e = absurd cc
 some_left (b ∷ words) more e = absurd cc
 
-refusal_read : (first : Option (List ℕ)) (front behind : List ℕ) (all : List Item) (line : ℕ) (part : Part) → IsAllOf first (front ++ behind) → length front ≤ 1099511627776 → Refuses none_appended [] all front line part → FaultRead first all part
-refusal_read first front behind all line part all_of few r =
-    subst (λ (x : List Item). FaultRead first x part) (sym r.after_is) (record {
-      as_read = record {
-        input = front ++ behind;
-        all_of = all_of;
-        held = r.held;
-        tail = r.left ++ behind;
-        reached = r.reached;
-        read = stands_read front behind r.found r.held r.left r.reached r.stands (shown_on r.found r.held r.left behind r.shown);
-        within = inr (record { front = front; behind = behind; held = r.held; left = r.left; reached = r.reached; split = refl; few = few; stands = r.stands; shown = r.shown });
-      };
-      stops = refused r.held r.left behind r.reached part r.fault r.prompt;
-      behind_end = λ ended none. some_left r.fault.words (r.fault.back ++ behind) (sym (ap (λ (x : List ℕ). x ++ behind) r.fault.split ∙ append_assoc r.fault.words (10 ∷ r.fault.back) behind) ∙ none);
-      refusal = inr (record { front = front; behind = behind; ls = lines_of r.found ++ r.held; left = r.left; reached = r.reached; part = part; split = refl; few = few; text = r.stands.text; lead = r.stands.lead; fault = r.fault });
-    })
+unfoldable pub refusal_read : (first : Option (List ℕ)) (front behind : List ℕ) (all : List Item) (line : ℕ) (part : Part) → IsAllOf first (front ++ behind) → length front ≤ 1099511627776 → (r : Refuses none_appended [] all front line part) → FaultRead first r.found part
+refusal_read first front behind all line part all_of few r = record {
+  as_read = record {
+    input = front ++ behind;
+    all_of = all_of;
+    held = r.held;
+    tail = r.left ++ behind;
+    reached = r.reached;
+    read = stands_read front behind r.found r.held r.left r.reached r.stands (shown_on r.found r.held r.left behind r.shown);
+    within = inr (record { front = front; behind = behind; held = r.held; left = r.left; reached = r.reached; split = refl; few = few; stands = r.stands; shown = r.shown });
+  };
+  stops = refused r.held r.left behind r.reached part r.fault r.prompt;
+  behind_end = λ ended none. some_left r.fault.words (r.fault.back ++ behind) (sym (ap (λ (x : List ℕ). x ++ behind) r.fault.split ∙ append_assoc r.fault.words (10 ∷ r.fault.back) behind) ∙ none);
+  refusal = inr (record { front = front; behind = behind; ls = lines_of r.found ++ r.held; left = r.left; reached = r.reached; part = part; split = refl; few = few; text = r.stands.text; lead = r.stands.lead; fault = r.fault });
+}
 
-fall_read : (first : Option (List ℕ)) (input : List ℕ) (all : List Item) (line : ℕ) (part : Part) → IsAllOf first input → length input ≤ 1099511627776 → FallsShort none_appended [] all input line part → FaultRead first all part
-fall_read first input all line part all_of few f =
-    subst (λ (x : List Item). FaultRead first x part) (sym f.after_is) (record {
-      as_read = record {
-        input = input;
-        all_of = all_of;
-        held = f.held;
-        tail = f.left;
-        reached = f.reached;
-        read = record { text = f.stands.text; lead = f.stands.lead; numbered = f.stands.numbered; one_entry = f.stands.one_entry; shown = f.shown };
-        within = inl few;
-      };
-      stops = fallen f.held f.left f.reached part f.one_line f.prompt f.part_is;
-      behind_end = λ ended none. elim f.short [
-        | inl some ↦ some none
-        | inr going ↦ false≢true (sym going ∙ ended)
-      ];
-      refusal = inl few;
-    })
+unfoldable pub fall_read : (first : Option (List ℕ)) (input : List ℕ) (all : List Item) (line : ℕ) (part : Part) → IsAllOf first input → length input ≤ 1099511627776 → (f : FallsShort none_appended [] all input line part) → FaultRead first f.found part
+fall_read first input all line part all_of few f = record {
+  as_read = record {
+    input = input;
+    all_of = all_of;
+    held = f.held;
+    tail = f.left;
+    reached = f.reached;
+    read = record { text = f.stands.text; lead = f.stands.lead; numbered = f.stands.numbered; one_entry = f.stands.one_entry; shown = f.shown };
+    within = inl few;
+  };
+  stops = fallen f.held f.left f.reached part f.one_line f.prompt f.part_is;
+  behind_end = λ ended none. elim f.short [
+    | inl some ↦ some none
+    | inr going ↦ false≢true (sym going ∙ ended)
+  ];
+  refusal = inl few;
+}
 
 fault_read : (first : Option (List ℕ)) (all : List Item) (line : ℕ) (part : Part) → HasFault first all line part → FaultRead first all part
 fault_read first all line part h = elim h.fault [
-  | inl r ↦ refusal_read first h.front h.behind all line part (subst (IsAllOf first) h.split h.all_of) h.few r
-  | inr f ↦ fall_read first h.front all line part (subst (IsAllOf first) (h.split ∙ ap (λ (x : List ℕ). h.front ++ x) f.1 ∙ append-nil h.front) h.all_of) h.few f.0
+  | inl r ↦ subst (λ (x : List Item). FaultRead first x part) (sym r.after_is) (refusal_read first h.front h.behind all line part (subst (IsAllOf first) h.split h.all_of) h.few r)
+  | inr f ↦ subst (λ (x : List Item). FaultRead first x part) (sym f.0.after_is) (fall_read first h.front all line part (subst (IsAllOf first) (h.split ∙ ap (λ (x : List ℕ). h.front ++ x) f.1 ∙ append-nil h.front) h.all_of) h.few f.0)
 ]
 
 long_read : (first : Option (List ℕ)) (all : List Item) (line : ℕ) → HasTooMany first all line → AsRead first all
@@ -191,21 +189,18 @@ batch_fits first now found batch s reading h =
 abbrev pub Answers : Option (List ℕ) → Checked → Type 0
 Answers first c = (input : List ℕ) × IsAllOf first input × IsChecked input c
 
-fault_answers : (first : Option (List ℕ)) (header : Header) (all : List Item) (n : ℕ) (part : Part) (answer : Checked) → IsBounded header → header.brief ≡ false → AreJudged header all n → FaultRead first all part
-    → IsAnswerOf header n (readings.Fault part) (Some answer) → Answers first answer
-fault_answers first header all n part answer bound full j f e = by_part part f e
+pub fault_answers : (first : Option (List ℕ)) (header : Header) (all : List Item) (n : ℕ) (part : Part) (answer : Checked) → IsBoundedTo header n → header.brief ≡ false → AreJudged header all n → (f : FaultRead first all part)
+    → IsDecided f.as_read.input → IsAnswerOf header n (readings.Fault part) (Some answer) → Answers first answer
+fault_answers first header all n part answer bound full j f decided e = by_part part f decided e
   where
-    decided : (part : Part) → (f : FaultRead first all part) → IsDecided f.as_read.input
-    decided part f = fault_decided f.as_read.input header all n f.as_read.held f.as_read.tail f.as_read.reached bound full j f.as_read.read f.refusal
-
-    by_part : (part : Part) → (f : FaultRead first all part) → IsAnswerOf header n (readings.Fault part) (Some answer) → Answers first answer
-    by_part parts.Header f e = absurd (stops_behind_header f.as_read.input header all n f.as_read.held f.as_read.tail f.as_read.reached bound full j f.as_read.read f.stops)
-    by_part parts.Entry f e =
+    by_part : (part : Part) → (f : FaultRead first all part) → IsDecided f.as_read.input → IsAnswerOf header n (readings.Fault part) (Some answer) → Answers first answer
+    by_part parts.Header f decided e = absurd (stops_behind_header f.as_read.input header all n f.as_read.held f.as_read.tail f.as_read.reached bound full j f.as_read.read f.stops)
+    by_part parts.Entry f decided e =
         let is : answers.InvalidEntry (n + 1) ≡ answer = cc in
-        (f.as_read.input, f.as_read.all_of, subst (IsChecked f.as_read.input) is (stops_in_entry f.as_read.input header all n f.as_read.held f.as_read.tail f.as_read.reached bound full j f.as_read.read f.stops, decided parts.Entry f))
-    by_part parts.End f e =
+        (f.as_read.input, f.as_read.all_of, subst (IsChecked f.as_read.input) is (stops_in_entry f.as_read.input header all n f.as_read.held f.as_read.tail f.as_read.reached bound full j f.as_read.read f.stops, decided))
+    by_part parts.End f decided e =
         let is : answers.InvalidEnd ≡ answer = cc in
-        (f.as_read.input, f.as_read.all_of, subst (IsChecked f.as_read.input) is (stops_at_end f.as_read.input header all n f.as_read.held f.as_read.tail f.as_read.reached bound full j f.as_read.read f.stops f.behind_end, decided parts.End f))
+        (f.as_read.input, f.as_read.all_of, subst (IsChecked f.as_read.input) is (stops_at_end f.as_read.input header all n f.as_read.held f.as_read.tail f.as_read.reached bound full j f.as_read.read f.stops f.behind_end, decided))
 
 begins_alone : (front : List ℕ) (all : List Item) → (b : Begins front all) → IsRead front all b.held b.left b.reached
 begins_alone front all b = record {
@@ -232,7 +227,7 @@ long_answers first header all n line at_hand told bound full j h is a = (h.input
       text = h.split;
       length_is = h.most;
       line_is = h.line_is;
-      goes_on = goes_on_open h.front header all n h.begins.held h.begins.left h.begins.reached bound full j read h.begins.one_line h.begins.prompt in_time;
+      goes_on = goes_on_open h.front header all n h.begins.held h.begins.left h.begins.reached (up_to header n bound) full j read h.begins.one_line h.begins.prompt in_time;
     }
 
     by_hand : (at_hand : AtHand) → at_hand ≡ ending_of h.begins.held h.begins.left → AnswersLong header n line at_hand told → IsChecked h.input told
@@ -252,8 +247,10 @@ pub reading_answers : (first now : Option (List ℕ)) (header : Header) (all : L
 reading_answers first now header all n s readings.More answer bound full j h e = absurd cc
 reading_answers first now header all n s readings.End answer bound full j h e =
     let is : answers.Valid n ≡ answer = cc in
-    (h.input, h.all_of, subst (IsChecked h.input) is (ends_valid h.input header all n h.catalogue.reached bound full j (catalogue_read h.input all h.catalogue) h.catalogue.ended, short_decided h.input h.few))
-reading_answers first now header all n s (readings.Fault part) answer bound full j h e = fault_answers first header all n part answer bound full j (fault_read first all h.0 part h.1) e
+    (h.input, h.all_of, subst (IsChecked h.input) is (ends_valid h.input header all n h.catalogue.reached (up_to header n bound) full j (catalogue_read h.input all h.catalogue) h.catalogue.ended, short_decided h.input h.few))
+reading_answers first now header all n s (readings.Fault part) answer bound full j h e =
+    let f = fault_read first all h.0 part h.1 in
+    fault_answers first header all n part answer (up_to header n bound) full j f (fault_decided f.as_read.input header all n f.as_read.held f.as_read.tail f.as_read.reached bound full j f.as_read.read f.refusal) e
 reading_answers first now header all n s (readings.TooLong line at_hand) answer bound full j h e =
     let is : e.0 ≡ answer = cc in
     subst (Answers first) is (long_answers first header all n line at_hand e.0 bound full j h.0 h.1 e.2)

@@ -26,7 +26,7 @@ use Rattle.heesch_check.specs.Catalogues.{block_of, behind_block, AreBlocks, Are
 use Rattle.heesch_check.specs.Judging.{AreItemsOf, AreGood, AreJudged}
 use Rattle.heesch_check.proofs.Blocks.{IsNext, block_lines}
 use Rattle.heesch_reader.proofs.EntryLines.{body_lines, body_inside}
-use Rattle.heesch_check.proofs.Leading.{IsBounded, over_entries}
+use Rattle.heesch_check.proofs.Leading.{IsBoundedTo, over_entries}
 
 -- ---- what was read
 
@@ -105,12 +105,12 @@ regroup header xs ys tail =
     append_assoc (header_text header) (text_of (xs ++ ys)) tail
     ∙ ap (λ (x : List ℕ). header_text header ++ x) (ap (λ (x : List ℕ). x ++ tail) (flat_map-append line_text xs ys) ∙ append_assoc (text_of xs) (text_of ys) tail)
 
-stand : (input : List ℕ) (header : Header) (es : List Entry) (more : List Line) (tail : List ℕ) (reached : Progress) → IsBounded header → header.brief ≡ false → AreGood header 0 es
+stand : (input : List ℕ) (header : Header) (es : List Entry) (more : List Line) (tail : List ℕ) (reached : Progress) → IsBoundedTo header (length es) → header.brief ≡ false → AreGood header 0 es
     → input ≡ text_of (lines.Header header ∷ (flat_map entry_lines es ++ more)) ++ tail → Lead stages.Start (lines.Header header ∷ (flat_map entry_lines es ++ more)) reached
     → Stand input header es more tail reached
 stand input header es more tail reached bound full good text lead =
     let w = walk_behind false start (flat_map entry_lines es ++ more) reached (subst (λ (b : Bool). walk (stages.Behind b start) (flat_map entry_lines es ++ more) ≡ Some reached) full lead.reached) in
-    let r = over_entries header 0 es start bound good refl refl in
+    let r = over_entries header 0 (length es) es start bound (omega arith) good refl refl in
     record {
       text = text ∙ regroup header (flat_map entry_lines es) more tail;
       form = lead.forms.0;
@@ -124,11 +124,11 @@ stand input header es more tail reached bound full good text lead =
     }
 
 -- the place behind judged items
-pub placed : (input : List ℕ) (header : Header) (front rest : List Item) (n : ℕ) (held : List Line) (tail : List ℕ) (reached : Progress) → IsBounded header → header.brief ≡ false
+pub placed : (input : List ℕ) (header : Header) (front rest : List Item) (n : ℕ) (held : List Line) (tail : List ℕ) (reached : Progress) → IsBoundedTo header n → header.brief ≡ false
     → (j : AreJudged header front n) → IsRead input (front ++ rest) held tail reached → Stand input header j.es (lines_of j.ends ++ (lines_of rest ++ held)) tail reached
 placed input header front rest n held tail reached bound full j read =
     let e = judged_lines header front n j rest held in
-    stand input header j.es (lines_of j.ends ++ (lines_of rest ++ held)) tail reached bound full j.good
+    stand input header j.es (lines_of j.ends ++ (lines_of rest ++ held)) tail reached (subst (IsBoundedTo header) j.count bound) full j.good
     (read.text ∙ ap (λ (x : List Line). text_of x ++ tail) e)
     (subst (λ (x : List Line). Lead stages.Start x reached) e read.lead)
 

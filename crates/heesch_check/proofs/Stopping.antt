@@ -40,7 +40,7 @@ use Rattle.heesch_check.proofs.Blocks.{IsNext, block_split, block_next}
 use Rattle.heesch_reader.proofs.FirstWords.{begins_shape_cut, begins_end_cut, begins_next_cut, inside_begins}
 use Rattle.heesch_reader.proofs.SameLines.{line_front, along, one_first_line, no_first_line}
 use Rattle.heesch_reader.proofs.EntryLines.{body_lines}
-use Rattle.heesch_check.proofs.Leading.{IsBounded, end_counts}
+use Rattle.heesch_check.proofs.Leading.{IsBoundedTo, end_counts}
 use Rattle.heesch_check.proofs.Seen.{IsRead, Stand, placed, checked, counted, shown_behind}
 
 -- ---- where reading stops
@@ -217,13 +217,13 @@ inside_right [] ys h = h
 inside_right (x ∷ xs) ys h = inside_right xs ys h.1
 
 -- no good entry has the block that begins with the lines held and the tail
-no_good : (input : List ℕ) (header : Header) (es : List Entry) (held : List Line) (tail : List ℕ) (reached : Progress) (part : Part) → IsBounded header → Held input header es held tail reached → StopsAt held tail reached part
+pub no_good : (input : List ℕ) (header : Header) (es : List Entry) (held : List Line) (tail : List ℕ) (reached : Progress) (part : Part) → IsBoundedTo header (length es) → Held input header es held tail reached → StopsAt held tail reached part
     → (e : Entry) → IsGoodEntry header (length es) e → block_of (text_of held ++ tail) ≡ entry_text e → ⊥
 no_good input header es held tail reached part bound h stop e good same =
     let rest = text_of held ++ tail in
     let behind = behind_block rest in
     let bytes : rest ≡ text_of (entry_lines e) ++ behind = block_split rest ∙ ap (λ (x : List ℕ). x ++ behind) same in
-    let low = bound.below (length es) e.cells good.in_place in
+    let low = bound.below (length es) e.cells (omega arith) good.in_place in
     let shapes = h.stand.shapes in
     let m = (may_stand (geometry_of header.grid) header.limits e good.is_true).full h.stand.spot h.stand.whole (omega (arith, low, shapes)) in
     elim (along held (entry_lines e) tail behind h.stand.forms good.forms bytes) [
@@ -286,7 +286,7 @@ begun input header es held tail reached h stop none =
           ]
     ]
 
-entry_invalid : (input : List ℕ) (header : Header) (es : List Entry) (held : List Line) (tail : List ℕ) (reached : Progress) → IsBounded header → header.brief ≡ false → Held input header es held tail reached
+entry_invalid : (input : List ℕ) (header : Header) (es : List Entry) (held : List Line) (tail : List ℕ) (reached : Progress) → IsBoundedTo header (length es) → header.brief ≡ false → Held input header es held tail reached
     → StopsAt held tail reached parts.Entry → IsInvalidEntry input (length es + 1)
 entry_invalid input header es held tail reached bound full h stop = record {
   header = header;
@@ -318,15 +318,15 @@ nothing_held input header es held tail reached h stop = elim (nothing_or held) [
     or_right true b e = refl
     or_right false b e = e
 
-few : (header : Header) (before : ℕ) (es : List Entry) → IsBounded header → AreGood header before es → es ≢ [] → before + length es ≤ 4294967295
-few header before [] bound good some = absurd (some refl)
-few header before (e ∷ []) bound good some = let low = bound.below before e.cells good.0.in_place in omega (arith, low)
-few header before (e ∷ second ∷ es) bound good some = let h = few header (before + 1) (second ∷ es) bound good.1 (λ x. cc) in omega (arith, h)
+few : (header : Header) (before most : ℕ) (es : List Entry) → IsBoundedTo header most → before + length es ≤ most + 1 → AreGood header before es → es ≢ [] → before + length es ≤ 4294967295
+few header before most [] bound within good some = absurd (some refl)
+few header before most (e ∷ []) bound within good some = let low = bound.below before e.cells (omega (arith, within)) good.0.in_place in omega (arith, low)
+few header before most (e ∷ second ∷ es) bound within good some = let h = few header (before + 1) most (second ∷ es) bound (omega (arith, within)) good.1 (λ x. cc) in omega (arith, h)
 
-pub few_entries : (header : Header) (es : List Entry) → IsBounded header → AreGood header 0 es → length es < 2 ^ 32
+pub few_entries : (header : Header) (es : List Entry) → IsBoundedTo header (length es) → AreGood header 0 es → length es < 2 ^ 32
 few_entries header es bound good = elim (no_entries es) [
   | inl none ↦ let zero : length es ≡ 0 = ap length none in omega (arith, zero)
-  | inr some ↦ let h = few header 0 es bound good some in omega (arith, h)
+  | inr some ↦ let h = few header 0 (length es) es bound (omega arith) good some in omega (arith, h)
 ]
 
 pub end_stands : (s : Spot) (n : ℕ) → is_whole s.place ≡ true → s.shapes ≡ n → next (stages.Behind false s) (lines.End n) ≡ None → ⊥
@@ -337,7 +337,7 @@ end_stands s n whole shapes e =
     let bad : Some (stages.Behind false (record { shapes = s.shapes; place = places.Ended })) ≡ None = sym some ∙ e in
     absurd cc
 
-end_invalid : (input : List ℕ) (header : Header) (es : List Entry) (held : List Line) (tail : List ℕ) (reached : Progress) → IsBounded header → header.brief ≡ false → Held input header es held tail reached
+end_invalid : (input : List ℕ) (header : Header) (es : List Entry) (held : List Line) (tail : List ℕ) (reached : Progress) → IsBoundedTo header (length es) → header.brief ≡ false → Held input header es held tail reached
     → StopsAt held tail reached parts.End → IsInvalidEnd input
 end_invalid input header es held tail reached bound full h stop =
     let none = nothing_held input header es held tail reached h stop in
@@ -405,7 +405,7 @@ ended_invalid input header es held tail reached full good e some = record {
 all_read : (input : List ℕ) (all : List Item) (held : List Line) (tail : List ℕ) (reached : Progress) → IsRead input all held tail reached → IsRead input (all ++ []) held tail reached
 all_read input all held tail reached read = subst (λ (x : List Item). IsRead input x held tail reached) (sym (append-nil all)) read
 
-pub behind_all : (input : List ℕ) (header : Header) (all : List Item) (n : ℕ) (held : List Line) (tail : List ℕ) (reached : Progress) → IsBounded header → header.brief ≡ false
+pub behind_all : (input : List ℕ) (header : Header) (all : List Item) (n : ℕ) (held : List Line) (tail : List ℕ) (reached : Progress) → IsBoundedTo header n → header.brief ≡ false
     → (j : AreJudged header all n) → IsRead input all held tail reached → Stand input header j.es (lines_of j.ends ++ held) tail reached
 behind_all input header all n held tail reached bound full j read = placed input header all [] n held tail reached bound full j (all_read input all held tail reached read)
 
@@ -419,12 +419,12 @@ held_at input header all n held tail reached j none read s = record {
 }
 
 -- an entry is at fault where reading stops
-pub stops_in_entry : (input : List ℕ) (header : Header) (all : List Item) (n : ℕ) (held : List Line) (tail : List ℕ) (reached : Progress) → IsBounded header → header.brief ≡ false
+pub stops_in_entry : (input : List ℕ) (header : Header) (all : List Item) (n : ℕ) (held : List Line) (tail : List ℕ) (reached : Progress) → IsBoundedTo header n → header.brief ≡ false
     → AreJudged header all n → IsRead input all held tail reached → StopsAt held tail reached parts.Entry → IsInvalidEntry input (n + 1)
 stops_in_entry input header all n held tail reached bound full j read stop =
     let s = behind_all input header all n held tail reached bound full j read in
     elim j.ends_all [
-      | inl none ↦ subst (λ (x : ℕ). IsInvalidEntry input (x + 1)) (sym j.count) (entry_invalid input header j.es held tail reached bound full (held_at input header all n held tail reached j none read s) stop)
+      | inl none ↦ subst (λ (x : ℕ). IsInvalidEntry input (x + 1)) (sym j.count) (entry_invalid input header j.es held tail reached (subst (IsBoundedTo header) j.count bound) full (held_at input header all n held tail reached j none read s) stop)
       | inr end ↦
           let e = ended_at input header j.es j.ends end.0 held tail reached end.1 s in
           let bad : parts.End ≡ parts.Entry = sym (ap (λ (x : Place). part_behind x e.last.shapes stop.bytes) e.place) ∙ ap (λ (x : Progress). part_of x stop.bytes) e.reached_is ∙ sym stop.part_is in
@@ -432,12 +432,12 @@ stops_in_entry input header all n held tail reached bound full j read stop =
     ]
 
 -- the end is at fault where reading stops
-pub stops_at_end : (input : List ℕ) (header : Header) (all : List Item) (n : ℕ) (held : List Line) (tail : List ℕ) (reached : Progress) → IsBounded header → header.brief ≡ false
+pub stops_at_end : (input : List ℕ) (header : Header) (all : List Item) (n : ℕ) (held : List Line) (tail : List ℕ) (reached : Progress) → IsBoundedTo header n → header.brief ≡ false
     → AreJudged header all n → IsRead input all held tail reached → StopsAt held tail reached parts.End → ((with_items none_appended all).ended ≡ true → tail ≢ []) → IsInvalidEnd input
 stops_at_end input header all n held tail reached bound full j read stop some =
     let s = behind_all input header all n held tail reached bound full j read in
     elim j.ends_all [
-      | inl none ↦ end_invalid input header j.es held tail reached bound full (held_at input header all n held tail reached j none read s) stop
+      | inl none ↦ end_invalid input header j.es held tail reached (subst (IsBoundedTo header) j.count bound) full (held_at input header all n held tail reached j none read s) stop
       | inr end ↦ ended_invalid input header j.es held tail reached full j.good (ended_at input header j.es j.ends end.0 held tail reached end.1 s) (some (is_ended header all n j end.0 end.1))
     ]
   where
@@ -448,14 +448,14 @@ stops_at_end input header all n held tail reached bound full j read stop some =
         ap (λ (x : Appended). x.ended) whole
 
 -- the part isn't that of a header
-pub stops_behind_header : (input : List ℕ) (header : Header) (all : List Item) (n : ℕ) (held : List Line) (tail : List ℕ) (reached : Progress) → IsBounded header → header.brief ≡ false
+pub stops_behind_header : (input : List ℕ) (header : Header) (all : List Item) (n : ℕ) (held : List Line) (tail : List ℕ) (reached : Progress) → IsBoundedTo header n → header.brief ≡ false
     → AreJudged header all n → IsRead input all held tail reached → StopsAt held tail reached parts.Header → ⊥
 stops_behind_header input header all n held tail reached bound full j read stop =
     let s = behind_all input header all n held tail reached bound full j read in
     header_part s.last.place s.last.shapes stop.bytes (ap (λ (x : Progress). part_of x stop.bytes) s.reached_is ∙ sym stop.part_is)
 
 -- a whole catalogue is valid
-pub ends_valid : (input : List ℕ) (header : Header) (all : List Item) (n : ℕ) (reached : Progress) → IsBounded header → header.brief ≡ false
+pub ends_valid : (input : List ℕ) (header : Header) (all : List Item) (n : ℕ) (reached : Progress) → IsBoundedTo header n → header.brief ≡ false
     → AreJudged header all n → IsRead input all [] [] reached → (with_items none_appended all).ended ≡ true → IsValid input n
 ends_valid input header all n reached bound full j read ended =
     let s = behind_all input header all n [] [] reached bound full j read in
@@ -478,7 +478,7 @@ ends_valid input header all n reached bound full j read ended =
     ]
 
 -- what was read of an input that is too long
-pub goes_on_open : (front : List ℕ) (header : Header) (all : List Item) (n : ℕ) (held : List Line) (left : List ℕ) (reached : Progress) → IsBounded header → header.brief ≡ false
+pub goes_on_open : (front : List ℕ) (header : Header) (all : List Item) (n : ℕ) (held : List Line) (left : List ℕ) (reached : Progress) → IsBoundedTo header n → header.brief ≡ false
     → AreJudged header all n → IsRead front all held left reached → HasNoNewline left → IsPrompt held left reached → (begins left (codes "end ") ≡ true → AreAll header header.subject n) → IsOpen front
 goes_on_open front header all n held left reached bound full j read one_line prompt in_time =
     let s = behind_all front header all n held left reached bound full j read in

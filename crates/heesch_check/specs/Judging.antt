@@ -1,13 +1,18 @@
 -- What is known of the items that were judged.
-use Rattle.std.specs.Prelude.{◌≡◌, ◌⊎◌, ℕ, ◌+◌, ◌<◌, ◌^◌, List, [], ◌∷◌, ◌++◌, length, Option, Some, None, MatchOption}
+use Rattle.std.specs.Prelude.{◌≡◌, ◌⊎◌, ◌↔◌, ℕ, ◌+◌, ◌<◌, ◌^◌, Bool, IsTrue, List, [], ◌∷◌, ◌++◌, length, slice_get, Option, Some, None, MatchOption}
 use Rattle.std.specs.List.{AllByRecursion}
+use Rattle.heesch_audit.specs.Near.{IsNearEntry}
 use Rattle.heesch_grid.specs.declared.Cell.{Cell}
+use Rattle.heesch_grid.specs.Geometry.{Geometry}
 use Rattle.heesch_grid.specs.Names.{geometry_of}
 use Rattle.heesch_grid.specs.Polyform.{IsFreeList}
 use Rattle.heesch_cert.specs.declared.entry.Entry.{Entry}
 use Rattle.heesch_cert.specs.declared.header.Header.{Header}
 use Rattle.heesch_cert.specs.declared.header.Subject.{Subject}
 use Rattle.heesch_cert.specs.declared.header.Subject.TheVariants.{Size, Given}
+use Rattle.heesch_cert.specs.declared.limits.Limits.{Limits}
+use Rattle.heesch_cert.specs.Limits.{AreLimits}
+use Rattle.heesch_cert.specs.TrueEntry.{IsTrueEntry}
 use Rattle.heesch_grammar.specs.Entries.{HoldsItsLines}
 use Rattle.heesch_line.specs.Forms.{IsLine}
 use Rattle.heesch_reader.specs.declared.item.Item.{Item}
@@ -15,7 +20,7 @@ use Rattle.heesch_reader.specs.declared.item.Item.TheVariants as items
 use Rattle.heesch_reader.specs.Items.{item_lines}
 use Rattle.heesch_check.specs.declared.answers.Checked.{Checked}
 use Rattle.heesch_check.specs.declared.answers.Checked.TheVariants as answers
-use Rattle.heesch_check.specs.Catalogues.{IsGoodEntry, AreAll}
+use Rattle.heesch_check.specs.Catalogues.{IsGoodEntry, IsInPlace, AreAll}
 
 -- the shapes are the free list of the header's size, which has fewer than 2^32; for given shapes there are none
 abbrev pub HasShapes : Header → Subject → Option (List (List Cell)) → Type 0
@@ -69,6 +74,20 @@ pub record StopsIn (header : Header) (before after : ℕ) (found : List Item) (a
 abbrev pub JudgesAll : Header → (before after : ℕ) → List Item → Option Checked → Type 0
 JudgesAll header before after found None = AreAllGood header before after found
 JudgesAll header before after found (Some answer) = StopsIn header before after found answer
+
+-- each of the items is an entry in its place behind so many entries and those before it
+abbrev pub ArePlaced : Header → ℕ → List Item → Type 0
+ArePlaced header before [] = Unit {0}
+ArePlaced header before (items.Entry line e ∷ found) = IsInPlace (geometry_of header.grid) header.subject before e.cells × ArePlaced header (before + 1) found
+ArePlaced header before (item ∷ found) = ⊥
+
+-- whether this one of the items is true, where it is an entry whose coordinates lie near 0 and the limits lie in their ranges
+abbrev pub IsAuditOf : Geometry → Limits → List Item → ℕ → Bool → Type 0
+IsAuditOf g limits found i holds = (line : ℕ) (e : Entry) → slice_get found i ≡ Some (items.Entry line e) → AreLimits limits → IsNearEntry e → (IsTrue holds ↔ IsTrueEntry g limits e)
+
+-- these are audits of the items from the first on
+abbrev pub AreAudits : Geometry → Limits → List Item → List Bool → Type 0
+AreAudits g limits found audits = (i : ℕ) (holds : Bool) → slice_get audits i ≡ Some holds → IsAuditOf g limits found i holds
 
 -- the items are these entries
 abbrev pub AreItemsOf : List Item → List Entry → Type 0

@@ -6,6 +6,7 @@ use Rattle.heesch_text.specs.declared.line.Line.TheVariants as lines
 use Rattle.heesch_line.specs.Forms.{IsLine}
 use Rattle.heesch_reader.specs.declared.item.Item.{Item}
 use Rattle.heesch_reader.specs.declared.item.Item.TheVariants as items
+use Rattle.heesch_reader.specs.declared.item.Part.{Part}
 use Rattle.heesch_reader.specs.declared.item.Part.TheVariants as parts
 use Rattle.heesch_reader.specs.declared.progress.AtHand.{AtHand}
 use Rattle.heesch_reader.specs.declared.progress.AtHand.TheVariants as endings
@@ -40,6 +41,13 @@ IsAnswerOf header entries (readings.Fault parts.Entry) answer = answer ≡ Some 
 IsAnswerOf header entries (readings.Fault parts.End) answer = answer ≡ Some answers.InvalidEnd
 IsAnswerOf header entries (readings.TooLong line ending) answer = (told : Checked) × (answer ≡ Some told) × AnswersLong header entries line ending told
 
+-- a fault stands behind the header, before anything whole, and this is its answer
+pub record FaultsFirst (all : List Item) (reading : Reading) (answer : Checked) : Type 0 where
+  pub alone : length all ≤ 1
+  pub part : Part
+  pub fault : reading ≡ readings.Fault part
+  pub tells : (header : Header) → IsAnswerOf header 0 (readings.Fault part) (Some answer)
+
 -- since the source had `first` left, these items were read, and reading came so far
 abbrev pub IsReading : (first now : Option (List ℕ)) → List Item → Streamed → Reading → Type 0
 IsReading first now all s readings.More = HasRead first now all s
@@ -53,6 +61,32 @@ pub record Reads (before now : Option (List ℕ)) (old new : Streamed) (items af
   pub after_is : after ≡ items ++ more
   pub grows : reading ≡ readings.More → old.count < new.count
   pub goes_on : (first : Option (List ℕ)) (found : List Item) → HasRead first before found old → IsReading first now (found ++ more) new reading
+
+-- these items were read behind others, and reading came so far
+abbrev pub MayGather : Option (List ℕ) → Streamed → List Item → Reading → Type 0
+MayGather now s items reading = (first : Option (List ℕ)) × (found : List Item) × IsReading first now (found ++ items) s reading
+
+-- items were appended, until there are enough or nothing more may follow: whatever was read before, they were read behind it
+pub record Gathers (before now : Option (List ℕ)) (old new : Streamed) (items after : List Item) (enough : ℕ) (from to : Reading) : Type 0 where
+  pub more : List Item
+  pub after_is : after ≡ items ++ more
+  pub are_enough : to ≡ readings.More → enough ≤ length after
+  pub grows : to ≡ readings.More → length items < enough → (old.count < new.count) × (from ≡ readings.More)
+  pub goes_on : (first : Option (List ℕ)) (found : List Item) → IsReading first before (found ++ items) old from → IsReading first now (found ++ after) new to
+
+-- what was read before the last piece begins a catalogue with the items found, these ones and others, fewer than enough behind those found
+pub record LacksItems (first now : Option (List ℕ)) (found items : List Item) (enough : ℕ) : Type 0 where
+  pub bytes : List ℕ
+  pub last : List ℕ
+  pub consumed : Consumes first now (bytes ++ last)
+  pub one_piece : length last ≤ piece_max
+  pub more : List Item
+  pub begins : Begins bytes (found ++ (items ++ more))
+  pub few : length (items ++ more) < enough
+
+-- nothing was read, or before the last piece there weren't enough items
+abbrev pub StopsGathering : (first before now : Option (List ℕ)) (found items : List Item) (enough : ℕ) → Type 0
+StopsGathering first before now found items enough = (now ≡ before) ⊎ LacksItems first now found items enough
 
 -- no item was read yet, and more may follow
 abbrev pub MayRead : Option (List ℕ) → Streamed → Type 0
@@ -78,9 +112,9 @@ abbrev pub IsAnswered : Option (List ℕ) → Result Checked CheckStop → Type 
 IsAnswered first result = IfOk result (λ c. (input : List ℕ) × IsAllOf first input × IsChecked input c)
 
 -- the judgement of a batch of items, and of how far reading came with it
-abbrev pub JudgesBatch : Header → (before after : ℕ) → List Item → Reading → Option Checked → Type 0
-JudgesBatch header before after batch reading None = AreAllGood header before after batch × IsAnswerOf header after reading None
-JudgesBatch header before after batch reading (Some answer) = StopsIn header before after batch answer ⊎ (AreAllGood header before after batch × IsAnswerOf header after reading (Some answer))
+abbrev pub JudgesRound : Header → (before after : ℕ) → List Item → Reading → Option Checked → Type 0
+JudgesRound header before after batch reading None = AreAllGood header before after batch × IsAnswerOf header after reading None
+JudgesRound header before after batch reading (Some answer) = StopsIn header before after batch answer ⊎ (AreAllGood header before after batch × IsAnswerOf header after reading (Some answer))
 
 -- items were read and judged, so many entries among them, and more may follow
 pub record Underway (header : Header) (first now : Option (List ℕ)) (s : Streamed) (entries : ℕ) : Type 0 where
@@ -94,13 +128,28 @@ FirstReads before now old new all reading = (first : Option (List ℕ)) → HasR
 
 -- ---- what is read of the source
 
--- the bytes decide nothing yet: they begin a catalogue with no whole item, or with a header, good entries, and maybe an end behind all of them
+-- how many items are gathered before they are judged
+abbrev pub round_size : ℕ
+round_size = 256
+
+-- behind a header that isn't brief, good entries, and maybe an end behind all of them, there are fewer items than a round has
+pub record LackRound (all : List Item) : Type 0 where
+  pub header : Header
+  pub entries : ℕ
+  pub front : List Item
+  pub round : List Item
+  pub split : all ≡ front ++ round
+  pub full : header.brief ≡ false
+  pub judged : AreJudged header front entries
+  pub few : length round < round_size
+
+-- the bytes decide nothing yet that is judged: they begin a catalogue with no whole item, or with a header, good entries, maybe an end behind all of them, and then fewer whole items than a round has
 pub record DecideNothing (bytes : List ℕ) : Type 0 where
   pub all : List Item
   pub begins : Begins bytes all
-  pub judged : (all ≡ []) ⊎ ((header : Header) × (entries : ℕ) × AreJudged header all entries)
+  pub judged : (all ≡ []) ⊎ LackRound all
 
--- no piece is read beyond the one that decides: what was read before it decides nothing
+-- no piece is read beyond the round that decides: what was read before the last piece decides nothing that is judged
 pub record ReadsNoFurther (first now : Option (List ℕ)) : Type 0 where
   pub bytes : List ℕ
   pub last : List ℕ

@@ -9,6 +9,7 @@ ghost use Rattle.heesch_stream.specs.Input.{IsAllOf};
 ghost use Rattle.heesch_check.specs.Answers.{IsChecked};
 ghost use Rattle.heesch_check.specs.Judging.{HasShapes};
 ghost use Rattle.heesch_check.specs.Reading.{
+  FaultsFirst,
   IsReading,
   IsUnderway,
   BeginWith,
@@ -18,8 +19,8 @@ ghost use Rattle.heesch_check.specs.Reading.{
 };
 
 use crate::answers::{CheckStop, Checked};
-use crate::judging::Judge;
-use crate::reading::{Reading, read, read_first};
+use crate::judging::{Judge, fault_behind};
+use crate::reading::{Reading, gather, read_first};
 use heesch_cert::{Header, Subject};
 use heesch_grid::{Grid, GridName, Hex, Iamond, Square};
 use heesch_io::{NoMemory, Seq, Source};
@@ -31,11 +32,18 @@ use heesch_stream::Stream;
 use std::alloc::Global;
 use std::thread::Threads;
 
+/// How many items are gathered before they are judged.
+const ROUND: usize = 256;
+
 /// Whether what the source has left is a valid catalogue, else its first invalid part.
 ///
-/// `TooLong` comes where the first 2^40 bytes decide no invalid part and more follow. Reading stops with the piece that
-/// decides the answer. The free list of a size is made once, by so many workers; each entry is audited once, and no more than the
-/// entries of one piece of the input are held.
+/// `TooLong` comes where the first 2^40 bytes decide no invalid part and more follow.
+///
+/// Entries are judged by rounds: items are gathered from as many pieces as that takes until there are 256, the input is at fault or
+/// ends, or as much is read as may be; then the entries that are in their places are audited by the workers, each once, and the
+/// answer is that of the first item at fault. The gate is told of each entry's number, from 0. Reading stops with the round that
+/// decides the answer, and no more is held than the items of a round and those of one piece. The free list of a size is made once,
+/// by the workers, before the first round, but where the input is at fault with nothing whole behind its header.
 ///
 /// Errors: `Failed` only where the source's count of faults rose; `NoMemory` where memory was refused.
 pub fn check<T: Threads + Sync, R: Source, H: Gate + Sync>(
@@ -60,6 +68,10 @@ pub fn check<T: Threads + Sync, R: Source, H: Gate + Sync>(
     if header.brief {
         return Ok(Checked::InvalidHeader);
     }
+    let reading = gather(&mut stream, source, &mut items, reading, ROUND + 1)?;
+    if let Some(answer) = first_fault(items.as_slice(), reading) {
+        return Ok(answer);
+    }
     let opening = Opening {
         stream,
         header,
@@ -79,6 +91,16 @@ fn header_of(items: &[Item]) -> Option<Header>
     }
     match &items[0] {
         Item::Header { header } => Some(*header),
+        _ => None,
+    }
+}
+
+/// The answer where a fault stands behind the header, before anything whole. No list is needed for it.
+fn first_fault(items: &[Item], reading: Reading) -> Option<Checked>
+    ensures { IfSome result (FaultsFirst items.now reading) }
+{
+    match reading {
+        Reading::Fault { part } if items.len() <= 1 => Some(fault_behind(0, part)),
         _ => None,
     }
 }
@@ -146,7 +168,17 @@ fn check_under<G: Grid + Send + Sync, T: Threads + Sync, R: Source, H: Gate + Sy
         reading,
     } = opening;
     let judge = judge_of::<G, T, H>(rt, alloc, header, workers, gate)?;
-    check_behind(alloc, source, &mut stream, judge, items.as_slice(), reading)
+    check_behind(
+        rt,
+        alloc,
+        source,
+        &mut stream,
+        judge,
+        items.as_slice(),
+        reading,
+        workers,
+        gate,
+    )
 }
 
 /// A judge of what stands behind the header, with the free list where it is of a size.
@@ -178,13 +210,16 @@ fn judge_of<G: Grid + Send + Sync, T: Threads + Sync, H: Gate + Sync>(
 }
 
 /// The answer of a catalogue whose header was read, with the items so far, the first of which it is, and how far reading came.
-fn check_behind<G: Grid, R: Source>(
+fn check_behind<G: Grid + Send + Sync, T: Threads + Sync, R: Source, H: Gate + Sync>(
+    rt: &T,
     alloc: Global,
     source: &mut R,
     stream: &mut Stream,
     mut judge: Judge<G>,
     items: &[Item],
     reading: Reading,
+    workers: u32,
+    gate: &H,
 ) -> Result<Checked, CheckStop>
     requires grid { geometry_of judge.header.grid ≡ G.geometry }
     requires shapes { HasShapes judge.header judge.header.subject judge.shapes }
@@ -192,19 +227,21 @@ fn check_behind<G: Grid, R: Source>(
     requires full { judge.header.brief ≡ false }
     requires none { judge.entries ≡ 0 }
     requires begins { BeginWith judge.header items.now }
+    requires workers { (1 ≤ workers) × (workers ≤ 64) }
     requires underway { IsUnderway (R.left source.old) items.now stream.old reading }
     ensures ok { (first : Option (List ℕ)) → IsReading first (R.left source.old) items.now stream.old reading → IsAnswered first result }
     ensures no_further { (first : Option (List ℕ)) → IsReading first (R.left source.old) items.now stream.old reading → ReadsNoFurther first (R.left source.old) → IfOk result (λ _. ReadsNoFurther first (R.left source.new)) }
     ensures failed { result ≡ Err CheckStop.Failed → Rose (R.faults source.old) (R.faults source.new) }
     ensures later { R.faults source.old ≤ R.faults source.new }
 {
-    if let Some(answer) = judge.judge_batch(alloc, &items[1..], reading)? {
+    if let Some(answer) = judge.judge_round(rt, alloc, &items[1..], reading, workers, gate)? {
         return Ok(answer);
     }
-    'batches: loop {
-        let mut batch = Seq::new(alloc);
-        let reading = read(stream, source, &mut batch)?;
-        if let Some(answer) = judge.judge_batch(alloc, batch.as_slice(), reading)? {
+    'rounds: loop {
+        let mut round = Seq::new(alloc);
+        let reading = gather(stream, source, &mut round, Reading::More, ROUND)?;
+        let answer = judge.judge_round(rt, alloc, round.as_slice(), reading, workers, gate)?;
+        if let Some(answer) = answer {
             return Ok(answer);
         }
     }

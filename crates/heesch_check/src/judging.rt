@@ -1,27 +1,44 @@
-//! The judgement of the items of a catalogue, one after the other.
-ghost use Rattle.std.specs.Prelude.{◌≡◌, ◌+◌, ◌↔◌, ◌<◌, ◌^◌, IfOk, IsTrue};
+//! The judgement of the items of a catalogue.
+ghost use Rattle.std.specs.Prelude.{◌≡◌, ◌+◌, ◌-◌, ◌↔◌, ◌<◌, ◌≤◌, ◌^◌, IfOk, IsTrue, Some, length, take};
 ghost use Rattle.std.specs.List.{AllByRecursion};
+ghost use Rattle.heesch_cert.specs.declared.header.Header.{Header as CatalogueHeader};
 ghost use Rattle.heesch_cert.specs.Limits.{AreLimits};
 ghost use Rattle.heesch_grid.specs.Names.{geometry_of};
 ghost use Rattle.heesch_grammar.specs.Entries.{HoldsItsLines};
 ghost use Rattle.heesch_line.specs.Forms.{IsLine};
 ghost use Rattle.heesch_text.specs.Catalogue.{entry_lines};
 ghost use Rattle.heesch_check.specs.Catalogues.{IsInPlace, AreAll};
-ghost use Rattle.heesch_check.specs.Judging.{HasShapes, IsFit, Judges, JudgesEntry, JudgesEnd, JudgesAll};
-ghost use Rattle.heesch_check.specs.Reading.{AnswersEarly, AnswersLong, IsAnswerOf, JudgesBatch};
+ghost use Rattle.heesch_check.specs.Judging.{ArePlaced, HasShapes, IsFit, Judges, JudgesEntry, JudgesEnd, JudgesAll};
+ghost use Rattle.heesch_check.specs.Reading.{AnswersEarly, AnswersLong, IsAnswerOf, JudgesRound};
 
 use crate::answers::Checked;
 use crate::reading::Reading;
+use crate::rounds::{audits, leading};
 use heesch_audit::{EntryAnswer, audit};
 use heesch_cert::{Entry, Header};
 use heesch_grid::{Cell, Grid};
 use heesch_io::{NoMemory, Seq};
+use heesch_pool::Gate;
 use heesch_reader::{AtHand, Item, Part};
 use heesch_shape::Shape;
 use std::alloc::Global;
+use std::thread::Threads;
 
 /// How many shapes may be given.
 const GIVEN_MAX: u32 = 10_000;
+
+/// The answer where this part is at fault behind so many good entries.
+pub(crate) fn fault_behind(entries: u32, part: Part) -> Checked
+    ensures { (header : CatalogueHeader) → IsAnswerOf header entries (Reading.Fault part) (Some result) }
+{
+    match part {
+        Part::Header => Checked::InvalidHeader,
+        Part::Entry => Checked::InvalidEntry {
+            number: u64::from(entries) + 1,
+        },
+        Part::End => Checked::InvalidEnd,
+    }
+}
 
 /// A catalogue as far as it was judged: its header, the free list where it is of a size, and how many entries were good.
 #[derive(Drop)]
@@ -31,18 +48,18 @@ pub(crate) struct Judge<G: Grid> {
     pub entries: u32,
 }
 
-impl<G: Grid> Judge<G> {
-    /// Whether a shape of these cells may stand behind the entries so far.
-    fn is_in_place(&self, cells: &[Cell]) -> bool
+impl<G: Grid + Send + Sync> Judge<G> {
+    /// Whether a shape of these cells may stand behind so many entries.
+    fn is_in_place(&self, entries: u32, cells: &[Cell]) -> bool
         requires { HasShapes self.now.header self.now.header.subject self.now.shapes }
-        ensures place { IsTrue result ↔ IsInPlace (geometry_of self.now.header.grid) self.now.header.subject self.now.entries cells.now }
-        ensures room { IsTrue result → self.now.entries + 1 < 2 ^ 32 }
+        ensures place { IsTrue result ↔ IsInPlace (geometry_of self.now.header.grid) self.now.header.subject entries cells.now }
+        ensures room { IsTrue result → entries + 1 < 2 ^ 32 }
     {
         let Some(shapes) = &self.shapes else {
-            return self.entries < GIVEN_MAX;
+            return entries < GIVEN_MAX;
         };
         let shapes = shapes.as_slice();
-        let before = self.entries as usize;
+        let before = entries as usize;
         if shapes.len() <= before {
             return false;
         }
@@ -79,7 +96,7 @@ impl<G: Grid> Judge<G> {
         ensures judges { IfOk result (JudgesEntry self.old.header self.old.entries self.new.entries entry.now) }
         ensures kept { self.new ≡ record self.old { entries = self.new.entries } }
     {
-        if !self.is_in_place(entry.cells.as_slice()) {
+        if !self.is_in_place(self.entries, entry.cells.as_slice()) {
             return Ok(Some(self.next_is_invalid()));
         }
         match audit::<G>(alloc, entry, self.header.limits)? {
@@ -103,7 +120,7 @@ impl<G: Grid> Judge<G> {
     }
 
     /// Judges an item behind those so far: the answer where it is at fault.
-    pub fn judge(&mut self, alloc: Global, item: &Item) -> Result<Option<Checked>, NoMemory>
+    fn judge(&mut self, alloc: Global, item: &Item) -> Result<Option<Checked>, NoMemory>
         requires grid { geometry_of self.old.header.grid ≡ G.geometry }
         requires shapes { HasShapes self.old.header self.old.header.subject self.old.shapes }
         requires limits { AreLimits self.old.header.limits }
@@ -119,8 +136,58 @@ impl<G: Grid> Judge<G> {
         }
     }
 
+    /// How many entries there are with those that stand first among the items, each in its place.
+    fn placed(&self, items: &[Item]) -> u32
+        requires { HasShapes self.now.header self.now.header.subject self.now.shapes }
+        ensures more { self.now.entries ≤ result }
+        ensures some { result ≤ self.now.entries + length items.now }
+        ensures placed { ArePlaced self.now.header self.now.entries (take (result - self.now.entries) items.now) }
+    {
+        let mut entries = self.entries;
+        for item in items {
+            let Item::Entry { line: _, entry } = item else {
+                return entries;
+            };
+            if !self.is_in_place(entries, entry.cells.as_slice()) {
+                return entries;
+            }
+            entries += 1;
+        }
+        entries
+    }
+
+    /// Judges items, up to the first at fault, and gives its answer. The entries that stand first among them, each in its place, are
+    /// audited at once.
+    fn judge_all<T: Threads + Sync, H: Gate + Sync>(
+        &mut self,
+        rt: &T,
+        alloc: Global,
+        items: &[Item],
+        workers: u32,
+        gate: &H,
+    ) -> Result<Option<Checked>, NoMemory>
+        requires grid { geometry_of self.old.header.grid ≡ G.geometry }
+        requires shapes { HasShapes self.old.header self.old.header.subject self.old.shapes }
+        requires limits { AreLimits self.old.header.limits }
+        requires fit { AllByRecursion IsFit items.now }
+        requires workers { (1 ≤ workers) × (workers ≤ 64) }
+        ensures judges { IfOk result (JudgesAll self.old.header self.old.entries self.new.entries items.now) }
+        ensures kept { self.new ≡ record self.old { entries = self.new.entries } }
+    {
+        let before = self.entries;
+        let until = self.placed(items);
+        let limits = self.header.limits;
+        let audits = audits::<G, T, H>(rt, alloc, items, before, until, limits, workers, gate)?;
+        let good = leading(&audits);
+        self.entries = before + good as u32;
+        if good < audits.len() {
+            return Ok(Some(self.next_is_invalid()));
+        }
+        self.judge_each(alloc, &items[good..])
+    }
+
     /// Judges items one after the other, up to the first at fault, and gives its answer.
-    pub fn judge_all(&mut self, alloc: Global, items: &[Item]) -> Result<Option<Checked>, NoMemory>
+    fn judge_each(&mut self, alloc: Global, items: &[Item]) -> Result<Option<Checked>, NoMemory>
         requires grid { geometry_of self.old.header.grid ≡ G.geometry }
         requires shapes { HasShapes self.old.header self.old.header.subject self.old.shapes }
         requires limits { AreLimits self.old.header.limits }
@@ -162,7 +229,7 @@ impl<G: Grid> Judge<G> {
     }
 
     /// The answer where reading stops behind items that were all judged good.
-    pub fn answer(&self, reading: Reading) -> Option<Checked>
+    fn answer(&self, reading: Reading) -> Option<Checked>
         requires { HasShapes self.now.header self.now.header.subject self.now.shapes }
         ensures { IsAnswerOf self.now.header self.now.entries reading result }
     {
@@ -170,28 +237,30 @@ impl<G: Grid> Judge<G> {
         match reading {
             Reading::More => None,
             Reading::End => Some(Checked::Valid { count: entries }),
-            Reading::Fault { part: Part::Header } => Some(Checked::InvalidHeader),
-            Reading::Fault { part: Part::Entry } => Some(self.next_is_invalid()),
-            Reading::Fault { part: Part::End } => Some(Checked::InvalidEnd),
+            Reading::Fault { part } => Some(fault_behind(entries, part)),
             Reading::TooLong { line, ending } => Some(self.answer_long(line, ending)),
         }
     }
 
-    /// Judges items one after the other, and then what reading came to behind them: the answer, unless more may follow.
-    pub fn judge_batch(
+    /// Judges the items of a round, and then what reading came to behind them: the answer, unless more may follow.
+    pub fn judge_round<T: Threads + Sync, H: Gate + Sync>(
         &mut self,
+        rt: &T,
         alloc: Global,
         items: &[Item],
         reading: Reading,
+        workers: u32,
+        gate: &H,
     ) -> Result<Option<Checked>, NoMemory>
         requires grid { geometry_of self.old.header.grid ≡ G.geometry }
         requires shapes { HasShapes self.old.header self.old.header.subject self.old.shapes }
         requires limits { AreLimits self.old.header.limits }
         requires fit { AllByRecursion IsFit items.now }
-        ensures judges { IfOk result (JudgesBatch self.old.header self.old.entries self.new.entries items.now reading) }
+        requires workers { (1 ≤ workers) × (workers ≤ 64) }
+        ensures judges { IfOk result (JudgesRound self.old.header self.old.entries self.new.entries items.now reading) }
         ensures kept { self.new ≡ record self.old { entries = self.new.entries } }
     {
-        let answer = self.judge_all(alloc, items)?;
+        let answer = self.judge_all(rt, alloc, items, workers, gate)?;
         if answer.is_some() {
             return Ok(answer);
         }

@@ -6,6 +6,7 @@ mod checking;
 mod judging;
 pub mod laws;
 mod reading;
+mod rounds;
 #[cfg(test)]
 mod tests;
 

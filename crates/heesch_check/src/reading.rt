@@ -1,7 +1,8 @@
 //! How far one step of reading came.
-ghost use Rattle.std.specs.Prelude.{◌≡◌, ◌≢◌, ◌≤◌, ℕ, List, [], Option, Err, IfOk};
+ghost use Rattle.std.specs.Prelude.{◌≡◌, ◌≢◌, ◌≤◌, ◌++◌, ℕ, List, [], Option, Err, IfOk};
 ghost use Rattle.heesch_io.specs.Causes.{Rose};
-ghost use Rattle.heesch_check.specs.Reading.{Reads, FirstReads, MayRead, ReadsNoFurther};
+ghost use Rattle.heesch_reader.specs.declared.item.Item.{Item as ItemOf};
+ghost use Rattle.heesch_check.specs.Reading.{Reads, Gathers, FirstReads, MayRead, MayGather, IsReading, ReadsNoFurther, StopsGathering};
 ghost use Rattle.heesch_stream.specs.Taking.{HasRead, TakesOnePiece};
 
 use crate::answers::CheckStop;
@@ -44,6 +45,32 @@ pub(crate) fn read<R: Source>(
         Err(StreamStop::Failed) => Err(CheckStop::Failed),
         Err(StreamStop::NoMemory) => Err(CheckStop::NoMemory),
     }
+}
+
+/// Reads on from where reading came to until there are so many items, or nothing more may follow.
+pub(crate) fn gather<R: Source>(
+    stream: &mut Stream,
+    source: &mut R,
+    items: &mut Seq<Item>,
+    came_to: Reading,
+    enough: usize,
+) -> Result<Reading, CheckStop>
+    requires may { MayGather (R.left source.old) stream.old items.old came_to }
+    ensures ok { IfOk result (Gathers (R.left source.old) (R.left source.new) stream.old stream.new items.old items.new enough came_to) }
+    ensures no_further { IfOk result (λ _. (first : Option (List ℕ)) (found : List ItemOf) → IsReading first (R.left source.old) (found ++ items.old) stream.old came_to → StopsGathering first (R.left source.old) (R.left source.new) found items.old enough) }
+    ensures failed { result ≡ Err CheckStop.Failed → Rose (R.faults source.old) (R.faults source.new) }
+    ensures later { R.faults source.old ≤ R.faults source.new }
+{
+    let Reading::More = came_to else {
+        return Ok(came_to);
+    };
+    'pieces: while items.len() < enough {
+        let reading = read(stream, source, items)?;
+        let Reading::More = reading else {
+            return Ok(reading);
+        };
+    }
+    Ok(Reading::More)
 }
 
 /// Reads on until there is an item, or nothing more may follow. Nothing was read before but bytes.

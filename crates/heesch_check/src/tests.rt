@@ -1,6 +1,8 @@
 //! Worked texts, each with its answer.
+ghost use Rattle.std.specs.Prelude.{◌≤◌};
+
 use crate::{CheckStop, Checked, check, write_checked};
-use heesch_io::MemorySource;
+use heesch_io::{MemorySource, NoMemory};
 use heesch_pool::Open;
 use std::alloc::Global;
 use std::test::Fail;
@@ -14,13 +16,43 @@ const TILES: &str = "tile 0 0 0 class 1 by 0 0 0\ntile 3 0 0 class 1 by 1 0 -1\n
 
 const END: &str = "end 1\n";
 
+const LARGE: &str = "heesch 1 iamond 15 turns 20000 levels 3 domain 4 size 60000000\n";
+
+const GIVEN: &str = "heesch 1 iamond given turns 20000 levels 3 domain 4 size 60000000\n";
+
 /// The answer of a text that comes in pieces of at most 5 bytes.
 fn answer_of<T: Threads + Sync>(rt: &T, alloc: Global, text: &str) -> Result<Checked, CheckStop> {
+    answer_by(rt, alloc, text, 1)
+}
+
+/// The same by so many workers.
+fn answer_by<T: Threads + Sync>(
+    rt: &T,
+    alloc: Global,
+    text: &str,
+    workers: u32,
+) -> Result<Checked, CheckStop>
+    requires { (1 ≤ workers) × (workers ≤ 64) }
+{
     let Ok(bytes) = text.as_bytes().to_vec(alloc) else {
         return Err(CheckStop::NoMemory);
     };
     let mut source = MemorySource::new(bytes, 5, Vec::new(alloc));
-    check(rt, alloc, &mut source, 1, &Open)
+    check(rt, alloc, &mut source, workers, &Open)
+}
+
+/// A text of given shapes, 300 times the single triangle, where entries of these numbers, from 0, lack a line.
+fn rounds(alloc: Global, faulty: &[u32], end: &str) -> Result<String, NoMemory> {
+    let mut text = String::new(alloc);
+    text.push_str(GIVEN)?;
+    for number in 0..300 {
+        text.push_str(SHAPE)?;
+        if !faulty.contains(&number) {
+            text.push_str(TILES)?;
+        }
+    }
+    text.push_str(end)?;
+    Ok(text)
 }
 
 #[test]
@@ -65,9 +97,38 @@ fn the_first_invalid_part_is_told(rt: HostRuntime) -> Result<(), Fail> {
             format!(in alloc; "{brief}{SHAPE}{TILES}{END}")?,
             Checked::InvalidHeader,
         ),
+        (format!(in alloc; "{LARGE}xyz\n")?, Checked::InvalidEnd),
         (format!(in alloc; "")?, Checked::InvalidHeader),
     ] {
         assert_eq!(rt; answer_of(&rt, alloc, &text), Ok(answer), "{text}");
+    }
+    Ok(())
+}
+
+#[test]
+fn the_least_invalid_entry_of_a_round_is_told(rt: HostRuntime) -> Result<(), Fail> {
+    let alloc = rt.alloc();
+    for (faulty, end, answer) in [
+        ([].as_slice(), "end 300\n", Checked::Valid { count: 300 }),
+        (
+            [270, 299].as_slice(),
+            "end 300\n",
+            Checked::InvalidEntry { number: 271 },
+        ),
+        (
+            [200, 3].as_slice(),
+            "end 300\n",
+            Checked::InvalidEntry { number: 4 },
+        ),
+        ([].as_slice(), "end 301\n", Checked::InvalidEnd),
+        (
+            [299].as_slice(),
+            "shape 0\n",
+            Checked::InvalidEntry { number: 300 },
+        ),
+    ] {
+        let text = rounds(alloc, faulty, end)?;
+        assert_eq!(rt; answer_by(&rt, alloc, &text, 3), Ok(answer));
     }
     Ok(())
 }

@@ -1,6 +1,6 @@
 use Rattle.std.proofs.Common.{◌≡◌, take}
 use Rattle.heesch_check.specs.Judging.{AreAllGood}
-use Rattle.heesch_check.proofs.judging.Judge.judge_all.Given as goal
+use Rattle.heesch_check.proofs.judging.Judge.judge_each.Given as goal
 
 abbrev pub invariant-loop-item : goal.invariant-loop-item
 invariant-loop-item g l = record {
