@@ -1,5 +1,5 @@
 //! What bytes do to the lines of a joiner.
-ghost use Rattle.std.specs.Prelude.{◌≡◌, ◌≢◌, ◌+◌, ◌-◌, ◌≤◌, ◌<◌, ◌^◌, ◌++◌, ◌∷◌, [], List, ℕ, length, true, false, OnOk};
+ghost use Rattle.std.specs.Prelude.{◌≡◌, ◌≢◌, ◌==◌, ◌+◌, ◌-◌, ◌≤◌, ◌<◌, ◌^◌, ◌++◌, ◌∷◌, [], List, ℕ, length, true, false, OnOk};
 ghost use Rattle.heesch_grammar.specs.Entries.{AreEntryLines};
 ghost use Rattle.heesch_reader.specs.declared.item.Item.{Item};
 ghost use Rattle.heesch_parts.specs.PartLines.{IsPartLine};
@@ -50,8 +50,9 @@ impl Scan {
     pub fn take_bytes(&mut self, piece: &[u8], items: &mut Seq<Item>) -> Result<(), JoinStop>
         requires going { MayGoOn (kept_of self.old) }
         requires room { self.old.lines + length self.old.line.items + length piece.now < 2 ^ 64 }
-        ensures { (before : List ℕ) (given : List Item) → IsFed before given (kept_of self.old)
+        ensures fed { (before : List ℕ) (given : List Item) → IsFed before given (kept_of self.old)
             → FeedsTo (before ++ piece.now) given items.old items.new (kept_of self.new) result }
+        ensures room { OnOk result (self.new.lines + length self.new.line.items ≤ self.old.lines + length self.old.line.items + length piece.now) }
     {
         for &byte in piece {
             self.take_byte(byte, items)?;
@@ -66,15 +67,17 @@ impl Scan {
         ensures { (before : List ℕ) (given : List Item) → IsFed before given (kept_of self.now)
             → FinishesWith before given items.old items.new result }
     {
-        if !self.line.is_empty() {
+        if !self.is_behind_line() {
             return Err(self.fault(CANNOT_STAND));
         }
-        if let Some(fault) = self.stage.end_fault() {
-            return Err(self.fault(fault));
+        match self.stage.end_fault() {
+            Some(fault) => Err(self.fault(fault)),
+            None => {
+                let count = self.stage.entries;
+                items.push(Item::End { count })?;
+                Ok(())
+            }
         }
-        let count = self.stage.entries;
-        items.push(Item::End { count })?;
-        Ok(())
     }
 
     /// The fault of a text that goes on behind the most bytes that are read.
@@ -89,8 +92,9 @@ impl Scan {
     fn take_byte(&mut self, byte: u8, items: &mut Seq<Item>) -> Result<(), JoinStop>
         requires going { MayGoOn (kept_of self.old) }
         requires room { self.old.lines < 2 ^ 64 - 1 }
-        ensures { (before : List ℕ) (given : List Item) → IsFed before given (kept_of self.old)
+        ensures fed { (before : List ℕ) (given : List Item) → IsFed before given (kept_of self.old)
             → FeedsTo (before ++ byte ∷ []) given items.old items.new (kept_of self.new) result }
+        ensures room { OnOk result (self.new.lines + length self.new.line.items ≤ self.old.lines + length self.old.line.items + 1) }
     {
         if byte == b'\n' {
             return self.end_line(items);
@@ -103,8 +107,9 @@ impl Scan {
     fn end_line(&mut self, items: &mut Seq<Item>) -> Result<(), JoinStop>
         requires going { MayGoOn (kept_of self.old) }
         requires room { self.old.lines < 2 ^ 64 - 1 }
-        ensures { (before : List ℕ) (given : List Item) → IsFed before given (kept_of self.old)
+        ensures fed { (before : List ℕ) (given : List Item) → IsFed before given (kept_of self.old)
             → FeedsTo (before ++ 10 ∷ []) given items.old items.new (kept_of self.new) result }
+        ensures room { OnOk result (self.new.lines + length self.new.line.items ≤ self.old.lines + length self.old.line.items + 1) }
     {
         let line = match read_part_line(self.alloc, self.line.as_slice()) {
             Ok(line) => line,
@@ -136,6 +141,13 @@ impl Scan {
         self.line.clear();
         self.lines += 1;
         Ok(())
+    }
+
+    /// Whether no byte of another line was read.
+    fn is_behind_line(&self) -> bool
+        ensures { result ≡ (length self.now.line.items == 0) }
+    {
+        self.line.is_empty()
     }
 
     /// A fault of the line that didn't end.
