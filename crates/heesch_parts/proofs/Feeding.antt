@@ -1,5 +1,5 @@
 -- What bytes make of what a joiner keeps, and the faults that they show.
-use Rattle.std.proofs.Common.{◌≡◌, ◌≢◌, ◌⊎◌, inl, inr, ℕ, suc, ◌+◌, ◌<◌, ◌≤◌, ◌==◌, Bool, true, false, List, [], ◌∷◌, ◌++◌, length, map, take, drop, get_or, Option, Some, None, Result, Ok, Err, if◌then◌else◌, refl, sym, ap, subst, ◌∙◌, append_assoc, arith}
+use Rattle.std.proofs.Common.{◌≡◌, ◌≢◌, ◌⊎◌, inl, inr, ℕ, suc, ◌+◌, ◌<◌, ◌≤◌, ◌^◌, ◌==◌, Bool, true, false, List, [], ◌∷◌, ◌++◌, length, map, take, drop, get_or, Option, Some, None, Result, Ok, Err, if◌then◌else◌, refl, sym, ap, subst, ◌∙◌, append_assoc, arith}
 use Rattle.std.specs.Prelude.{OnOk}
 use Rattle.std.specs.List.{AllByRecursion, flat_map}
 use Rattle.std.proofs.lemmas.Bool.{eqb-true}
@@ -17,6 +17,7 @@ use Rattle.heesch_reader.specs.declared.item.Item.TheVariants as items
 use Rattle.heesch_reader.specs.declared.progress.Progress.{Progress}
 use Rattle.heesch_reader.specs.declared.progress.Progress.TheVariants as stages
 use Rattle.heesch_reader.proofs.Walking.{all_append}
+use Rattle.heesch_reader.proofs.Walking.{has_words as line_has_words}
 use Rattle.heesch_parts.specs.declared.part_line.PartLine.{PartLine}
 use Rattle.heesch_parts.specs.declared.part_line.PartLine.TheVariants as parts
 use Rattle.heesch_parts.specs.declared.stage.Stage.{Stage}
@@ -24,7 +25,7 @@ use Rattle.heesch_parts.specs.PartLines.{IsPartLine, part_words, part_text, part
 use Rattle.heesch_parts.specs.Stages.{start, Step, Walk, end_fault}
 use Rattle.heesch_parts.specs.Shares.{entries_of, items_behind, share_items, joined_items}
 use Rattle.heesch_parts.specs.Faults.{IsLineFault, EndFault, HasFault}
-use Rattle.heesch_parts.specs.Joining.{AreBuilt, Gives, Settles, Holds, TakesLine, Kept, IsFed, GoesTo, IsFrontStop, IsWholeStop, IsStopBeyond, Joins, FeedsTo, FinishesWith, Advances, MayGoOn, ends_entry, new_header, shares_of, header_line, whole_lines, lines_before}
+use Rattle.heesch_parts.specs.Joining.{AreBuilt, Gives, Settles, Holds, TakesLine, Kept, IsFed, GoesTo, IsFrontStop, IsWholeStop, IsStopBeyond, Joins, FeedsTo, FinishesWith, Advances, HasRoom, LeavesRoom, ends_entry, new_header, shares_of, header_line, whole_lines, lines_before}
 use Rattle.heesch_parts.specs.declared.join_stop.JoinStop.{JoinStop}
 use Rattle.heesch_parts.specs.declared.join_stop.JoinStop.TheVariants as stops
 use Rattle.heesch_parts.proofs.Growing.{mapped_long}
@@ -198,10 +199,20 @@ advanced (Ok u) before given items after old new line reached f form words step 
 advanced (Err (stops.Fault at fault)) before given items after old new line reached f form words step a = absurd a
 advanced (Err stops.NoMemory) before given items after old new line reached f form words step a = tt
 
+-- a line has a byte
+has_words : (line : PartLine) → 0 < length (part_words line)
+has_words (parts.Share i k) = omega arith
+has_words (parts.Catalogue line) = line_has_words line
+
 -- the answer to it leaves room
-pub leaves_room : (r : Result (Unit {0}) JoinStop) (items after : List Item) (old new : Kept) (line : PartLine) (reached : Stage) → Advances old new line reached items after r → OnOk r (new.lines + length new.left ≤ old.lines + length old.left + 1)
-leaves_room (Ok u) items after old new line reached a = let none = ap length a.left in omega (arith, none, a.lines)
-leaves_room (Err e) items after old new line reached a = tt
+pub leaves_room : (r : Result (Unit {0}) JoinStop) (items after : List Item) (old new : Kept) (line : PartLine) (reached : Stage) → part_words line ≡ old.left → old.lines + length old.left + 1 < 2 ^ 64 → Advances old new line reached items after r
+    → OnOk r (LeavesRoom old new 1 × HasRoom new)
+leaves_room (Ok u) items after old new line reached words room a =
+    let none = ap length a.left in
+    let some = has_words line in
+    let same = ap length words in
+    (omega (arith, none, a.lines), omega (arith, some, same, room, a.lines))
+leaves_room (Err e) items after old new line reached words room a = tt
 
 -- ---- faults
 

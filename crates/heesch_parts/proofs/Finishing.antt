@@ -1,5 +1,6 @@
 -- Bytes that may end are those of shares; and bytes one after the other.
 use Rattle.std.proofs.Common.{◌≡◌, ◌≢◌, ◌⊎◌, inl, inr, ℕ, suc, ◌+◌, ◌<◌, ◌≤◌, ◌==◌, Bool, true, false, List, [], ◌∷◌, ◌++◌, length, take, drop, get_or, Option, Some, None, Result, Ok, Err, if◌then◌else◌, refl, sym, ap, subst, ◌∙◌, append_assoc, arith}
+use Rattle.std.specs.Prelude.{OnOk}
 use Rattle.std.proofs.lemmas.Bool.{eqb-true}
 use Rattle.std.proofs.lemmas.List.{length-append, append-nil, take_more, take-append-drop, take_all}
 use Rattle.heesch_cert.specs.declared.header.Header.{Header}
@@ -13,7 +14,7 @@ use Rattle.heesch_parts.specs.PartLines.{parts_text}
 use Rattle.heesch_parts.specs.Stages.{fault_between, fault_at_end, end_fault}
 use Rattle.heesch_parts.specs.Shares.{entries_of, items_behind, share_items, shares_from, joined_items}
 use Rattle.heesch_parts.specs.Faults.{HasFault}
-use Rattle.heesch_parts.specs.Joining.{AreBuilt, Kept, IsFed, GoesTo, FeedsTo, IsFrontStop, Joins, FinishesWith, IsHeaderOf, lines_before}
+use Rattle.heesch_parts.specs.Joining.{AreBuilt, Kept, IsFed, GoesTo, FeedsTo, IsFrontStop, Joins, FinishesWith, IsHeaderOf, HasRoom, LeavesRoom, MayGoOn, MayGoOnUnless, refusal_of, lines_before}
 use Rattle.heesch_parts.specs.declared.join_stop.JoinStop.{JoinStop}
 use Rattle.heesch_parts.specs.declared.join_stop.JoinStop.TheVariants as stops
 use Rattle.heesch_parts.proofs.Building.{stage_of}
@@ -91,3 +92,11 @@ pub byte_stops : (before bytes : List ℕ) (i d : ℕ) (e : JoinStop) → i < le
 byte_stops before bytes i d e less h =
     let whole : (before ++ take (i + 1) bytes) ++ drop (i + 1) bytes ≡ before ++ bytes = append_assoc before (take (i + 1) bytes) (drop (i + 1) bytes) ∙ ap (λ (t : List ℕ). before ++ t) (take-append-drop (i + 1) bytes) in
     subst (λ (t : List ℕ). IsFrontStop t e) whole (front_stop_later (before ++ take (i + 1) bytes) (drop (i + 1) bytes) e (subst (λ (t : List ℕ). IsFrontStop t e) (byte_more before bytes i d less) h))
+
+-- a joiner that hasn't refused may go on
+pub goes_unless : (r : Result (Unit {0}) JoinStop) (refusal : Option JoinStop) (old new : Kept) (piece : List ℕ) (items after : List Item) → refusal ≡ refusal_of r → MayGoOn old
+    → ((before : List ℕ) (given : List Item) → IsFed before given old → FeedsTo (before ++ piece) given items after new r) → OnOk r (LeavesRoom old new (length piece) × HasRoom new) → MayGoOnUnless refusal new
+goes_unless (Ok u) refusal old new piece items after e going told room =
+    let g = told going.0 going.1 going.2 in
+    subst (λ (x : Option JoinStop). MayGoOnUnless x new) (sym e) (going.0 ++ piece, going.1 ++ g.more, g.fed, room.1)
+goes_unless (Err stop) refusal old new piece items after e going told room = subst (λ (x : Option JoinStop). MayGoOnUnless x new) (sym e) tt

@@ -136,9 +136,27 @@ pub record IsFed (bytes : List ℕ) (given : List Item) (kept : Kept) : Type 0 w
   pub count : kept.lines ≡ length ended
   pub built : AreBuilt ended kept.stage kept.held given
 
+-- the number of the line at hand fits 64 bits
+abbrev pub HasRoom : Kept → Type 0
+HasRoom kept = kept.lines + 1 < 2 ^ 64
+
 -- a joiner may go on
 abbrev pub MayGoOn : Kept → Type 0
-MayGoOn kept = (bytes : List ℕ) × (given : List Item) × IsFed bytes given kept
+MayGoOn kept = (bytes : List ℕ) × (given : List Item) × IsFed bytes given kept × HasRoom kept
+
+-- a joiner that hasn't refused may go on
+abbrev pub MayGoOnUnless : Option JoinStop → Kept → Type 0
+MayGoOnUnless None kept = MayGoOn kept
+MayGoOnUnless (Some stop) kept = Unit {0}
+
+-- what a joiner is known by: its refusal if it has one, and what it keeps
+pub record Joining : Type 0 where
+  pub refusal : Option JoinStop
+  pub kept : Kept
+
+-- no more lines and bytes are kept than before, with so many more
+abbrev pub LeavesRoom : (old new : Kept) (more : ℕ) → Type 0
+LeavesRoom old new more = new.lines + length new.left ≤ old.lines + length old.left + more
 
 -- what a scan keeps
 abbrev pub kept_of : Scan → Kept
@@ -151,6 +169,15 @@ pub record GoesTo (bytes : List ℕ) (given before after : List Item) (kept : Ke
   pub more : List Item
   pub after_is : after ≡ before ++ more
   pub fed : IsFed bytes (given ++ more) kept
+
+-- the refusal behind an answer
+abbrev pub refusal_of : Result (Unit {0}) JoinStop → Option JoinStop
+refusal_of (Ok _) = None
+refusal_of (Err stop) = Some stop
+
+-- the answer of a joiner that refused, for good
+abbrev pub StaysRefused : JoinStop → (old new : Joining) (before after : List Item) → Result (Unit {0}) JoinStop → Type 0
+StaysRefused stop old new before after result = (result ≡ Err stop) × (new ≡ old) × (after ≡ before)
 
 -- each text that begins with these bytes has the fault, if all of them are read
 abbrev pub IsFrontStop : List ℕ → JoinStop → Type 0

@@ -2,6 +2,7 @@
 #![tactic(auto)]
 
 mod join_stop;
+mod joiner;
 pub mod laws;
 mod places;
 mod part_line;
@@ -10,6 +11,7 @@ mod shares;
 mod stage;
 
 pub use join_stop::JoinStop;
+pub use joiner::Joiner;
 pub use part_line::{PartLine, read_part_line};
 pub use places::Span;
 pub use stage::Stage;

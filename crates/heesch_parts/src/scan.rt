@@ -3,7 +3,7 @@ ghost use Rattle.std.specs.Prelude.{◌≡◌, ◌≢◌, ◌==◌, ◌+◌, ◌
 ghost use Rattle.heesch_grammar.specs.Entries.{AreEntryLines};
 ghost use Rattle.heesch_reader.specs.declared.item.Item.{Item};
 ghost use Rattle.heesch_parts.specs.PartLines.{IsPartLine};
-ghost use Rattle.heesch_parts.specs.Joining.{IsFed, MayGoOn, FeedsTo, FinishesWith, IsStopBeyond, Settles, Holds, Advances, ends_entry, kept_of};
+ghost use Rattle.heesch_parts.specs.Joining.{IsFed, MayGoOn, FeedsTo, FinishesWith, IsStopBeyond, Settles, Holds, Advances, HasRoom, LeavesRoom, ends_entry, kept_of};
 
 use crate::join_stop::JoinStop;
 use crate::part_line::{PartLine, read_part_line};
@@ -52,7 +52,7 @@ impl Scan {
         requires room { self.old.lines + length self.old.line.items + length piece.now < 2 ^ 64 }
         ensures fed { (before : List ℕ) (given : List Item) → IsFed before given (kept_of self.old)
             → FeedsTo (before ++ piece.now) given items.old items.new (kept_of self.new) result }
-        ensures room { OnOk result (self.new.lines + length self.new.line.items ≤ self.old.lines + length self.old.line.items + length piece.now) }
+        ensures room { OnOk result (LeavesRoom (kept_of self.old) (kept_of self.new) (length piece.now) × HasRoom (kept_of self.new)) }
     {
         for &byte in piece {
             self.take_byte(byte, items)?;
@@ -63,7 +63,6 @@ impl Scan {
     /// Takes the end of the bytes.
     pub fn take_end(&self, items: &mut Seq<Item>) -> Result<(), JoinStop>
         requires going { MayGoOn (kept_of self.now) }
-        requires room { self.now.lines < 2 ^ 64 - 1 }
         ensures { (before : List ℕ) (given : List Item) → IsFed before given (kept_of self.now)
             → FinishesWith before given items.old items.new result }
     {
@@ -82,7 +81,7 @@ impl Scan {
 
     /// The fault of a text that goes on behind the most bytes that are read.
     pub fn beyond(&self) -> JoinStop
-        requires { self.now.lines < 2 ^ 64 - 1 }
+        requires { HasRoom (kept_of self.now) }
         ensures { (before : List ℕ) (given : List Item) → IsFed before given (kept_of self.now) → IsStopBeyond before result }
     {
         self.fault(TOO_LONG)
@@ -91,10 +90,10 @@ impl Scan {
     /// Takes one byte.
     fn take_byte(&mut self, byte: u8, items: &mut Seq<Item>) -> Result<(), JoinStop>
         requires going { MayGoOn (kept_of self.old) }
-        requires room { self.old.lines < 2 ^ 64 - 1 }
+        requires room { self.old.lines + length self.old.line.items + 1 < 2 ^ 64 }
         ensures fed { (before : List ℕ) (given : List Item) → IsFed before given (kept_of self.old)
             → FeedsTo (before ++ byte ∷ []) given items.old items.new (kept_of self.new) result }
-        ensures room { OnOk result (self.new.lines + length self.new.line.items ≤ self.old.lines + length self.old.line.items + 1) }
+        ensures room { OnOk result (LeavesRoom (kept_of self.old) (kept_of self.new) 1 × HasRoom (kept_of self.new)) }
     {
         if byte == b'\n' {
             return self.end_line(items);
@@ -106,10 +105,10 @@ impl Scan {
     /// Ends the line at hand.
     fn end_line(&mut self, items: &mut Seq<Item>) -> Result<(), JoinStop>
         requires going { MayGoOn (kept_of self.old) }
-        requires room { self.old.lines < 2 ^ 64 - 1 }
+        requires room { self.old.lines + length self.old.line.items + 1 < 2 ^ 64 }
         ensures fed { (before : List ℕ) (given : List Item) → IsFed before given (kept_of self.old)
             → FeedsTo (before ++ 10 ∷ []) given items.old items.new (kept_of self.new) result }
-        ensures room { OnOk result (self.new.lines + length self.new.line.items ≤ self.old.lines + length self.old.line.items + 1) }
+        ensures room { OnOk result (LeavesRoom (kept_of self.old) (kept_of self.new) 1 × HasRoom (kept_of self.new)) }
     {
         let line = match read_part_line(self.alloc, self.line.as_slice()) {
             Ok(line) => line,
@@ -152,7 +151,7 @@ impl Scan {
 
     /// A fault of the line that didn't end.
     fn fault(&self, fault: u32) -> JoinStop
-        requires { self.now.lines < 2 ^ 64 - 1 }
+        requires { HasRoom (kept_of self.now) }
         ensures { result ≡ JoinStop.Fault (self.now.lines + 1) fault }
     {
         let line = self.lines + 1;

@@ -27,4 +27,4 @@ returns-in-Err-clause-fed c = λ before given fed.
     (inl (record { line = c.in-Ok.line; form = c.in-Ok.ensures.ok.0; words_are = c.in-Ok.ensures.ok.1 ∙ c.as_slice.ensures.value; fault = c.in-Err.ensures })) c.fault-in-Err.ensures
 
 pub returns-in-Ok-next-clause-room : goal.returns-in-Ok-next-clause-room
-returns-in-Ok-next-clause-room c = leaves_room c.advance.result c.args.items.now c.advance.new.items (kept_of c.args.self.now) (kept_of c.advance.new.self) c.in-Ok.line c.in-Ok-next.reached c.advance.ensures
+returns-in-Ok-next-clause-room c = leaves_room c.advance.result c.args.items.now c.advance.new.items (kept_of c.args.self.now) (kept_of c.advance.new.self) c.in-Ok.line c.in-Ok-next.reached (c.in-Ok.ensures.ok.1 ∙ c.as_slice.ensures.value) c.requires.room c.advance.ensures
