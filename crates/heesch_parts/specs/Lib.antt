@@ -1,0 +1,6 @@
+pub mod Faults
+pub mod Joining
+pub mod PartLines
+pub mod Shares
+pub mod Spans
+pub mod Stages

@@ -1,0 +1,26 @@
+//! What holds of shares and of joined texts, each the contract of a function that does nothing.
+ghost use Rattle.heesch_parts.specs.Faults.{SharesHaveNoFault, OneFault};
+ghost use Rattle.heesch_parts.specs.Spans.{SpansFollow, SpansCoverOnce, SpansStayWithin};
+
+/// The spans of shares 1 to k follow each other: the first begins at 0, each other where the one before it ends, and the
+/// last ends at the length.
+pub fn spans_follow()
+    ensures { SpansFollow }
+{}
+
+/// The spans of shares 1 to k have each place of the list once, and no other place.
+pub fn spans_cover_once()
+    ensures once { SpansCoverOnce }
+    ensures within { SpansStayWithin }
+{}
+
+/// The text of K shares has no fault, where no more bytes than are read are in it. So a joiner's `finish` answers Ok
+/// exactly where the bytes are the text of K shares, and a fault exactly where they aren't, where memory suffices.
+pub fn shares_have_no_fault()
+    ensures { SharesHaveNoFault }
+{}
+
+/// A text has one first fault at most: its line and its number.
+pub fn one_fault()
+    ensures { OneFault }
+{}

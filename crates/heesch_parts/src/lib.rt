@@ -1,0 +1,18 @@
+//! Shares of a catalogue, and their joining.
+#![tactic(auto)]
+
+mod join_stop;
+mod joiner;
+pub mod laws;
+mod places;
+mod part_line;
+mod scan;
+mod shares;
+mod stage;
+
+pub use join_stop::JoinStop;
+pub use joiner::Joiner;
+pub use part_line::{PartLine, read_part_line};
+pub use places::Span;
+pub use stage::Stage;
+pub use shares::{SHARES_MAX, span};
