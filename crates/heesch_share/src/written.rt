@@ -1,0 +1,157 @@
+//! The writer of a share.
+ghost use Rattle.std.specs.Prelude.{◌≡◌, ◌≤◌, All, length, Err, IfOk, OnErr, OnOk};
+ghost use Rattle.std.specs.Io.KnownBytes.{Appends};
+ghost use Rattle.heesch_io.specs.Causes.{Rose};
+ghost use Rattle.heesch_io.specs.Contents.{AppendsPrefix};
+ghost use Rattle.heesch_cert.specs.Limits.{AreLimits};
+ghost use Rattle.heesch_grid.specs.Names.{geometry_of};
+ghost use Rattle.heesch_grid.specs.Polyform.{IsCanonicalListOf};
+ghost use Rattle.heesch_catalogue.specs.Rounds.{BeginsOne, WritesOne};
+ghost use Rattle.heesch_parts.specs.Shares.{share_line};
+ghost use Rattle.heesch_share.specs.Written.{IsShare, IsBegunShare, IsShareOfSize, IsBegunShareOfSize};
+
+use heesch_catalogue::{WriteStop, write_catalogue};
+use heesch_cert::Header;
+use heesch_grid::{Grid, GridName, Hex, Iamond, Square};
+use heesch_io::{NoMemory, Sink, put};
+use heesch_kite::Kite;
+use heesch_listing::all_shapes;
+use heesch_parts::{Span, span};
+use heesch_pool::Gate;
+use heesch_shape::Shape;
+use itoa::Buffer;
+use std::alloc::Global;
+use std::thread::Threads;
+
+/// Writes share `i` of `k` of the catalogue, under the header, of all free polyforms of n cells: the line that names the
+/// share, and the catalogue text of the shapes at the places that the share has, as `write_catalogue` writes it. n is 1 to
+/// 31, 1 <= i <= k <= 1,000, and there are 1 to 64 workers.
+///
+/// Errors: as of `write_catalogue`; where memory was refused for the list of the shapes, nothing was written. Beside that
+/// list it keeps the entries of one round.
+pub fn write_share<T: Threads + Sync, W: Sink, H: Gate + Sync>(
+    rt: &T,
+    alloc: Global,
+    header: &Header,
+    n: u32,
+    i: u32,
+    k: u32,
+    workers: u32,
+    gate: &H,
+    sink: &mut W,
+) -> Result<(), WriteStop>
+    requires size { (1 ≤ n) × (n ≤ 31) }
+    requires first { 1 ≤ i }
+    requires last { i ≤ k }
+    requires most { k ≤ 1000 }
+    requires limits { AreLimits header.now.limits }
+    requires workers { (1 ≤ workers) × (workers ≤ 64) }
+    ensures ok { OnOk result
+        (WritesOne (IsShareOfSize (geometry_of header.now.grid) header.now n i k)
+        (W.held sink.old) (W.held sink.new)) }
+    ensures err { OnErr result
+        (BeginsOne (IsBegunShareOfSize (geometry_of header.now.grid) header.now n i k)
+        (W.held sink.old) (W.held sink.new)) }
+    ensures failed { result ≡ Err WriteStop.Failed → Rose (W.faults sink.old) (W.faults sink.new) }
+    ensures later { W.faults sink.old ≤ W.faults sink.new }
+{
+    match header.grid {
+        GridName::Square => {
+            write_one::<Square, T, W, H>(rt, alloc, header, n, i, k, workers, gate, sink)
+        }
+        GridName::Hex => write_one::<Hex, T, W, H>(rt, alloc, header, n, i, k, workers, gate, sink),
+        GridName::Iamond => {
+            write_one::<Iamond, T, W, H>(rt, alloc, header, n, i, k, workers, gate, sink)
+        }
+        GridName::Kite => {
+            write_one::<Kite, T, W, H>(rt, alloc, header, n, i, k, workers, gate, sink)
+        }
+    }
+}
+
+fn write_one<G: Grid + Send + Sync, T: Threads + Sync, W: Sink, H: Gate + Sync>(
+    rt: &T,
+    alloc: Global,
+    header: &Header,
+    n: u32,
+    i: u32,
+    k: u32,
+    workers: u32,
+    gate: &H,
+    sink: &mut W,
+) -> Result<(), WriteStop>
+    requires size { (1 ≤ n) × (n ≤ 31) }
+    requires first { 1 ≤ i }
+    requires last { i ≤ k }
+    requires most { k ≤ 1000 }
+    requires limits { AreLimits header.now.limits }
+    requires workers { (1 ≤ workers) × (workers ≤ 64) }
+    ensures ok { OnOk result
+        (WritesOne (IsShareOfSize G.geometry header.now n i k) (W.held sink.old) (W.held sink.new)) }
+    ensures err { OnErr result
+        (BeginsOne (IsBegunShareOfSize G.geometry header.now n i k) (W.held sink.old) (W.held sink.new)) }
+    ensures failed { result ≡ Err WriteStop.Failed → Rose (W.faults sink.old) (W.faults sink.new) }
+    ensures later { W.faults sink.old ≤ W.faults sink.new }
+{
+    let shapes = all_shapes::<G, T, H>(rt, alloc, n, workers, gate)?;
+    write_share_of(rt, alloc, header, &shapes, i, k, workers, gate, sink)
+}
+
+/// Writes the share of the catalogue of canonical shapes.
+fn write_share_of<G: Grid + Send + Sync, T: Threads + Sync, W: Sink, H: Gate + Sync>(
+    rt: &T,
+    alloc: Global,
+    header: &Header,
+    shapes: &[Shape<G>],
+    i: u32,
+    k: u32,
+    workers: u32,
+    gate: &H,
+    sink: &mut W,
+) -> Result<(), WriteStop>
+    requires canonical { All (λ s. IsCanonicalListOf G.geometry s s) shapes.now }
+    requires first { 1 ≤ i }
+    requires last { i ≤ k }
+    requires most { k ≤ 1000 }
+    requires limits { AreLimits header.now.limits }
+    requires workers { (1 ≤ workers) × (workers ≤ 64) }
+    ensures ok { OnOk result
+        (WritesOne (IsShare G.geometry header.now i k shapes.now) (W.held sink.old) (W.held sink.new)) }
+    ensures err { OnErr result
+        (BeginsOne (IsBegunShare G.geometry header.now i k shapes.now) (W.held sink.old) (W.held sink.new)) }
+    ensures failed { result ≡ Err WriteStop.Failed → Rose (W.faults sink.old) (W.faults sink.new) }
+    ensures later { W.faults sink.old ≤ W.faults sink.new }
+{
+    let Ok(count) = u32::try_from(shapes.len()) else {
+        return Err(WriteStop::NoMemory);
+    };
+    let Span { from, until } = span(count, i, k);
+    put_line(alloc, i, k, sink)?;
+    let part = &shapes[from as usize..until as usize];
+    write_catalogue(rt, alloc, header, part, workers, gate, sink)
+}
+
+/// Writes the line that names share `i` of `k`.
+fn put_line<W: Sink>(alloc: Global, i: u32, k: u32, sink: &mut W) -> Result<(), WriteStop>
+    ensures ok { OnOk result (Appends (W.held sink.old) (W.held sink.new) (share_line i k)) }
+    ensures err { OnErr result (AppendsPrefix (W.held sink.old) (W.held sink.new) (share_line i k)) }
+    ensures failed { result ≡ Err WriteStop.Failed → Rose (W.faults sink.old) (W.faults sink.new) }
+    ensures later { W.faults sink.old ≤ W.faults sink.new }
+{
+    let text = line_of(alloc, i, k)?;
+    put(sink, &text)?;
+    Ok(())
+}
+
+/// The line `share I K`.
+fn line_of(alloc: Global, i: u32, k: u32) -> Result<Vec<u8>, NoMemory>
+    ensures { IfOk result (λ text. text.items ≡ share_line i k) }
+{
+    let mut text = Vec::new(alloc);
+    text.extend_from_slice(b"share ")?;
+    text.extend_from_slice(Buffer::new().format(i).as_bytes())?;
+    text.push(b' ')?;
+    text.extend_from_slice(Buffer::new().format(k).as_bytes())?;
+    text.push(b'\n')?;
+    Ok(text)
+}
