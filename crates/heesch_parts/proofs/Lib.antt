@@ -2,6 +2,7 @@ pub mod Building
 pub mod EntrySteps
 pub mod Feeding
 pub mod Finishing
+pub mod Going
 pub mod Growing
 pub mod NoFault
 pub mod OneFault
