@@ -6,6 +6,7 @@ pub mod Going
 pub mod Growing
 pub mod NoFault
 pub mod OneFault
+pub mod OneJoin
 pub mod PartWords
 pub mod SameParts
 pub mod Settling

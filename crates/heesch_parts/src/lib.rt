@@ -18,7 +18,5 @@ pub use input_stop::InputStop;
 pub use join_stop::JoinStop;
 pub use input::joined;
 pub use joiner::Joiner;
-pub use part_line::{PartLine, read_part_line};
 pub use places::Span;
-pub use stage::Stage;
 pub use shares::{SHARES_MAX, span};
