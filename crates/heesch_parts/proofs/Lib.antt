@@ -2,9 +2,11 @@ pub mod Building
 pub mod EntrySteps
 pub mod Feeding
 pub mod Finishing
+pub mod Going
 pub mod Growing
 pub mod NoFault
 pub mod OneFault
+pub mod OneJoin
 pub mod PartWords
 pub mod SameParts
 pub mod Settling

@@ -105,7 +105,7 @@ abbrev pub amid : (i k base : ℕ) → Header → Spot → Stage
 amid i k base header spot = record { shares = Some k; share = i; header = Some header; entries = base + spot.shapes; progress = Some (stages.Behind false spot) }
 
 -- no `end` line
-abbrev NoEnd : Line → Type 0
+abbrev pub NoEnd : Line → Type 0
 NoEnd (lines.End count) = ⊥
 NoEnd line = Unit {0}
 
@@ -156,7 +156,7 @@ inside_no_end [] h = tt
 inside_no_end (lines.End count ∷ ls) h = absurd h.0
 inside_no_end (line ∷ ls) h = (tt, inside_no_end ls h.1)
 
-entries_no_end : (es : List Entry) → AllByRecursion NoEnd (flat_map entry_lines es)
+pub entries_no_end : (es : List Entry) → AllByRecursion NoEnd (flat_map entry_lines es)
 entries_no_end [] = tt
 entries_no_end (e ∷ es) = all_append NoEnd (entry_lines e) (flat_map entry_lines es) (tt, inside_no_end (body_lines e) (body_inside e)) (entries_no_end es)
 

@@ -1,4 +1,5 @@
 pub mod Faults
+pub mod Inputs
 pub mod Joining
 pub mod PartLines
 pub mod Shares

@@ -4,11 +4,13 @@ use Rattle.std.specs.List.{AllByRecursion, flat_map}
 use Rattle.heesch_cert.specs.declared.header.Header.{Header}
 use Rattle.heesch_cert.specs.declared.entry.Entry.{Entry}
 use Rattle.heesch_text.specs.declared.line.Line.TheVariants as lines
+use Rattle.heesch_text.specs.Lines.{text_of}
 use Rattle.heesch_text.specs.Catalogue.{entry_lines, catalogue_text}
 use Rattle.heesch_line.specs.Forms.{IsLine}
 use Rattle.heesch_grammar.specs.Entries.{AreEntryLines, HoldsItsLines}
 use Rattle.heesch_reader.specs.declared.item.Item.{Item}
 use Rattle.heesch_reader.specs.declared.item.Item.TheVariants as items
+use Rattle.heesch_reader.specs.Items.{lines_of}
 use Rattle.heesch_parts.specs.PartLines.{numbers_text}
 use Rattle.heesch_parts.specs.Stages.{may_join}
 
@@ -68,3 +70,13 @@ share_items before (entries ∷ shares) = items_behind (before + 2) entries ++ s
 -- the items of a joined catalogue: the header, the entries of all shares, and an end with their number
 abbrev pub joined_items : Header → List (List Entry) → List Item
 joined_items header shares = items.Header header ∷ share_items 0 shares ++ items.End (length (entries_of shares)) ∷ []
+
+-- ---- statements
+
+-- a text is that of shares under one header alone, and of one list of shares
+abbrev pub OneJoin : Type 0
+OneJoin = (text : List ℕ) (header other : Header) (shares more : List (List Entry)) → AreShares text header shares → AreShares text other more → (header ≡ other) × (shares ≡ more)
+
+-- the lines of the items that a joiner appends are the catalogue of the entries of all shares
+abbrev pub JoinedAreCatalogues : Type 0
+JoinedAreCatalogues = (header : Header) (shares : List (List Entry)) → IsShareHeader header → text_of (lines_of (joined_items header shares)) ≡ catalogue_text header (entries_of shares)

@@ -1,5 +1,6 @@
 //! What holds of shares and of joined texts, each the contract of a function that does nothing.
 ghost use Rattle.heesch_parts.specs.Faults.{SharesHaveNoFault, OneFault};
+ghost use Rattle.heesch_parts.specs.Shares.{OneJoin, JoinedAreCatalogues};
 ghost use Rattle.heesch_parts.specs.Spans.{SpansFollow, SpansCoverOnce, SpansStayWithin};
 
 /// The spans of shares 1 to k follow each other: the first begins at 0, each other where the one before it ends, and the
@@ -23,4 +24,15 @@ pub fn shares_have_no_fault()
 /// A text has one first fault at most: its line and its number.
 pub fn one_fault()
     ensures { OneFault }
+{}
+
+/// A text is that of shares in one way, so that it tells its header and the entries of each share.
+pub fn one_join()
+    ensures { OneJoin }
+{}
+
+/// The items of a joined catalogue, written one after the other, are the catalogue text of the entries of all shares under
+/// the header of the shares.
+pub fn joined_are_catalogues()
+    ensures { JoinedAreCatalogues }
 {}

@@ -1,7 +1,9 @@
 //! Shares of a catalogue, and their joining.
 #![tactic(auto)]
 
+mod input_stop;
 mod join_stop;
+mod input;
 mod joiner;
 pub mod laws;
 mod places;
@@ -9,10 +11,12 @@ mod part_line;
 mod scan;
 mod shares;
 mod stage;
+#[cfg(test)]
+mod tests;
 
+pub use input_stop::InputStop;
 pub use join_stop::JoinStop;
+pub use input::joined;
 pub use joiner::Joiner;
-pub use part_line::{PartLine, read_part_line};
 pub use places::Span;
-pub use stage::Stage;
 pub use shares::{SHARES_MAX, span};
