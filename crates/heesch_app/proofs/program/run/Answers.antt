@@ -22,7 +22,6 @@ returns-in-Err-clause-complete g c = λ accepted. absurd (c.in-Err.ensures.usage
 
 pub returns-in-Ok-clause-refused : goal.returns-in-Ok-clause-refused
 returns-in-Ok-clause-refused g c = λ usage.
-    let words = map string_bytes c.args.words.now in
     let left = g.R.Source.left c.args.source.now in
     let old = g.W.Sink.held c.args.sink.now in
     let new = g.W.Sink.held c.answer.new.sink in
@@ -30,7 +29,6 @@ returns-in-Ok-clause-refused g c = λ usage.
 
 pub returns-in-Ok-clause-untouched : goal.returns-in-Ok-clause-untouched
 returns-in-Ok-clause-untouched g c = λ usage.
-    let words = map string_bytes c.args.words.now in
     let left = g.R.Source.left c.args.source.now in
     let old = g.W.Sink.held c.args.sink.now in
     let new = g.W.Sink.held c.answer.new.sink in
@@ -39,9 +37,6 @@ returns-in-Ok-clause-untouched g c = λ usage.
 pub returns-in-Ok-clause-read_to_end : goal.returns-in-Ok-clause-read_to_end
 returns-in-Ok-clause-read_to_end g c = λ done request asks reads.
     let words = map string_bytes c.args.words.now in
-    let left = g.R.Source.left c.args.source.now in
-    let old = g.W.Sink.held c.args.sink.now in
-    let new = g.W.Sink.held c.answer.new.sink in
     let same : request ≡ c.in-Ok.request = one_request words request c.in-Ok.request asks c.in-Ok.ensures.ok in
     c.answer.ensures.ended done (subst ReadsToEnd same reads)
 
@@ -159,7 +154,6 @@ returns-in-Ok-clause-read_fault g c = λ fault.
 
 pub returns-in-Ok-clause-complete : goal.returns-in-Ok-clause-complete
 returns-in-Ok-clause-complete g c = λ accepted.
-    let words = map string_bytes c.args.words.now in
     let left = g.R.Source.left c.args.source.now in
     let old = g.W.Sink.held c.args.sink.now in
     let new = g.W.Sink.held c.answer.new.sink in
