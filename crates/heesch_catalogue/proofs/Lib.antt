@@ -1,4 +1,4 @@
 pub mod EntryLists
 mod LimitTests
 mod Readable
-mod RoundTexts
+pub mod RoundTexts
