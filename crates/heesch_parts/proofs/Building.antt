@@ -1,10 +1,9 @@
 -- What one more line makes of the lines and items so far.
-use Rattle.std.proofs.Common.{◌≡◌, ◌≢◌, ◌⊎◌, inl, inr, ℕ, suc, ◌+◌, ◌<◌, ◌≤◌, ◌==◌, ◌&&◌, Bool, true, false, List, [], ◌∷◌, ◌++◌, length, map, Option, Some, None, Result, Ok, Err, if◌then◌else◌, refl, sym, ap, subst, ◌∙◌, append_assoc, arith}
-use Rattle.std.specs.Prelude.{option_map}
+use Rattle.std.proofs.Common.{◌≡◌, ◌⊎◌, inl, inr, ℕ, ◌+◌, ◌==◌, ◌&&◌, Bool, true, false, List, [], ◌∷◌, ◌++◌, length, Option, Some, None, Result, Ok, Err, if◌then◌else◌, refl, sym, ap, subst, ◌∙◌, append_assoc, arith}
 use Rattle.std.specs.Bool.{MatchBool}
-use Rattle.std.specs.List.{AllByRecursion, flat_map}
+use Rattle.std.specs.List.{flat_map}
 use Rattle.std.proofs.lemmas.Bool.{eqb-true}
-use Rattle.std.proofs.lemmas.List.{map-append, length-append, append-nil}
+use Rattle.std.proofs.lemmas.List.{append-nil}
 use Rattle.heesch_cert.specs.declared.header.Header.{Header}
 use Rattle.heesch_cert.specs.declared.entry.Entry.{Entry}
 use Rattle.heesch_text.specs.declared.line.Line.{Line}
@@ -12,7 +11,6 @@ use Rattle.heesch_text.specs.declared.line.Line.TheVariants as lines
 use Rattle.heesch_text.specs.Catalogue.{entry_lines}
 use Rattle.heesch_line.specs.Forms.{IsLine}
 use Rattle.heesch_grammar.specs.declared.place.Place.TheVariants as places
-use Rattle.heesch_grammar.specs.declared.spot.Spot.{Spot}
 use Rattle.heesch_grammar.specs.Grammar.{steps}
 use Rattle.heesch_grammar.specs.Statements.{start as first_spot}
 use Rattle.heesch_reader.specs.declared.item.Item.{Item}
@@ -22,9 +20,9 @@ use Rattle.heesch_reader.specs.declared.progress.Progress.TheVariants as stages
 use Rattle.heesch_parts.specs.declared.part_line.PartLine.{PartLine}
 use Rattle.heesch_parts.specs.declared.part_line.PartLine.TheVariants as parts
 use Rattle.heesch_parts.specs.declared.stage.Stage.{Stage}
-use Rattle.heesch_parts.specs.PartLines.{IsShare, IsPartLine}
+use Rattle.heesch_parts.specs.PartLines.{IsShare}
 use Rattle.heesch_parts.specs.Stages.{may_join, may_be, awaits_header, Agrees, with_header, HeaderStep, share_step}
-use Rattle.heesch_parts.specs.Shares.{IsShareHeader, items_behind, share_items}
+use Rattle.heesch_parts.specs.Shares.{items_behind, share_items}
 use Rattle.heesch_parts.specs.Joining.{AreBuilt, shares_of, whole_lines, begun_lines, lines_before, IsCountOf, IsHeaderOf, HasNone, IsBehind, new_header}
 use Rattle.heesch_parts.proofs.WholeShares.{full_header}
 

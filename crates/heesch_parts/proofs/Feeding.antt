@@ -1,14 +1,13 @@
 -- What bytes make of what a joiner keeps, and the faults that they show.
-use Rattle.std.proofs.Common.{◌≡◌, ◌≢◌, ◌⊎◌, inl, inr, ℕ, suc, ◌+◌, ◌<◌, ◌≤◌, ◌^◌, ◌==◌, Bool, true, false, List, [], ◌∷◌, ◌++◌, length, map, take, drop, get_or, Option, Some, None, Result, Ok, Err, if◌then◌else◌, refl, sym, ap, subst, ◌∙◌, append_assoc, arith}
+use Rattle.std.proofs.Common.{◌≡◌, ◌≢◌, inl, inr, ℕ, ◌+◌, ◌<◌, ◌≤◌, ◌^◌, Bool, true, false, List, [], ◌∷◌, ◌++◌, length, map, Option, Some, None, Result, Ok, Err, refl, sym, ap, subst, ◌∙◌, append_assoc, arith}
 use Rattle.std.specs.Prelude.{OnOk}
-use Rattle.std.specs.List.{AllByRecursion, flat_map}
-use Rattle.std.proofs.lemmas.Bool.{eqb-true}
+use Rattle.std.specs.List.{flat_map}
 use Rattle.std.proofs.lemmas.List.{length-append, append-nil}
 use Rattle.heesch_cert.specs.declared.header.Header.{Header}
 use Rattle.heesch_cert.specs.declared.entry.Entry.{Entry}
 use Rattle.heesch_text.specs.declared.line.Line.{Line}
 use Rattle.heesch_text.specs.declared.line.Line.TheVariants as lines
-use Rattle.heesch_line.specs.Forms.{IsLine, HasNoNewline}
+use Rattle.heesch_line.specs.Forms.{HasNoNewline}
 use Rattle.heesch_text.specs.Catalogue.{entry_lines}
 use Rattle.heesch_grammar.specs.Entries.{AreEntryLines, HoldsItsLines}
 use Rattle.heesch_grammar.proofs.Heading.{shape_step, end_step}
@@ -23,16 +22,16 @@ use Rattle.heesch_parts.specs.declared.part_line.PartLine.TheVariants as parts
 use Rattle.heesch_parts.specs.declared.stage.Stage.{Stage}
 use Rattle.heesch_parts.specs.PartLines.{IsPartLine, part_words, part_text, parts_text}
 use Rattle.heesch_parts.specs.Stages.{start, Step, Walk, end_fault}
-use Rattle.heesch_parts.specs.Shares.{entries_of, items_behind, share_items, joined_items}
-use Rattle.heesch_parts.specs.Faults.{IsLineFault, EndFault, HasFault}
-use Rattle.heesch_parts.specs.Joining.{AreBuilt, Gives, Settles, Holds, TakesLine, Kept, IsFed, GoesTo, IsFrontStop, IsWholeStop, IsStopBeyond, Joins, FeedsTo, FinishesWith, Advances, HasRoom, LeavesRoom, ends_entry, new_header, shares_of, header_line, whole_lines, lines_before}
+use Rattle.heesch_parts.specs.Shares.{items_behind}
+use Rattle.heesch_parts.specs.Faults.{IsLineFault, EndFault}
+use Rattle.heesch_parts.specs.Joining.{AreBuilt, Gives, Settles, Holds, TakesLine, Kept, IsFed, GoesTo, IsFrontStop, IsWholeStop, IsStopBeyond, FeedsTo, Advances, HasRoom, LeavesRoom, ends_entry, new_header, shares_of, header_line, whole_lines}
 use Rattle.heesch_parts.specs.declared.join_stop.JoinStop.{JoinStop}
 use Rattle.heesch_parts.specs.declared.join_stop.JoinStop.TheVariants as stops
 use Rattle.heesch_parts.proofs.Growing.{mapped_long}
 use Rattle.heesch_parts.proofs.SameParts.{parts_append}
 use Rattle.heesch_parts.proofs.Stepping.{walk_push}
 use Rattle.heesch_parts.proofs.Building.{stage_of, built_share, built_header}
-use Rattle.heesch_parts.proofs.Taking.{line_stands, LineStands, whole_entry, built_inner}
+use Rattle.heesch_parts.proofs.Taking.{line_stands, whole_entry, built_inner}
 use Rattle.heesch_parts.proofs.Settling.{built_shape, built_end}
 
 -- ---- one line

@@ -1,8 +1,8 @@
 -- Bytes that may end are those of shares; and bytes one after the other.
-use Rattle.std.proofs.Common.{◌≡◌, ◌≢◌, ◌⊎◌, inl, inr, ℕ, suc, ◌+◌, ◌<◌, ◌≤◌, ◌==◌, Bool, true, false, List, [], ◌∷◌, ◌++◌, length, take, drop, get_or, Option, Some, None, Result, Ok, Err, if◌then◌else◌, refl, sym, ap, subst, ◌∙◌, append_assoc, arith}
+use Rattle.std.proofs.Common.{◌≡◌, ℕ, ◌+◌, ◌<◌, ◌==◌, Bool, true, false, List, [], ◌∷◌, ◌++◌, length, take, drop, get_or, Option, Some, None, Result, Ok, Err, if◌then◌else◌, refl, sym, ap, subst, ◌∙◌, append_assoc, arith}
 use Rattle.std.specs.Prelude.{OnOk}
 use Rattle.std.proofs.lemmas.Bool.{eqb-true}
-use Rattle.std.proofs.lemmas.List.{length-append, append-nil, take_more, take-append-drop, take_all}
+use Rattle.std.proofs.lemmas.List.{length-append, append-nil, take_more, take-append-drop}
 use Rattle.heesch_cert.specs.declared.header.Header.{Header}
 use Rattle.heesch_cert.specs.declared.entry.Entry.{Entry}
 use Rattle.heesch_reader.specs.declared.item.Item.{Item}
@@ -11,10 +11,10 @@ use Rattle.heesch_reader.specs.declared.progress.Progress.{Progress}
 use Rattle.heesch_text.specs.declared.line.Line.{Line}
 use Rattle.heesch_parts.specs.declared.part_line.PartLine.{PartLine}
 use Rattle.heesch_parts.specs.PartLines.{parts_text}
-use Rattle.heesch_parts.specs.Stages.{fault_between, fault_at_end, end_fault}
-use Rattle.heesch_parts.specs.Shares.{entries_of, items_behind, share_items, shares_from, joined_items}
+use Rattle.heesch_parts.specs.Stages.{fault_at_end, end_fault}
+use Rattle.heesch_parts.specs.Shares.{entries_of, items_behind, share_items, shares_from}
 use Rattle.heesch_parts.specs.Faults.{HasFault}
-use Rattle.heesch_parts.specs.Joining.{AreBuilt, Kept, IsFed, GoesTo, FeedsTo, IsFrontStop, Joins, FinishesWith, IsHeaderOf, HasRoom, LeavesRoom, MayGoOn, MayGoOnUnless, refusal_of, lines_before}
+use Rattle.heesch_parts.specs.Joining.{AreBuilt, Kept, IsFed, GoesTo, FeedsTo, IsFrontStop, Joins, HasRoom, LeavesRoom, MayGoOn, MayGoOnUnless, refusal_of, lines_before}
 use Rattle.heesch_parts.specs.declared.join_stop.JoinStop.{JoinStop}
 use Rattle.heesch_parts.specs.declared.join_stop.JoinStop.TheVariants as stops
 use Rattle.heesch_parts.proofs.Building.{stage_of}

@@ -11,7 +11,7 @@ use Rattle.heesch_parts.specs.declared.join_stop.JoinStop.TheVariants as join_st
 use Rattle.heesch_parts.specs.declared.input_stop.InputStop.{InputStop}
 use Rattle.heesch_parts.specs.declared.input_stop.InputStop.TheVariants as stops
 use Rattle.heesch_parts.specs.Faults.{HasFault}
-use Rattle.heesch_parts.specs.Joining.{Kept, IsFed, GoesTo, FeedsTo, IsFrontStop, IsWholeStop, IsStopBeyond, FinishesWith, Joins, LeavesRoom}
+use Rattle.heesch_parts.specs.Joining.{Kept, IsFed, GoesTo, IsFrontStop, IsWholeStop, IsStopBeyond, Joins, LeavesRoom}
 use Rattle.heesch_parts.specs.Inputs.{stop_of, AreJoined, GivesJoined, GivesFault, ReadsNoFurther, IsWholeInputStop}
 
 -- ---- known bytes

@@ -1,7 +1,7 @@
 -- A text is that of shares in one way, and their items are those of one catalogue.
-use Rattle.std.proofs.Common.{◌≡◌, ◌⊎◌, inl, inr, ℕ, ◌+◌, ◌≤◌, List, [], ◌∷◌, ◌++◌, length, map, Some, refl, sym, ap, subst, ◌∙◌, append_assoc, append-nil, arith}
+use Rattle.std.proofs.Common.{◌≡◌, inl, inr, ℕ, ◌+◌, ◌≤◌, List, [], ◌∷◌, ◌++◌, length, map, Some, refl, sym, ap, subst, ◌∙◌, append_assoc, append-nil, arith}
 use Rattle.std.specs.List.{AllByRecursion, flat_map}
-use Rattle.std.proofs.lemmas.List.{map-append, length-append}
+use Rattle.std.proofs.lemmas.List.{map-append}
 use Rattle.std.proofs.lemmas.List.Concat.{flat_map-append}
 use Rattle.heesch_cert.specs.declared.header.Header.{Header}
 use Rattle.heesch_cert.specs.declared.entry.Entry.{Entry}
@@ -11,7 +11,6 @@ use Rattle.heesch_text.specs.Lines.{text_of}
 use Rattle.heesch_text.specs.Catalogue.{entry_lines, catalogue_text}
 use Rattle.heesch_grammar.specs.Statements.{catalogue_lines}
 use Rattle.heesch_grammar.proofs.Again.{same_entry}
-use Rattle.heesch_reader.specs.declared.item.Item.{Item}
 use Rattle.heesch_reader.specs.declared.item.Item.TheVariants as items
 use Rattle.heesch_reader.specs.Items.{item_lines, lines_of}
 use Rattle.heesch_reader.specs.Feeding.{IsInside}
@@ -20,7 +19,7 @@ use Rattle.heesch_parts.specs.declared.part_line.PartLine.{PartLine}
 use Rattle.heesch_parts.specs.declared.part_line.PartLine.TheVariants as parts
 use Rattle.heesch_parts.specs.PartLines.{IsPartLine, part_words, parts_text}
 use Rattle.heesch_parts.specs.Shares.{IsEntry, IsShareHeader, AreShares, entries_of, items_behind, share_items, line_count, joined_items}
-use Rattle.heesch_parts.specs.Joining.{share_lines, whole_lines}
+use Rattle.heesch_parts.specs.Joining.{whole_lines}
 use Rattle.heesch_parts.proofs.SameParts.{part_front, along}
 use Rattle.heesch_parts.proofs.WholeShares.{NoEnd, entries_no_end, full_header, catalogue_lines_text, whole_lines_text, whole_forms}
 
@@ -97,7 +96,7 @@ same_shares i k m h g (es ∷ a) (ds ∷ b) f n e =
     let behind_b = whole_lines (i + 1) m (Some g) b in
     let rest : map parts.Catalogue (catalogue_lines entry_lines es) ++ behind_a ≡ map parts.Catalogue (catalogue_lines entry_lines ds) ++ behind_b = cc in
     let r = fronts PartNoEnd (map parts.Catalogue (flat_map entry_lines es)) (map parts.Catalogue (flat_map entry_lines ds)) (parts.Catalogue (lines.End (length es)) ∷ behind_a) (parts.Catalogue (lines.End (length ds)) ∷ behind_b)
-        (mapped_no_end (flat_map entry_lines es) (entries_no_end es)) (mapped_no_end (flat_map entry_lines ds) (entries_no_end ds)) (λ x. x) (λ x. x) (sym (ends_at es behind_a) ∙ rest ∙ ends_at ds behind_b) in
+    (mapped_no_end (flat_map entry_lines es) (entries_no_end es)) (mapped_no_end (flat_map entry_lines ds) (entries_no_end ds)) (λ x. x) (λ x. x) (sym (ends_at es behind_a) ∙ rest ∙ ends_at ds behind_b) in
     let first = same_entries es ds f.0 n.0 (mapped_same (flat_map entry_lines es) (flat_map entry_lines ds) r.0) in
     let behind : behind_a ≡ behind_b = let q = r.1 in cc in
     ap (λ (z : List Entry). z ∷ a) first ∙ ap (λ (z : List (List Entry)). ds ∷ z) (same_shares (i + 1) k m h g a b f.1 n.1 behind)
@@ -131,7 +130,7 @@ one_join text header other shares more a b =
     let first = whole_lines_text 1 k header shares (full_header header a.header_is.joins) in
     let second = whole_lines_text 1 m other more (full_header other b.header_is.joins) in
     let same = same_lines (whole_lines 1 k (Some header) shares) (whole_lines 1 m (Some other) more) (whole_forms 1 k header shares a.header_is a.each (omega arith) (omega arith) a.most a.all)
-        (whole_forms 1 m other more b.header_is b.each (omega arith) (omega arith) b.most b.all) (first ∙ sym a.text_is ∙ b.text_is ∙ sym second) in
+    (whole_forms 1 m other more b.header_is b.each (omega arith) (omega arith) b.most b.all) (first ∙ sym a.text_is ∙ b.text_is ∙ sym second) in
     (same_header 1 k m header other shares more a.some same, same_shares 1 k m header other shares more a.each b.each same)
 
 -- ---- the joined catalogue

@@ -1,9 +1,7 @@
 -- Lines in one text are the same lines, as far as both go.
-use Rattle.std.proofs.Common.{◌≡◌, ◌⊎◌, inl, inr, ℕ, ◌+◌, ◌≤◌, List, [], ◌∷◌, ◌++◌, length, refl, sym, ap, ◌∙◌, append_assoc, arith}
+use Rattle.std.proofs.Common.{◌≡◌, ◌⊎◌, inl, inr, ℕ, List, [], ◌∷◌, ◌++◌, refl, sym, ap, ◌∙◌, append_assoc}
 use Rattle.std.specs.List.{AllByRecursion}
-use Rattle.std.proofs.lemmas.List.{length-append}
 use Rattle.std.proofs.lemmas.List.Concat.{flat_map-append}
-use Rattle.heesch_line.specs.Forms.{HasNoNewline}
 use Rattle.heesch_reader.proofs.SameLines.{one_first_line}
 use Rattle.heesch_parts.specs.declared.part_line.PartLine.{PartLine}
 use Rattle.heesch_parts.specs.PartLines.{part_words, part_text, parts_text, IsPartLine}

@@ -1,9 +1,9 @@
 -- What the line of another shape, or the end of a share, makes of the lines and items so far.
-use Rattle.std.proofs.Common.{◌≡◌, ◌≢◌, ◌⊎◌, inl, inr, ℕ, suc, ◌+◌, ◌<◌, ◌≤◌, ◌==◌, ◌&&◌, Bool, true, false, List, [], ◌∷◌, ◌++◌, length, map, Option, Some, None, Result, Ok, Err, if◌then◌else◌, refl, sym, ap, subst, ◌∙◌, append_assoc, arith}
+use Rattle.std.proofs.Common.{◌≡◌, inr, ℕ, ◌+◌, ◌≤◌, ◌==◌, ◌&&◌, Bool, true, false, List, [], ◌∷◌, ◌++◌, length, map, Option, Some, None, Ok, Err, if◌then◌else◌, refl, sym, ap, subst, ◌∙◌, append_assoc, arith}
 use Rattle.std.specs.List.{AllByRecursion, flat_map}
 use Rattle.std.proofs.lemmas.Bool.{eqb-true}
 use Rattle.std.proofs.lemmas.Bool.Decides.{nat_tests}
-use Rattle.std.proofs.lemmas.List.{map-append, length-append, append-nil}
+use Rattle.std.proofs.lemmas.List.{length-append, append-nil}
 use Rattle.heesch_grid.specs.declared.Cell.{Cell}
 use Rattle.heesch_cert.specs.declared.header.Header.{Header}
 use Rattle.heesch_cert.specs.declared.entry.Entry.{Entry}
@@ -13,21 +13,19 @@ use Rattle.heesch_text.specs.Catalogue.{entry_lines}
 use Rattle.heesch_line.specs.Forms.{IsLine}
 use Rattle.heesch_grammar.specs.declared.place.Place.TheVariants as places
 use Rattle.heesch_grammar.specs.declared.spot.Spot.{Spot}
-use Rattle.heesch_grammar.specs.Grammar.{step, steps, is_whole}
-use Rattle.heesch_grammar.specs.Statements.{catalogue_lines}
-use Rattle.heesch_grammar.proofs.Heading.{shape_step, end_step}
+use Rattle.heesch_grammar.specs.Grammar.{step, is_whole}
+use Rattle.heesch_grammar.proofs.Heading.{shape_step}
 use Rattle.heesch_grammar.proofs.Inside.{given_some}
 use Rattle.heesch_grammar.proofs.Running.{step_between}
 use Rattle.heesch_reader.specs.declared.item.Item.{Item}
-use Rattle.heesch_reader.specs.declared.progress.Progress.{Progress}
 use Rattle.heesch_reader.specs.declared.progress.Progress.TheVariants as stages
 use Rattle.heesch_reader.proofs.Walking.{all_append}
 use Rattle.heesch_parts.specs.declared.part_line.PartLine.{PartLine}
 use Rattle.heesch_parts.specs.declared.part_line.PartLine.TheVariants as parts
 use Rattle.heesch_parts.specs.declared.stage.Stage.{Stage}
 use Rattle.heesch_parts.specs.Stages.{led}
-use Rattle.heesch_parts.specs.Shares.{IsEntry, entries_of, items_behind, share_items}
-use Rattle.heesch_parts.specs.Joining.{AreBuilt, Gives, shares_of, header_line, header_item, whole_lines, begun_lines, share_lines, lines_before, IsCountOf, IsHeaderOf, IsBehind}
+use Rattle.heesch_parts.specs.Shares.{IsEntry, items_behind, share_items}
+use Rattle.heesch_parts.specs.Joining.{AreBuilt, Gives, shares_of, header_line, header_item, whole_lines, begun_lines, share_lines, lines_before, IsCountOf, IsHeaderOf}
 use Rattle.heesch_parts.proofs.Growing.{entries_append, whole_append, share_items_append, entries_of_append}
 use Rattle.heesch_parts.proofs.Building.{stage_of, counted_on}
 use Rattle.heesch_parts.proofs.Taking.{push_line, lines_so_far, counts, made_entries, given_more, header_on}

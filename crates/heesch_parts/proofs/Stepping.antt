@@ -1,13 +1,12 @@
 -- A line leads to one stage at most, and so do lines.
-use Rattle.std.proofs.Common.{◌≡◌, ◌⊎◌, inl, inr, ℕ, Bool, true, false, List, [], ◌∷◌, ◌++◌, Result, Ok, Err, refl, sym, ap, subst, ◌∙◌}
+use Rattle.std.proofs.Common.{◌≡◌, ◌⊎◌, inl, inr, ℕ, Bool, true, false, List, [], ◌∷◌, ◌++◌, Result, Ok, Err, refl, sym, subst, ◌∙◌}
 use Rattle.std.specs.Bool.{MatchBool}
-use Rattle.heesch_cert.specs.declared.header.Header.{Header}
 use Rattle.heesch_text.specs.declared.line.Line.{Line}
 use Rattle.heesch_text.specs.declared.line.Line.TheVariants as lines
 use Rattle.heesch_parts.specs.declared.part_line.PartLine.{PartLine}
 use Rattle.heesch_parts.specs.declared.part_line.PartLine.TheVariants as parts
 use Rattle.heesch_parts.specs.declared.stage.Stage.{Stage}
-use Rattle.heesch_parts.specs.Stages.{may_join, awaits_header, Agrees, with_header, HeaderStep, CatalogueStep, Step, Walk}
+use Rattle.heesch_parts.specs.Stages.{may_join, awaits_header, Agrees, with_header, CatalogueStep, Step, Walk}
 
 by_tests : (join awaited : Bool) (A : Type 0) (next : Stage) (r q : Result Stage ℕ)
     → MatchBool join (MatchBool awaited ((A × (r ≡ Ok next)) ⊎ ((A → ⊥) × (r ≡ Err 10))) (r ≡ Err 6)) (r ≡ Err 10)

@@ -1,11 +1,8 @@
 -- What one more line of a catalogue makes of the lines and items so far.
-use Rattle.std.proofs.Common.{◌≡◌, ◌≢◌, ◌⊎◌, inl, inr, ℕ, suc, ◌+◌, ◌<◌, ◌≤◌, ◌==◌, ◌&&◌, Bool, true, false, List, [], ◌∷◌, ◌++◌, length, map, Option, Some, None, Result, Ok, Err, if◌then◌else◌, refl, sym, ap, subst, ◌∙◌, append_assoc, arith}
+use Rattle.std.proofs.Common.{◌≡◌, ◌≢◌, inl, inr, ℕ, ◌+◌, Bool, true, false, List, [], ◌∷◌, ◌++◌, length, map, Option, Some, None, Ok, refl, sym, ap, subst, ◌∙◌, append_assoc, arith}
 use Rattle.std.specs.Prelude.{option_map}
 use Rattle.std.specs.List.{AllByRecursion, flat_map}
-use Rattle.std.proofs.lemmas.Bool.{eqb-true}
-use Rattle.std.proofs.lemmas.Bool.Decides.{nat_tests}
-use Rattle.std.proofs.lemmas.List.{map-append, length-append, append-nil}
-use Rattle.heesch_grid.specs.declared.Cell.{Cell}
+use Rattle.std.proofs.lemmas.List.{map-append, length-append}
 use Rattle.heesch_cert.specs.declared.header.Header.{Header}
 use Rattle.heesch_cert.specs.declared.entry.Entry.{Entry}
 use Rattle.heesch_text.specs.declared.line.Line.{Line}
@@ -16,9 +13,8 @@ use Rattle.heesch_grammar.specs.declared.place.Place.TheVariants as places
 use Rattle.heesch_grammar.specs.declared.spot.Spot.{Spot}
 use Rattle.heesch_grammar.specs.Grammar.{step, steps, is_whole}
 use Rattle.heesch_grammar.specs.Entries.{AreEntryLines}
-use Rattle.heesch_grammar.proofs.Heading.{IsInner, inner_place, shape_step, end_step}
-use Rattle.heesch_grammar.proofs.Inside.{given_some}
-use Rattle.heesch_grammar.proofs.Running.{steps_push, step_between, are_entry_lines}
+use Rattle.heesch_grammar.proofs.Heading.{IsInner, inner_place}
+use Rattle.heesch_grammar.proofs.Running.{steps_push, are_entry_lines}
 use Rattle.heesch_reader.specs.declared.item.Item.{Item}
 use Rattle.heesch_reader.specs.declared.progress.Progress.{Progress}
 use Rattle.heesch_reader.specs.declared.progress.Progress.TheVariants as stages
@@ -28,9 +24,9 @@ use Rattle.heesch_parts.specs.declared.part_line.PartLine.{PartLine}
 use Rattle.heesch_parts.specs.declared.part_line.PartLine.TheVariants as parts
 use Rattle.heesch_parts.specs.declared.stage.Stage.{Stage}
 use Rattle.heesch_parts.specs.Stages.{led, led_to, line_step}
-use Rattle.heesch_parts.specs.Shares.{IsEntry, entries_of, items_behind, share_items}
-use Rattle.heesch_parts.specs.Joining.{AreBuilt, Gives, IsMade, shares_of, header_line, header_item, whole_lines, begun_lines, lines_before, IsBehind, IsCountOf, IsHeaderOf}
-use Rattle.heesch_parts.proofs.Growing.{entries_append, items_append, whole_append, share_items_append, entries_of_append, mapped_long, whole_long}
+use Rattle.heesch_parts.specs.Shares.{IsEntry, items_behind}
+use Rattle.heesch_parts.specs.Joining.{AreBuilt, Gives, IsMade, shares_of, header_line, whole_lines, begun_lines, lines_before, IsBehind, IsHeaderOf}
+use Rattle.heesch_parts.proofs.Growing.{items_append, mapped_long, whole_long}
 use Rattle.heesch_parts.proofs.Building.{stage_of, counted_on}
 
 -- ---- where a line stands

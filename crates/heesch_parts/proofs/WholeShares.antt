@@ -1,5 +1,5 @@
 -- The lines of whole shares: where they lead, their forms and their text.
-use Rattle.std.proofs.Common.{◌≡◌, ◌≢◌, ◌⊎◌, inl, inr, ℕ, suc, ◌+◌, ◌<◌, ◌≤◌, ◌==◌, ◌&&◌, Bool, true, false, not, List, [], ◌∷◌, ◌++◌, length, map, Option, Some, None, Result, Ok, Err, if◌then◌else◌, refl, sym, ap, subst, ◌∙◌, append_assoc, arith}
+use Rattle.std.proofs.Common.{◌≡◌, ◌⊎◌, inl, inr, ℕ, suc, ◌+◌, ◌<◌, ◌≤◌, ◌==◌, ◌&&◌, Bool, true, false, not, List, [], ◌∷◌, ◌++◌, length, map, Option, Some, None, Result, Ok, Err, if◌then◌else◌, refl, sym, ap, subst, ◌∙◌, append_assoc, arith}
 use Rattle.std.specs.Bool.{MatchBool}
 use Rattle.std.specs.List.{AllByRecursion, flat_map}
 use Rattle.std.proofs.lemmas.Bool.{eq-eqb}
@@ -15,7 +15,6 @@ use Rattle.heesch_text.specs.Lines.{line_text, text_of}
 use Rattle.heesch_text.specs.Catalogue.{header_text, entry_lines, entry_text, brief_text, entries_text, end_text, catalogue_text}
 use Rattle.heesch_line.specs.Forms.{IsLine}
 use Rattle.heesch_grammar.specs.declared.spot.Spot.{Spot}
-use Rattle.heesch_grammar.specs.declared.place.Place.TheVariants as places
 use Rattle.heesch_grammar.specs.Grammar.{step, steps}
 use Rattle.heesch_grammar.specs.Statements.{catalogue_lines}
 use Rattle.heesch_grammar.specs.Statements.{start as first_spot}
@@ -32,7 +31,7 @@ use Rattle.heesch_parts.specs.declared.stage.Stage.{Stage}
 use Rattle.heesch_parts.specs.PartLines.{IsShare, IsPartLine, part_text, parts_text}
 use Rattle.heesch_parts.specs.Stages.{may_join, has_size, may_be, share_behind, Agrees, with_header, led, led_to, line_step, Step, Walk}
 use Rattle.heesch_parts.specs.Shares.{IsEntry, IsShareHeader, entries_of, share_text, shares_from}
-use Rattle.heesch_parts.specs.Joining.{header_line, share_lines, whole_lines}
+use Rattle.heesch_parts.specs.Joining.{share_lines, whole_lines}
 use Rattle.heesch_parts.proofs.EntrySteps.{rises, entries_on, end_stands}
 use Rattle.heesch_parts.proofs.Stepping.{walk_append}
 

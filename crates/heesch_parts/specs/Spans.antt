@@ -1,5 +1,7 @@
 -- The places of a list that a share of it has.
-use Rattle.std.specs.Prelude.{◌≡◌, ℕ, ◌+◌, ◌-◌, ◌*◌, ◌/◌, ◌<◌, ◌≤◌}
+use Rattle.std.specs.Prelude.{◌≡◌, ℕ, ◌+◌, ◌-◌, ◌*◌, ◌/◌, ◌<◌, ◌≤◌, List, length, map, take, drop}
+use Rattle.std.specs.List.{flat_map, range_with_len}
+use Rattle.heesch_grid.specs.declared.Cell.{Cell}
 use Rattle.heesch_parts.specs.declared.places.Span.{Span}
 
 -- where share i of k of a list ends, and the next one begins: i/k of its length, rounded down
@@ -34,3 +36,17 @@ SpansCoverOnce = (length k place : ℕ) → 1 ≤ k → place < length → (i : 
 -- and no span has a place beyond the list
 abbrev pub SpansStayWithin : Type 0
 SpansStayWithin = (length k place i : ℕ) → HasPlace length k place i → place < length
+
+-- ---- a list and its shares
+
+-- the items of a list at the places of a span
+abbrev pub items_at : {A : Type 0} → Span → List A → List A
+items_at span items = take (span.until - span.from) (drop span.from items)
+
+-- shares 1 to k of a list
+abbrev pub shares_of_list : {A : Type 0} → ℕ → List A → List (List A)
+shares_of_list k items = map (λ i. items_at (span_of (length items) i k) items) (range_with_len 1 k)
+
+-- the shares of a list of shapes, one behind the other, are the list
+abbrev pub SharesAreTheList : Type 0
+SharesAreTheList = (k : ℕ) (shapes : List (List Cell)) → 1 ≤ k → flat_map (λ (share : List (List Cell)). share) (shares_of_list k shapes) ≡ shapes

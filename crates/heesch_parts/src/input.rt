@@ -14,13 +14,13 @@ use std::alloc::Global;
 /// The most bytes of a piece.
 const PIECE_MAX: usize = 4096;
 
-/// The items of the catalogue that is joined of the share texts that the source has left: the first header, the entries of
-/// all shares in their order, and an end with their number. Or the first fault of those texts.
+/// The items of the catalogue that is joined of the share texts that the source has left: the first header, the
+/// entries of all shares in their order, and an end with their number. Or the first fault of those texts.
 ///
-/// At most `MOST` bytes are read, and one more that shows that the input is longer: then fault 8 comes where no line that
-/// ends in these bytes is at fault. Reading stops with the piece that shows the first fault, and items come at the end of
-/// the input alone. `Failed` comes only where the source's count of faults rose, and `NoMemory` where memory was refused.
-/// The cost is linear in the input. It keeps the items, and the lines of one entry.
+/// At most `MOST` bytes are read, and one more that shows that the input is longer: then fault 8 comes where no line
+/// that ends in these bytes is at fault. Reading stops with the piece that shows the first fault, and items come at the
+/// end of the input alone. `Failed` comes only where the source's count of faults rose, and `NoMemory` where memory was
+/// refused. The cost is linear in the input. It keeps the items, and the lines of one entry.
 pub fn joined<R: Source, const MOST: u64>(
     alloc: Global,
     source: &mut R,

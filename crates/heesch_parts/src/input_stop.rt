@@ -10,8 +10,8 @@ use thiserror::Error;
 /// Why an input isn't joined.
 #[derive(Clone, Copy, Debug, PartialEq, Eq, Error)]
 pub enum InputStop {
-    /// The first line at fault, from 1, and the number of its fault: one of a `JoinStop`, or 8 where the input goes on in
-    /// the line beyond the most bytes that are read.
+    /// The first line at fault, from 1, and the number of its fault: one of a `JoinStop`, or 8 where the input
+    /// goes on in the line beyond the most bytes that are read.
     #[error("line {line} has fault {fault}")]
     Fault { line: u64, fault: u32 },
     /// The source failed.

@@ -1,10 +1,10 @@
 //! What holds of shares and of joined texts, each the contract of a function that does nothing.
 ghost use Rattle.heesch_parts.specs.Faults.{SharesHaveNoFault, OneFault};
 ghost use Rattle.heesch_parts.specs.Shares.{OneJoin, JoinedAreCatalogues};
-ghost use Rattle.heesch_parts.specs.Spans.{SpansFollow, SpansCoverOnce, SpansStayWithin};
+ghost use Rattle.heesch_parts.specs.Spans.{SpansFollow, SpansCoverOnce, SpansStayWithin, SharesAreTheList};
 
-/// The spans of shares 1 to k follow each other: the first begins at 0, each other where the one before it ends, and the
-/// last ends at the length.
+/// The spans of shares 1 to k follow each other: the first begins at 0, each other where the one before it ends, and
+/// the last ends at the length.
 pub fn spans_follow()
     ensures { SpansFollow }
 {}
@@ -13,6 +13,11 @@ pub fn spans_follow()
 pub fn spans_cover_once()
     ensures once { SpansCoverOnce }
     ensures within { SpansStayWithin }
+{}
+
+/// The shares of a list of shapes, by their spans and one behind the other, are the list.
+pub fn shares_are_the_list()
+    ensures { SharesAreTheList }
 {}
 
 /// The text of K shares has no fault, where no more bytes than are read are in it. So a joiner's `finish` answers Ok
@@ -31,8 +36,8 @@ pub fn one_join()
     ensures { OneJoin }
 {}
 
-/// The items of a joined catalogue, written one after the other, are the catalogue text of the entries of all shares under
-/// the header of the shares.
+/// The items of a joined catalogue, written one after the other, are the catalogue text of the entries of all shares
+/// under the header of the shares.
 pub fn joined_are_catalogues()
     ensures { JoinedAreCatalogues }
 {}

@@ -38,7 +38,8 @@ impl PartLine {
 /// has them, and `NoMemory` where memory was refused. The cost is linear in the bytes.
 pub fn read_part_line(alloc: Global, bytes: &[u8]) -> Result<PartLine, LineFault>
     ensures ok { IfOk result (λ line. IsPartLine line × (part_words line ≡ bytes.now)) }
-    ensures not_a_line { result ≡ Err faults.NotALine → (line : PartLine) → IsPartLine line → part_words line ≢ bytes.now }
+    ensures not_a_line { result ≡ Err faults.NotALine → (line : PartLine) → IsPartLine line
+        → part_words line ≢ bytes.now }
 {
     match bytes.strip_prefix(b"share") {
         Some(numbers) => read_share(alloc, numbers),

@@ -3,7 +3,20 @@ ghost use Rattle.std.specs.Prelude.{◌≡◌, ◌≢◌, ◌==◌, ◌+◌, ◌
 ghost use Rattle.heesch_grammar.specs.Entries.{AreEntryLines};
 ghost use Rattle.heesch_reader.specs.declared.item.Item.{Item};
 ghost use Rattle.heesch_parts.specs.PartLines.{IsPartLine};
-ghost use Rattle.heesch_parts.specs.Joining.{IsFed, MayGoOn, FeedsTo, FinishesWith, IsStopBeyond, Settles, Holds, Advances, HasRoom, LeavesRoom, ends_entry, kept_of};
+ghost use Rattle.heesch_parts.specs.Joining.{
+  IsFed,
+  MayGoOn,
+  FeedsTo,
+  FinishesWith,
+  IsStopBeyond,
+  Settles,
+  Holds,
+  Advances,
+  HasRoom,
+  LeavesRoom,
+  ends_entry,
+  kept_of,
+};
 
 use crate::join_stop::JoinStop;
 use crate::part_line::{PartLine, read_part_line};
@@ -52,7 +65,8 @@ impl Scan {
         requires room { self.old.lines + length self.old.line.items + length piece.now < 2 ^ 64 }
         ensures fed { (before : List ℕ) (given : List Item) → IsFed before given (kept_of self.old)
             → FeedsTo (before ++ piece.now) given items.old items.new (kept_of self.new) result }
-        ensures room { OnOk result (LeavesRoom (kept_of self.old) (kept_of self.new) (length piece.now) × HasRoom (kept_of self.new)) }
+        ensures room { OnOk result (LeavesRoom (kept_of self.old) (kept_of self.new) (length piece.now)
+            × HasRoom (kept_of self.new)) }
     {
         for &byte in piece {
             self.take_byte(byte, items)?;
@@ -82,7 +96,8 @@ impl Scan {
     /// The fault of a text that goes on behind the most bytes that are read.
     pub fn beyond(&self) -> JoinStop
         requires { HasRoom (kept_of self.now) }
-        ensures { (before : List ℕ) (given : List Item) → IsFed before given (kept_of self.now) → IsStopBeyond before result }
+        ensures { (before : List ℕ) (given : List Item) → IsFed before given (kept_of self.now)
+            → IsStopBeyond before result }
     {
         self.fault(TOO_LONG)
     }

@@ -1,4 +1,6 @@
 //! The shares of a small catalogue joined, and texts that aren't shares. The faults are worked by hand.
+ghost use Rattle.std.specs.Prelude.{◌<◌};
+
 use crate::{InputStop, Span, joined, span};
 use heesch_io::{MemorySource, NoMemory, Seq};
 use heesch_reader::Item;
@@ -71,7 +73,9 @@ fn join(
     front: &str,
     back: &str,
     size: usize,
-) -> Result<Result<Seq<Item>, InputStop>, NoMemory> {
+) -> Result<Result<Seq<Item>, InputStop>, NoMemory>
+    requires { 0 < size }
+{
     let mut bytes = Vec::new(alloc);
     bytes.extend_from_slice(front.as_bytes())?;
     bytes.extend_from_slice(back.as_bytes())?;
@@ -132,7 +136,11 @@ fn the_first_fault_is_told(rt: HostRuntime) -> Result<(), Fail> {
         (FIRST, WHOLE, 12, 6),
     ] {
         let stop = InputStop::Fault { line, fault };
-        assert_eq!(rt; join(rt.alloc(), front, back, 100)?.err(), Some(stop), "{front}{back}");
+        assert_eq!(rt;
+            join(rt.alloc(), front, back, 100)?.err(),
+            Some(stop),
+            "{front}{back}"
+        );
     }
     Ok(())
 }
@@ -141,13 +149,37 @@ fn the_first_fault_is_told(rt: HostRuntime) -> Result<(), Fail> {
 fn a_header_has_to_be_the_first(rt: HostRuntime) -> Result<(), Fail> {
     for (front, back, line, fault) in [
         (HEADER, "", 1, 6),
-        ("brief 1 square 4 turns 1 levels 1 domain 1 size 1\n", "", 1, 10),
-        ("share 1 1\n", "heesch 1 square given turns 1 levels 1 domain 1 size 1\n", 2, 10),
-        (FIRST, "share 2 2\nheesch 1 square 4 turns 1 levels 1 domain 1 size 1\n", 13, 10),
-        ("share 1 1\nheesch 3 square 4 turns 1 levels 1 domain 1 size 1\n", "", 2, 6),
+        (
+            "brief 1 square 4 turns 1 levels 1 domain 1 size 1\n",
+            "",
+            1,
+            10,
+        ),
+        (
+            "share 1 1\n",
+            "heesch 1 square given turns 1 levels 1 domain 1 size 1\n",
+            2,
+            10,
+        ),
+        (
+            FIRST,
+            "share 2 2\nheesch 1 square 4 turns 1 levels 1 domain 1 size 1\n",
+            13,
+            10,
+        ),
+        (
+            "share 1 1\nheesch 3 square 4 turns 1 levels 1 domain 1 size 1\n",
+            "",
+            2,
+            6,
+        ),
     ] {
         let stop = InputStop::Fault { line, fault };
-        assert_eq!(rt; join(rt.alloc(), front, back, 100)?.err(), Some(stop), "{front}{back}");
+        assert_eq!(rt;
+            join(rt.alloc(), front, back, 100)?.err(),
+            Some(stop),
+            "{front}{back}"
+        );
     }
     Ok(())
 }

@@ -1,7 +1,6 @@
-use Rattle.std.proofs.Common.{◌≡◌, ◌≤◌, ◌<◌, ◌+◌, ◌-◌, min, length, Err, rules, arith}
-use Rattle.heesch_parts.specs.declared.input_stop.InputStop.TheVariants.{Failed}
+use Rattle.std.proofs.Common.{◌≡◌, ◌≤◌, ◌<◌, ◌+◌, ◌-◌, min, length, rules, arith}
 use Rattle.heesch_parts.specs.Inputs.{GivesFault, stop_of}
-use Rattle.heesch_parts.proofs.Going.{going_on, piece_stops, not_failed, end_given, end_stopped, end_not_failed, goes_beyond, no_further, no_further_kept}
+use Rattle.heesch_parts.proofs.Going.{going_on, piece_stops, end_given, end_stopped, end_not_failed, goes_beyond, no_further, no_further_kept}
 use Rattle.heesch_parts.proofs.input.joined.Goals as goal
 
 pub returns-in_err-read-clause-no_further : goal.returns-in_err-read-clause-no_further

@@ -1,5 +1,4 @@
-use Rattle.std.proofs.Common.{◌≡◌, ◌≢◌, true, false, [], ◌∙◌, sym, rules}
-use Rattle.heesch_grammar.specs.Entries.{AreEntryLines}
+use Rattle.std.proofs.Common.{◌≡◌, ◌≢◌, true, [], rules}
 use Rattle.heesch_parts.specs.Joining.{ends_entry}
 use Rattle.heesch_parts.proofs.Feeding.{settles}
 use Rattle.heesch_parts.proofs.scan.settle.Goals as goal

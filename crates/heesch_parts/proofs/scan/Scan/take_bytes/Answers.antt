@@ -1,6 +1,6 @@
-use Rattle.std.proofs.Common.{◌≡◌, List, ℕ, ◌++◌, take, sym, subst, append-nil, arith, rules}
+use Rattle.std.proofs.Common.{List, ℕ, ◌++◌, take, sym, subst, append-nil, arith, rules}
 use Rattle.std.proofs.lemmas.List.{take_all}
-use Rattle.heesch_parts.specs.Joining.{IsFed, GoesTo, IsFrontStop, kept_of}
+use Rattle.heesch_parts.specs.Joining.{GoesTo, IsFrontStop, kept_of}
 use Rattle.heesch_parts.proofs.Finishing.{nothing_new, goes_on, byte_more, byte_stops}
 use Rattle.heesch_parts.proofs.scan.Scan.take_bytes.Goals as goal
 

@@ -1,4 +1,4 @@
-use Rattle.std.proofs.Common.{◌≡◌, [], length, sym, rules, ◌∙◌}
+use Rattle.std.proofs.Common.{◌≡◌, [], length, sym, rules}
 use Rattle.std.proofs.lemmas.Bool.{eqb-true}
 use Rattle.std.proofs.lemmas.List.{nil_from_length}
 use Rattle.heesch_parts.specs.Joining.{kept_of}
