@@ -1,6 +1,6 @@
 -- A whole output is a beginning of it.
 use Rattle.std.proofs.Common.{◌≡◌, ℕ, List, length, refl, sym, ap, ◌∙◌, subst, arith, inl, inr}
-use Rattle.std.specs.Prelude.{Option}
+use Rattle.std.specs.Prelude.{Option, false}
 use Rattle.std.proofs.lemmas.Bool.{eq-eqb}
 use Rattle.std.proofs.lemmas.List.{take_all, length-map}
 use Rattle.heesch_cert.specs.declared.entry.Entry.{Entry}
@@ -11,8 +11,9 @@ use Rattle.heesch_grid.specs.Geometry.{Geometry}
 use Rattle.heesch_grid.specs.Names.{geometry_of}
 use Rattle.heesch_text.specs.Catalogue.{catalogue_text, begun_text}
 use Rattle.heesch_words.specs.declared.requests.Request.{Request}
-use Rattle.heesch_words.specs.declared.requests.Request.TheVariants.{List as ListRequest, Plain as PlainRequest, Classify as ClassifyRequest, Check as CheckRequest, Table as TableRequest, Sample as SampleRequest, Formula as FormulaRequest, Answer as AnswerRequest}
+use Rattle.heesch_words.specs.declared.requests.Request.TheVariants.{List as ListRequest, Plain as PlainRequest, Classify as ClassifyRequest, Check as CheckRequest, Table as TableRequest, Sample as SampleRequest, Formula as FormulaRequest, Answer as AnswerRequest, Share as ShareRequest, Join as JoinRequest}
 use Rattle.heesch_catalogue.specs.Catalogues.{AreEntries, IsCatalogue, IsBegunCatalogue}
+use Rattle.heesch_share.specs.Written.{shapes_of_share}
 use Rattle.heesch_app.specs.declared.status.Status.{Status}
 use Rattle.heesch_app.specs.Outputs.{IsOutput, IsBegunOutput, IsGivenAnswer, IsBegunGivenAnswer, header_of}
 
@@ -42,3 +43,6 @@ begins_itself TableRequest left status output is = (status, is)
 begins_itself (SampleRequest grid n count seed limits workers) left status output is = (status, is)
 begins_itself (FormulaRequest grid level size version) left status output is = (status, is)
 begins_itself (AnswerRequest grid level size version) left status output is = (status, is)
+begins_itself (ShareRequest grid n i k limits workers) left status output (_, (shapes, free, (catalogue, is, same))) =
+    (shapes, free, (catalogue, begun_whole (geometry_of grid) (header_of grid (Size n) limits false) (shapes_of_share i k shapes) catalogue is, same))
+begins_itself JoinRequest left status output is = (status, is)

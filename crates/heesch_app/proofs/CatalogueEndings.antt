@@ -1,6 +1,6 @@
--- How `classify` ends.
+-- How `classify` and `share` end.
 use Rattle.std.proofs.Common.{◌≡◌, ℕ, List, Bool, refl, sym, subst, inl, inr}
-use Rattle.std.specs.Prelude.{Option, Result, Ok, Err, IfOk, IfErr, OnOk, OnErr}
+use Rattle.std.specs.Prelude.{false, Option, Result, Ok, Err, IfOk, IfErr, OnOk, OnErr}
 use Rattle.heesch_catalogue.specs.declared.rounds.WriteStop.{WriteStop}
 use Rattle.heesch_catalogue.specs.Catalogues.{IsBegunCatalogue, IsBegunCatalogueOfSize, IsCatalogue, IsCatalogueOfSize}
 use Rattle.heesch_catalogue.specs.Rounds.{BeginsOne, WritesOne}
@@ -14,9 +14,10 @@ use Rattle.heesch_grid.specs.declared.Cell.{Cell}
 use Rattle.heesch_grid.specs.declared.GridName.{GridName}
 use Rattle.heesch_grid.specs.Geometry.{Geometry}
 use Rattle.heesch_grid.specs.Names.{geometry_of}
+use Rattle.heesch_share.specs.Written.{IsBegunShareOfSize, IsShareOfSize}
 use Rattle.heesch_stream.specs.Taking.{input_max}
 use Rattle.heesch_words.specs.declared.requests.Request.{Request}
-use Rattle.heesch_words.specs.declared.requests.Request.TheVariants.{Classify as ClassifyRequest}
+use Rattle.heesch_words.specs.declared.requests.Request.TheVariants.{Classify as ClassifyRequest, Share as ShareRequest}
 use Rattle.heesch_app.specs.declared.reading.ReadStop.{ReadStop}
 use Rattle.heesch_app.specs.declared.reply.Reply.{Reply}
 use Rattle.heesch_app.specs.declared.status.Status.{Status}
@@ -109,3 +110,19 @@ given_ends request grid subject limits workers brief left old new result is give
     subst (λ s. EndsAs (IsOutput (ClassifyRequest grid s limits workers brief) left) (IsBegunOutput (ClassifyRequest grid s limits workers brief) left) old new result) (sym given) of_given
     in
     subst (λ r. EndsAs (IsOutput r left) (IsBegunOutput r left) old new result) (sym is) of_subject
+
+-- the request is for a share of the catalogue of a size
+pub share_ends : {A : Type 0} (request : Request) (grid : GridName) (n i k : ℕ) (limits : Limits) (workers : ℕ) (left old new : Option (List ℕ))
+    (written : Result A WriteStop) (result : Status) → request ≡ ShareRequest grid n i k limits workers
+    → OnOk written (WritesOne (IsShareOfSize (geometry_of grid) (header_of grid (Size n) limits false) n i k) old new)
+    → OnErr written (BeginsOne (IsBegunShareOfSize (geometry_of grid) (header_of grid (Size n) limits false) n i k) old new)
+    → result ≡ written_status written → EndsAs (IsOutput request left) (IsBegunOutput request left) old new result
+share_ends {A} request grid n i k limits workers left old new written result is ok err same =
+    let g = geometry_of grid in
+    let header = header_of grid (Size n) limits false in
+    let asked = ShareRequest grid n i k limits workers in
+    let ends : EndsAs (IsOutput asked left) (IsBegunOutput asked left) old new result =
+    writing_ends (IsOutput asked left) (IsBegunOutput asked left) (IsShareOfSize g header n i k) (IsBegunShareOfSize g header n i k) old new written result
+    (λ output whole. (refl, whole)) (λ output begun. begun) ok err same
+    in
+    subst (λ r. EndsAs (IsOutput r left) (IsBegunOutput r left) old new result) (sym is) ends

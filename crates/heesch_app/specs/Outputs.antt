@@ -1,5 +1,5 @@
 -- What a run writes, by its words.
-use Rattle.std.specs.Prelude.{◌≡◌, ℕ, Bool, false, List, map, Option, ◌⊎◌, All, ⊤}
+use Rattle.std.specs.Prelude.{◌≡◌, ◌≤◌, ℕ, Bool, false, List, length, map, Option, ◌⊎◌, All, ⊤}
 use Rattle.std.specs.Io.KnownBytes.{Appends, Keeps}
 use Rattle.heesch_io.specs.Contents.{AppendsPrefix}
 use Rattle.heesch_cert.specs.declared.entry.Entry.{Entry}
@@ -19,7 +19,7 @@ use Rattle.heesch_text.specs.Plains.{plain_list_text}
 use Rattle.heesch_text.specs.Shapes.{list_text}
 use Rattle.heesch_tiling.specs.declared.found.Plain.{Plain}
 use Rattle.heesch_words.specs.declared.requests.Request.{Request}
-use Rattle.heesch_words.specs.declared.requests.Request.TheVariants.{List as ListRequest, Plain as PlainRequest, Classify as ClassifyRequest, Check as CheckRequest, Table as TableRequest, Sample as SampleRequest, Formula as FormulaRequest, Answer as AnswerRequest}
+use Rattle.heesch_words.specs.declared.requests.Request.TheVariants.{List as ListRequest, Plain as PlainRequest, Classify as ClassifyRequest, Check as CheckRequest, Table as TableRequest, Sample as SampleRequest, Formula as FormulaRequest, Answer as AnswerRequest, Share as ShareRequest, Join as JoinRequest}
 use Rattle.heesch_words.specs.Requests.{Asks}
 use Rattle.heesch_app.specs.declared.status.Status.{Status}
 use Rattle.heesch_app.specs.declared.status.Status.TheVariants.{Done, BadInput}
@@ -33,6 +33,9 @@ use Rattle.heesch_app.specs.Tilings.{ArePlain}
 use Rattle.heesch_check.specs.Answers.{IsChecked, IsValid}
 use Rattle.heesch_check.specs.declared.answers.Checked.{Checked}
 use Rattle.heesch_sample.specs.Samples.{IsSample}
+use Rattle.heesch_share.specs.Written.{IsShareOfSize, IsBegunShareOfSize}
+use Rattle.heesch_share.specs.Joined.{IsJoined}
+use Rattle.heesch_parts.specs.Faults.{HasFault as HasJoinFault}
 use Rattle.heesch_stream.specs.Input.{IsAllOf}
 use Rattle.heesch_stream.specs.Taking.{input_max}
 use Rattle.heesch_tabulate.specs.declared.answers.Tabulated.{Tabulated}
@@ -61,6 +64,7 @@ Reads (CheckRequest workers) = ⊤
 Reads TableRequest = ⊤
 Reads (FormulaRequest grid level size version) = ⊤
 Reads (AnswerRequest grid level size version) = ⊤
+Reads JoinRequest = ⊤
 Reads _ = ⊥
 
 -- the request reads to the end what the source has left
@@ -68,11 +72,13 @@ abbrev pub ReadsToEnd : Request → Type 0
 ReadsToEnd (ClassifyRequest grid Given limits workers brief) = ⊤
 ReadsToEnd (FormulaRequest grid level size version) = ⊤
 ReadsToEnd (AnswerRequest grid level size version) = ⊤
+ReadsToEnd JoinRequest = ⊤
 ReadsToEnd _ = ⊥
 
--- what the request asks for is one text, which is put at once; a catalogue is written as it is made
+-- what the request asks for is one text, which is put at once; a catalogue and a share of one are written as they are made
 abbrev pub HasOneText : Request → Type 0
 HasOneText (ClassifyRequest grid subject limits workers brief) = ⊥
+HasOneText (ShareRequest grid n i k limits workers) = ⊥
 HasOneText _ = ⊤
 
 -- this holds of the bytes that the source had left, or of some bytes where it doesn't tell them
@@ -99,6 +105,12 @@ IsCheckAnswer status output input = (checked : Checked) × IsChecked input check
 abbrev pub IsTableAnswer : Option (List ℕ) → Status → List ℕ → Type 0
 IsTableAnswer left status output = (told : Tabulated) × IsTabulated left told × (status ≡ table_status told) × (output ≡ table_text told)
 
+-- what is answered to `join` of share texts: the catalogue text that they are joined to, or the first fault
+abbrev pub IsJoinAnswer : Status → List ℕ → List ℕ → Type 0
+IsJoinAnswer status output input =
+    ((status ≡ Done) × (length input ≤ input_max) × IsJoined input output)
+    ⊎ ((status ≡ BadInput) × ((line : ℕ) × (number : ℕ) × HasJoinFault input_max input line number × (output ≡ bad_input_text line number)))
+
 -- the status and the output are what the request asks for, over a source that has these bytes left
 abbrev pub IsOutput : Request → Option (List ℕ) → Status → List ℕ → Type 0
 IsOutput (ListRequest grid n workers) left status output = (status ≡ Done) × IsListing (geometry_of grid) n output
@@ -111,11 +123,15 @@ IsOutput TableRequest left status output = IsTableAnswer left status output
 IsOutput (SampleRequest grid n count seed limits workers) left status output = (status ≡ Done) × IsSample (geometry_of grid) n count seed limits output
 IsOutput (FormulaRequest grid level size version) left status output = OfInput left (IsFormulaAnswer version (geometry_of grid) level size status output)
 IsOutput (AnswerRequest grid level size version) left status output = OfInput left (IsModelAnswer version (geometry_of grid) level size status output)
+IsOutput (ShareRequest grid n i k limits workers) left status output =
+    (status ≡ Done) × IsShareOfSize (geometry_of grid) (header_of grid (Size n) limits false) n i k output
+IsOutput JoinRequest left status output = OfInput left (IsJoinAnswer status output)
 
 -- the output is what the request asks to be written, or for a catalogue as much of it as some first entries decide
 abbrev pub IsBegunOutput : Request → Option (List ℕ) → List ℕ → Type 0
 IsBegunOutput (ClassifyRequest grid (Size n) limits workers brief) left output = IsBegunCatalogueOfSize (geometry_of grid) (header_of grid (Size n) limits brief) n output
 IsBegunOutput (ClassifyRequest grid Given limits workers brief) left output = OfInput left (IsBegunGivenAnswer (geometry_of grid) (header_of grid Given limits brief) output)
+IsBegunOutput (ShareRequest grid n i k limits workers) left output = IsBegunShareOfSize (geometry_of grid) (header_of grid (Size n) limits false) n i k output
 IsBegunOutput request left output = (status : Status) × IsOutput request left status output
 
 -- the words ask for something that reads

@@ -5,6 +5,7 @@ mod bad_input;
 mod checks;
 mod exchanges;
 mod given_catalogue;
+mod joins;
 mod listing;
 mod program;
 mod reading;

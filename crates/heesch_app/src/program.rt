@@ -20,6 +20,7 @@ use crate::Status;
 use crate::checks::checked_reply;
 use crate::exchanges::{formula_reply, model_reply};
 use crate::given_catalogue::write_given_catalogue;
+use crate::joins::join_reply;
 use crate::listing::listing;
 use crate::reading::ReadStop;
 use crate::reply::{Reply, put_reply};
@@ -30,13 +31,14 @@ use heesch_cert::{Header, Subject};
 use heesch_io::{Sink, Source};
 use heesch_pool::Gate;
 use heesch_sample::sample;
+use heesch_share::write_share;
 use heesch_words::{Request, Usage, parse};
 use std::alloc::Global;
 use std::thread::Threads;
 
 /// Does what the words ask for. The words are the arguments without the program's name; the gate is
-/// told of each piece of work that a worker takes, and the program's own is open. `classify` writes its
-/// catalogue after each 256 shapes, and each other form its one text at once.
+/// told of each piece of work that a worker takes, and the program's own is open. `classify` and `share`
+/// write after each 256 shapes, and each other form its one text at once.
 pub fn run<T: Threads + Sync, R: Source, W: Sink, H: Gate + Sync>(
     rt: &T,
     alloc: Global,
@@ -152,11 +154,29 @@ fn answer<T: Threads + Sync, R: Source, W: Sink, H: Gate + Sync>(
                 }
             }
         }
+        Request::Share {
+            grid,
+            n,
+            i,
+            k,
+            limits,
+            workers,
+        } => {
+            let header = Header {
+                brief: false,
+                grid,
+                subject: Subject::Size { n },
+                limits,
+            };
+            let written = write_share(rt, alloc, &header, n, i, k, workers, gate, sink);
+            Status::of_writing(written)
+        }
         _ => put_reply(reply(rt, alloc, request, source, gate), sink),
     }
 }
 
-/// The status and the one text that a request asks for; a catalogue has none, since it is written as it is made.
+/// The status and the one text that a request asks for; a catalogue and a share of one have none, since they are written as
+/// they are made.
 fn reply<T: Threads + Sync, R: Source, H: Gate + Sync>(
     rt: &T,
     alloc: Global,
@@ -200,6 +220,7 @@ fn reply<T: Threads + Sync, R: Source, H: Gate + Sync>(
             limits,
             workers,
         } => Reply::done(sample(rt, alloc, grid, n, count, seed, limits, workers, gate)),
-        Request::Classify { .. } => unreachable!(),
+        Request::Join => join_reply(alloc, source),
+        Request::Classify { .. } | Request::Share { .. } => unreachable!(),
     }
 }

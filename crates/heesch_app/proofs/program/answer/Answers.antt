@@ -1,4 +1,4 @@
-use Rattle.heesch_app.proofs.CatalogueEndings.{given_ends, size_ends}
+use Rattle.heesch_app.proofs.CatalogueEndings.{given_ends, share_ends, size_ends}
 use Rattle.heesch_app.proofs.Endings.{put_done, put_read_fault, put_write_fault, reply_is_whole, request_ends}
 use Rattle.heesch_app.proofs.program.answer.Goals as goal
 
@@ -16,6 +16,14 @@ returns-in-Given-clause-ends g c =
     let asked = c.in-Classify in
     given_ends c.args.request asked.grid asked.subject asked.limits asked.workers asked.brief (g.R.Source.left c.args.source.now)
     (held c.args.sink.now) (held c.write_given_catalogue.new.sink) c.write_given_catalogue.result asked.is c.in-Given.is c.write_given_catalogue.ensures.ends
+
+pub returns-in-Share-clause-ends : goal.returns-in-Share-clause-ends
+returns-in-Share-clause-ends g c =
+    let held = g.W.Sink.held in
+    let asked = c.in-Share in
+    share_ends c.args.request asked.grid asked.n asked.i asked.k asked.limits asked.workers (g.R.Source.left c.args.source.now)
+    (held c.args.sink.now) (held c.write_share-written.new.sink) c.write_share-written.result c.of_writing-in-Share.result asked.is
+    c.write_share-written.ensures.ok c.write_share-written.ensures.err c.of_writing-in-Share.ensures
 
 pub returns-in_default-clause-ends : goal.returns-in_default-clause-ends
 returns-in_default-clause-ends g c =
