@@ -44,7 +44,7 @@ const ROUND: usize = 256;
 /// once, and the answer is that of the first item at fault. The gate is told of each entry's number, from 0. Reading stops
 /// with the round that decides the answer, and no more is held than the items of a round and those of one piece. The free
 /// list of a size is made once, by the workers, before the first round, but where the input is at fault with nothing whole
-/// behind its header.
+/// behind its header, or with a brief entry.
 ///
 /// Errors: `Failed` only where the source's count of faults rose; `NoMemory` where memory was refused.
 pub fn check<T: Threads + Sync, R: Source, H: Gate + Sync>(
@@ -96,12 +96,14 @@ fn header_of(items: &[Item]) -> Option<Header>
     }
 }
 
-/// The answer where a fault stands behind the header, before anything whole. No list is needed for it.
+/// The answer where what stands first behind the header is at fault whatever the free list: a brief entry, or a fault before
+/// anything whole.
 fn first_fault(items: &[Item], reading: Reading) -> Option<Checked>
     ensures { IfSome result (FaultsFirst items.now reading) }
 {
-    match reading {
-        Reading::Fault { part } if items.len() <= 1 => Some(fault_behind(0, part)),
+    match (items.get(1), reading) {
+        (Some(Item::Brief { .. }), _) => Some(Checked::InvalidEntry { number: 1 }),
+        (None, Reading::Fault { part }) => Some(fault_behind(0, part)),
         _ => None,
     }
 }
