@@ -1,0 +1,169 @@
+-- Share texts that are read from a source, piece by piece.
+use Rattle.std.proofs.Common.{◌≡◌, ℕ, ◌+◌, ◌<◌, ◌≤◌, List, [], ◌∷◌, ◌++◌, length, take, length-append, append-nil, refl, sym, ap, subst, ◌∙◌, arith, append_assoc}
+use Rattle.std.specs.Prelude.{Option, Some, None, Result, Ok, Err, IfOk, IfErr}
+use Rattle.std.specs.Io.KnownBytes.{Consumes, Keeps, IsAtEnd}
+use Rattle.std.proofs.lemmas.List.{length-take-le}
+use Rattle.heesch_reader.specs.declared.item.Item.{Item}
+use Rattle.heesch_stream.specs.Input.{IsAllOf}
+use Rattle.heesch_stream.proofs.Reading.{consumes_both, front_read, one_byte}
+use Rattle.heesch_parts.specs.declared.join_stop.JoinStop.{JoinStop}
+use Rattle.heesch_parts.specs.declared.join_stop.JoinStop.TheVariants as join_stops
+use Rattle.heesch_parts.specs.declared.input_stop.InputStop.{InputStop}
+use Rattle.heesch_parts.specs.declared.input_stop.InputStop.TheVariants as stops
+use Rattle.heesch_parts.specs.Faults.{HasFault}
+use Rattle.heesch_parts.specs.Joining.{Kept, IsFed, GoesTo, IsFrontStop, IsWholeStop, IsStopBeyond, Joins, LeavesRoom}
+use Rattle.heesch_parts.specs.Inputs.{stop_of, AreJoined, GivesJoined, GivesFault, ReadsNoFurther, IsWholeInputStop}
+
+-- ---- known bytes
+
+consumes_none : (old : Option (List ℕ)) → Consumes old old []
+consumes_none None = tt
+consumes_none (Some all) = refl
+
+-- at the end all was given
+all_given : (old new : Option (List ℕ)) (xs : List ℕ) → Consumes old new xs → IsAtEnd new → IsAllOf old xs
+all_given None new xs lost at_end = tt
+all_given (Some all) None xs lost at_end = absurd lost
+all_given (Some all) (Some left) xs lost at_end = sym (lost ∙ ap (λ r. xs ++ r) at_end ∙ append-nil xs)
+
+-- what was given is a front of all
+front_given : (old new : Option (List ℕ)) (xs : List ℕ) → Consumes old new xs → (rest : List ℕ) × IsAllOf old (xs ++ rest)
+front_given None new xs lost = ([], tt)
+front_given (Some all) None xs lost = absurd lost
+front_given (Some all) (Some left) xs lost = (left, sym lost)
+
+-- what was read stands first in the room, and is as long
+piece_read : (before now : Option (List ℕ)) (more : ℕ) (room rest : List ℕ) → more ≤ length room → Consumes before now (take more room) → Consumes before now (take more (room ++ rest)) × (length (take more (room ++ rest)) ≡ more)
+piece_read before now more room rest fits c =
+    (front_read before now more room rest fits c, length-take-le more (room ++ rest) (omega (arith, fits, length-append room rest)))
+
+-- ---- so far
+
+-- bytes were read since the source had `first` left, so many, and none of their lines is at fault
+pub record Going (first now : Option (List ℕ)) (count : ℕ) (kept : Kept) (given : List Item) : Type 0 where
+  pub bytes : List ℕ
+  pub consumed : Consumes first now bytes
+  pub fed : IsFed bytes given kept
+  pub count_is : count ≡ length bytes
+  pub room : kept.lines + length kept.left ≤ count
+
+pub going_first : (left : Option (List ℕ)) (kept : Kept) (given : List Item) → given ≡ [] → IsFed [] [] kept → kept.lines + length kept.left ≤ 0 → Going left left 0 kept given
+going_first left kept given none fed room = record { bytes = []; consumed = consumes_none left; fed = subst (λ (x : List Item). IsFed [] x kept) (sym none) fed; count_is = refl; room = room }
+
+-- a piece more
+pub going_on : (first before now : Option (List ℕ)) (count more : ℕ) (room rest : List ℕ) (given after : List Item) (old new : Kept) → Going first before count old given → more ≤ length room → Consumes before now (take more room)
+    → ((bytes : List ℕ) (items : List Item) → IsFed bytes items old → GoesTo (bytes ++ take more (room ++ rest)) items given after new) → LeavesRoom old new (length (take more (room ++ rest))) → Going first now (count + more) new after
+going_on first before now count more room rest given after old new o fits c told leaves =
+    let piece = take more (room ++ rest) in
+    let read = piece_read before now more room rest fits c in
+    let g = told o.bytes given o.fed in
+    record {
+      bytes = o.bytes ++ piece;
+      consumed = consumes_both first before now o.bytes piece o.consumed read.0;
+      fed = subst (λ (x : List Item). IsFed (o.bytes ++ piece) x new) (sym g.after_is) g.fed;
+      count_is = omega (arith, o.count_is, read.1, length-append o.bytes piece);
+      room = omega (arith, o.room, leaves, read.1);
+    }
+
+-- the piece has the fault
+pub piece_stops : (most : ℕ) (first before now : Option (List ℕ)) (count more : ℕ) (room rest : List ℕ) (given after : List Item) (old new : Kept) (e : JoinStop) → Going first before count old given → more ≤ length room → Consumes before now (take more room) → count + more ≤ most
+    → ((bytes : List ℕ) (items : List Item) → IsFed bytes items old → IsFrontStop (bytes ++ take more (room ++ rest)) e) → GivesFault most first (stop_of e)
+piece_stops most first before now count more room rest given after old new (join_stops.Fault line fault) o fits c few told =
+    let piece = take more (room ++ rest) in
+    let read = piece_read before now more room rest fits c in
+    let all = front_given first now (o.bytes ++ piece) (consumes_both first before now o.bytes piece o.consumed read.0) in
+    ((o.bytes ++ piece) ++ all.0, all.1, told o.bytes given o.fed most all.0 (omega (arith, few, o.count_is, read.1, length-append o.bytes piece)))
+piece_stops most first before now count more room rest given after old new join_stops.NoMemory o fits c few told = tt
+
+-- a joiner's reason isn't that the source failed
+pub not_failed : (e : JoinStop) → stop_of e ≡ stops.Failed → ⊥
+not_failed (join_stops.Fault line fault) is = absurd cc
+not_failed join_stops.NoMemory is = absurd cc
+
+-- ---- the end
+
+-- the source gave no byte, so it is at its end
+end_read : (before now : Option (List ℕ)) (more : ℕ) (room : List ℕ) → more ≡ 0 → 0 < length room → Consumes before now (take more room) → (more ≡ 0 → 0 < length room → IsAtEnd now) → Consumes before now [] × IsAtEnd now
+end_read before now more room none some c ended = (subst (λ (n : ℕ). Consumes before now (take n room)) none c, ended none some)
+
+-- all bytes were read
+pub all_read : (first before now : Option (List ℕ)) (count more : ℕ) (room : List ℕ) (kept : Kept) (given : List Item) → (o : Going first before count kept given) → more ≡ 0 → 0 < length room → Consumes before now (take more room) → (more ≡ 0 → 0 < length room → IsAtEnd now) → IsAllOf first o.bytes
+all_read first before now count more room kept given o none some c ended =
+    let end = end_read before now more room none some c ended in
+    let all : Consumes first now (o.bytes ++ []) = consumes_both first before now o.bytes [] o.consumed end.0 in
+    all_given first now o.bytes (subst (Consumes first now) (append-nil o.bytes) all) end.1
+
+-- the source is at its end
+pub end_given : (result : Result (List Item) InputStop) (most : ℕ) (first before now : Option (List ℕ)) (count more : ℕ) (room : List ℕ) (kept : Kept) (given : List Item) → Going first before count kept given → count ≤ most
+    → more ≡ 0 → 0 < length room → Consumes before now (take more room) → (more ≡ 0 → 0 < length room → IsAtEnd now)
+    → ((bytes : List ℕ) → IsFed bytes given kept → IfOk result (AreJoined bytes)) → IfOk result (GivesJoined most first)
+end_given (Ok all) most first before now count more room kept given o few none some c ended told =
+    (o.bytes, all_read first before now count more room kept given o none some c ended, omega (arith, few, o.count_is), told o.bytes o.fed)
+end_given (Err e) most first before now count more room kept given o few none some c ended told = tt
+
+whole_told : (most : ℕ) (first : Option (List ℕ)) (bytes : List ℕ) (e : InputStop) → IsAllOf first bytes → length bytes ≤ most → IsWholeInputStop bytes e → GivesFault most first e
+whole_told most first bytes (stops.Fault line fault) all few h = (bytes, all, h most few)
+whole_told most first bytes stops.Failed all few h = tt
+whole_told most first bytes stops.NoMemory all few h = tt
+
+pub end_stopped : (result : Result (List Item) InputStop) (most : ℕ) (first before now : Option (List ℕ)) (count more : ℕ) (room : List ℕ) (kept : Kept) (given : List Item) → Going first before count kept given → count ≤ most
+    → more ≡ 0 → 0 < length room → Consumes before now (take more room) → (more ≡ 0 → 0 < length room → IsAtEnd now)
+    → ((bytes : List ℕ) → IsFed bytes given kept → IfErr result (IsWholeInputStop bytes)) → IfErr result (GivesFault most first)
+end_stopped (Ok all) most first before now count more room kept given o few none some c ended told = tt
+end_stopped (Err e) most first before now count more room kept given o few none some c ended told =
+    whole_told most first o.bytes e (all_read first before now count more room kept given o none some c ended) (omega (arith, few, o.count_is)) (told o.bytes o.fed)
+
+-- the end is no failure of the source
+pub end_not_failed : (result : Result (List Item) InputStop) (first before : Option (List ℕ)) (count : ℕ) (kept : Kept) (given : List Item) → Going first before count kept given → result ≡ Err stops.Failed
+    → ((bytes : List ℕ) → IsFed bytes given kept → IfErr result (IsWholeInputStop bytes)) → ⊥
+end_not_failed result first before count kept given o is told = subst (λ r. IfErr r (IsWholeInputStop o.bytes)) is (told o.bytes o.fed)
+
+-- the source goes on behind the most that are read
+pub goes_beyond : (most : ℕ) (first before now : Option (List ℕ)) (count more : ℕ) (room : List ℕ) (kept : Kept) (given : List Item) (e : JoinStop) → Going first before count kept given → count ≡ most
+    → length room ≡ 1 → more ≤ 1 → 0 < more → Consumes before now (take more room)
+    → ((bytes : List ℕ) (items : List Item) → IsFed bytes items kept → IsStopBeyond bytes e) → GivesFault most first (stop_of e)
+goes_beyond most first before now count more room kept given (join_stops.Fault line fault) o read one few some c told =
+    let b = one_byte before now more room one few some c in
+    let all = front_given first now (o.bytes ++ b.0 ∷ []) (consumes_both first before now o.bytes (b.0 ∷ []) o.consumed b.1) in
+    let many : length o.bytes ≡ most = sym o.count_is ∙ read in (
+      (o.bytes ++ b.0 ∷ []) ++ all.0,
+      all.1,
+      subst (λ (text : List ℕ). HasFault most text line fault) (sym (append_assoc o.bytes (b.0 ∷ []) all.0))
+          (subst (λ (n : ℕ). HasFault n (o.bytes ++ b.0 ∷ all.0) line fault) many (told o.bytes given o.fed b.0 all.0)),
+    )
+goes_beyond most first before now count more room kept given join_stops.NoMemory o read one few some c told = tt
+
+-- ---- what is read
+
+pub no_further : (first before now : Option (List ℕ)) (count more : ℕ) (room : List ℕ) (kept : Kept) (given : List Item) → Going first before count kept given → more ≤ length room → Consumes before now (take more room) → length room ≤ 4096 → ReadsNoFurther first now
+no_further first before now count more room kept given o fits c few = record {
+  bytes = o.bytes;
+  last = take more room;
+  consumed = consumes_both first before now o.bytes (take more room) o.consumed c;
+  one_piece = omega (arith, few, fits, length-take-le more room fits);
+  undecided = record { ended = o.fed.ended; left = kept.left; stage = kept.stage; text = o.fed.text; one_line = o.fed.one_line; forms = o.fed.forms; walk = o.fed.walk };
+}
+
+-- ---- the answer of a joiner to the end
+
+pub ends_joined : (before : List ℕ) (given after : List Item) → Joins before given given after → AreJoined before after
+ends_joined before given after f = record { header = f.header; shares = f.shares; are = f.are; joined = f.after_is ∙ f.joined }
+
+pub ends_stopped : (before : List ℕ) (e : JoinStop) → IsWholeStop before e → IsWholeInputStop before (stop_of e)
+ends_stopped before (join_stops.Fault line fault) h = h
+ends_stopped before join_stops.NoMemory h = tt
+
+-- the source failed, and gave nothing
+pub no_further_kept : (first before now : Option (List ℕ)) (count : ℕ) (kept : Kept) (given : List Item) → Going first before count kept given → Keeps before now → ReadsNoFurther first now
+no_further_kept first before now count kept given o same = record {
+  bytes = o.bytes;
+  last = [];
+  consumed = consumes_both first before now o.bytes [] o.consumed (keeps_consumes before now same);
+  one_piece = omega arith;
+  undecided = record { ended = o.fed.ended; left = kept.left; stage = kept.stage; text = o.fed.text; one_line = o.fed.one_line; forms = o.fed.forms; walk = o.fed.walk };
+}
+  where
+    keeps_consumes : (old new : Option (List ℕ)) → Keeps old new → Consumes old new []
+    keeps_consumes None new k = tt
+    keeps_consumes (Some all) None k = k
+    keeps_consumes (Some all) (Some left) k = sym k

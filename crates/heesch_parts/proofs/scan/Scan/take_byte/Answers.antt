@@ -1,0 +1,10 @@
+use Rattle.std.proofs.Common.{refl}
+use Rattle.heesch_parts.specs.Joining.{kept_of}
+use Rattle.heesch_parts.proofs.Feeding.{byte_fed}
+use Rattle.heesch_parts.proofs.scan.Scan.take_byte.Goals as goal
+
+pub returns-clause-fed : goal.returns-clause-fed
+returns-clause-fed c = λ before given fed.
+    byte_fed before given c.args.items.now (kept_of c.args.self.now)
+    (kept_of (record { alloc = c.args.self.now.alloc; stage = c.args.self.now.stage; held = c.args.self.now.held; line = c.push.new.self; lines = c.args.self.now.lines })) c.args.byte fed c.if-byte-eq10.false refl refl refl
+    c.in_ok-push.ensures.items

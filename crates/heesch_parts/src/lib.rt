@@ -1,0 +1,22 @@
+//! Shares of a catalogue, and their joining.
+#![tactic(auto)]
+
+mod input;
+mod input_stop;
+mod join_stop;
+mod joiner;
+pub mod laws;
+mod part_line;
+mod places;
+mod scan;
+mod shares;
+mod stage;
+#[cfg(test)]
+mod tests;
+
+pub use input::joined;
+pub use input_stop::InputStop;
+pub use join_stop::JoinStop;
+pub use joiner::Joiner;
+pub use places::Span;
+pub use shares::{SHARES_MAX, span};
