@@ -32,7 +32,7 @@ use Rattle.heesch_check.specs.Judging.{AreItemsOf, AreGood, AreJudged, Judges, H
 use Rattle.heesch_check.proofs.Blocks.{IsNext, block_lines}
 use Rattle.heesch_reader.proofs.SameLines.{same_lines}
 use Rattle.heesch_reader.proofs.EntryLines.{body_lines, body_inside, not_brief}
-use Rattle.heesch_check.proofs.Leading.{IsBounded, up_to, end_counts, no_second_header}
+use Rattle.heesch_check.proofs.Leading.{IsBoundedTo, end_counts, no_second_header}
 use Rattle.heesch_check.proofs.Seen.{IsRead, Stand, placed, checked, counted}
 
 -- ---- the next item
@@ -70,10 +70,10 @@ all_left : (xs ys : List Line) → AllByRecursion IsLine (xs ++ ys) → AllByRec
 all_left [] ys h = tt
 all_left (x ∷ xs) ys h = (h.0, all_left xs ys h.1)
 
-pub next_item : (input : List ℕ) (header : Header) (front back : List Item) (item : Item) (n : ℕ) (held : List Line) (tail : List ℕ) (reached : Progress) → IsBounded header → header.brief ≡ false
+pub next_item : (input : List ℕ) (header : Header) (front back : List Item) (item : Item) (n : ℕ) (held : List Line) (tail : List ℕ) (reached : Progress) → IsBoundedTo header n → header.brief ≡ false
     → (j : AreJudged header front n) → IsRead input (front ++ item ∷ back) held tail reached → (j.ends ≡ []) × Next input header j.es item back held tail reached
 next_item input header front back item n held tail reached bound full j read =
-    let s = placed input header front (item ∷ back) n held tail reached (up_to header n bound) full j read in
+    let s = placed input header front (item ∷ back) n held tail reached bound full j read in
     let none = none_ended input header front back item n held tail reached j s in
     let more : lines_of j.ends ++ (lines_of (item ∷ back) ++ held) ≡ item_lines item ++ (lines_of back ++ held) =
     ap (λ (x : List Item). lines_of x ++ (lines_of (item ∷ back) ++ held)) none ∙ append_assoc (item_lines item) (lines_of back) held in
@@ -151,7 +151,7 @@ invalid_block input header es cells inner behind number b is = record {
 abbrev pub behind_item : List Item → List Line → List ℕ → List ℕ
 behind_item back held tail = text_of (lines_of back ++ held) ++ tail
 
-pub entry_bad : (input : List ℕ) (header : Header) (front back : List Item) (line : ℕ) (e : Entry) (n : ℕ) (held : List Line) (tail : List ℕ) (reached : Progress) → IsBounded header → header.brief ≡ false
+pub entry_bad : (input : List ℕ) (header : Header) (front back : List Item) (line : ℕ) (e : Entry) (n : ℕ) (held : List Line) (tail : List ℕ) (reached : Progress) → IsBoundedTo header n → header.brief ≡ false
     → (j : AreJudged header front n) → IsRead input (front ++ items.Entry line e ∷ back) held tail reached → HoldsItsLines e → (IsGoodEntry header n e → ⊥) → BadBlock input header j.es e.cells (body_lines e) (behind_item back held tail)
 entry_bad input header front back line e n held tail reached bound full j read holds bad =
     let i = next_item input header front back (items.Entry line e) n held tail reached bound full j read in
@@ -169,12 +169,12 @@ entry_bad input header front back line e n held tail reached bound full j read h
           bad (subst (λ (x : ℕ). IsGoodEntry header x e) (sym j.count) (subst (λ (x : Entry). IsGoodEntry header (length j.es) x) (sym one) good));
     }
 
-entry_fault : (input : List ℕ) (header : Header) (front back : List Item) (line : ℕ) (e : Entry) (n : ℕ) (held : List Line) (tail : List ℕ) (reached : Progress) → IsBounded header → header.brief ≡ false
+entry_fault : (input : List ℕ) (header : Header) (front back : List Item) (line : ℕ) (e : Entry) (n : ℕ) (held : List Line) (tail : List ℕ) (reached : Progress) → IsBoundedTo header n → header.brief ≡ false
     → AreJudged header front n → IsRead input (front ++ items.Entry line e ∷ back) held tail reached → HoldsItsLines e → (IsGoodEntry header n e → ⊥) → IsInvalidEntry input (n + 1)
 entry_fault input header front back line e n held tail reached bound full j read holds bad =
     invalid_block input header j.es e.cells (body_lines e) (behind_item back held tail) (n + 1) (entry_bad input header front back line e n held tail reached bound full j read holds bad) (ap (λ (x : ℕ). x + 1) j.count)
 
-pub brief_bad : (input : List ℕ) (header : Header) (front back : List Item) (line : ℕ) (cells : List Cell) (verdict : Verdict) (n : ℕ) (held : List Line) (tail : List ℕ) (reached : Progress) → IsBounded header → header.brief ≡ false
+pub brief_bad : (input : List ℕ) (header : Header) (front back : List Item) (line : ℕ) (cells : List Cell) (verdict : Verdict) (n : ℕ) (held : List Line) (tail : List ℕ) (reached : Progress) → IsBoundedTo header n → header.brief ≡ false
     → (j : AreJudged header front n) → IsRead input (front ++ items.Brief line cells verdict ∷ back) held tail reached → BadBlock input header j.es cells (lines.Verdict verdict ∷ []) (behind_item back held tail)
 brief_bad input header front back line cells verdict n held tail reached bound full j read =
     let i = next_item input header front back (items.Brief line cells verdict) n held tail reached bound full j read in
@@ -194,12 +194,12 @@ brief_bad input header front back line cells verdict n held tail reached bound f
           not_brief other.verdict other.evidence none;
     }
 
-brief_fault : (input : List ℕ) (header : Header) (front back : List Item) (line : ℕ) (cells : List Cell) (verdict : Verdict) (n : ℕ) (held : List Line) (tail : List ℕ) (reached : Progress) → IsBounded header → header.brief ≡ false
+pub brief_fault : (input : List ℕ) (header : Header) (front back : List Item) (line : ℕ) (cells : List Cell) (verdict : Verdict) (n : ℕ) (held : List Line) (tail : List ℕ) (reached : Progress) → IsBoundedTo header n → header.brief ≡ false
     → AreJudged header front n → IsRead input (front ++ items.Brief line cells verdict ∷ back) held tail reached → IsInvalidEntry input (n + 1)
 brief_fault input header front back line cells verdict n held tail reached bound full j read =
     invalid_block input header j.es cells (lines.Verdict verdict ∷ []) (behind_item back held tail) (n + 1) (brief_bad input header front back line cells verdict n held tail reached bound full j read) (ap (λ (x : ℕ). x + 1) j.count)
 
-end_fault : (input : List ℕ) (header : Header) (front back : List Item) (count n : ℕ) (held : List Line) (tail : List ℕ) (reached : Progress) → IsBounded header → header.brief ≡ false
+end_fault : (input : List ℕ) (header : Header) (front back : List Item) (count n : ℕ) (held : List Line) (tail : List ℕ) (reached : Progress) → IsBoundedTo header n → header.brief ≡ false
     → AreJudged header front n → IsRead input (front ++ items.End count ∷ back) held tail reached → (AreAll header header.subject n → ⊥) → IsInvalidEnd input
 end_fault input header front back count n held tail reached bound full j read bad =
     let i = next_item input header front back (items.End count) n held tail reached bound full j read in
@@ -266,7 +266,7 @@ Settled input header judged after (Some answer) = Tells input answer
 Settled input header judged after None = AreJudged header judged after
 
 entry_settled : (input : List ℕ) (header : Header) (front back : List Item) (line : ℕ) (e : Entry) (before after : ℕ) (held : List Line) (tail : List ℕ) (reached : Progress) (result : Option Checked)
-    → IsBounded header → header.brief ≡ false → (j : AreJudged header front before) → IsRead input (front ++ items.Entry line e ∷ back) held tail reached → HoldsItsLines e
+    → IsBoundedTo header before → header.brief ≡ false → (j : AreJudged header front before) → IsRead input (front ++ items.Entry line e ∷ back) held tail reached → HoldsItsLines e
     → Judges header before after (items.Entry line e) result → Settled input header (front ++ items.Entry line e ∷ []) after result
 entry_settled input header front back line e before after held tail reached None bound full j read holds judges =
     let i = next_item input header front back (items.Entry line e) before held tail reached bound full j read in
@@ -275,7 +275,7 @@ entry_settled input header front back line e before after held tail reached (Som
     subst (Tells input) (sym judges.0) (entry_fault input header front back line e before held tail reached bound full j read holds judges.1)
 
 end_settled : (input : List ℕ) (header : Header) (front back : List Item) (count before after : ℕ) (held : List Line) (tail : List ℕ) (reached : Progress) (result : Option Checked)
-    → IsBounded header → header.brief ≡ false → (j : AreJudged header front before) → IsRead input (front ++ items.End count ∷ back) held tail reached
+    → IsBoundedTo header before → header.brief ≡ false → (j : AreJudged header front before) → IsRead input (front ++ items.End count ∷ back) held tail reached
     → Judges header before after (items.End count) result → Settled input header (front ++ items.End count ∷ []) after result
 end_settled input header front back count before after held tail reached None bound full j read judges =
     let i = next_item input header front back (items.End count) before held tail reached bound full j read in
@@ -285,7 +285,7 @@ end_settled input header front back count before after held tail reached (Some a
 
 -- what is judged of an item behind those that were judged
 pub settled : (input : List ℕ) (header : Header) (front back : List Item) (item : Item) (before after : ℕ) (held : List Line) (tail : List ℕ) (reached : Progress) (result : Option Checked)
-    → IsBounded header → header.brief ≡ false → (j : AreJudged header front before) → IsRead input (front ++ item ∷ back) held tail reached → HoldsLines item
+    → IsBoundedTo header before → header.brief ≡ false → (j : AreJudged header front before) → IsRead input (front ++ item ∷ back) held tail reached → HoldsLines item
     → Judges header before after item result → Settled input header (front ++ item ∷ []) after result
 settled input header front back (items.Header other) before after held tail reached result bound full j read holds judges =
     let i = next_item input header front back (items.Header other) before held tail reached bound full j read in
@@ -305,7 +305,7 @@ holds_at before [] back (items.Brief line cells verdict) h = tt
 holds_at before [] back (items.End count) h = tt
 holds_at before (x ∷ front) back item h = holds_at (before + length (item_lines x)) front back item h.1
 
-pub fit : (input : List ℕ) (header : Header) (front back : List Item) (item : Item) (n : ℕ) (held : List Line) (tail : List ℕ) (reached : Progress) → IsBounded header → header.brief ≡ false
+pub fit : (input : List ℕ) (header : Header) (front back : List Item) (item : Item) (n : ℕ) (held : List Line) (tail : List ℕ) (reached : Progress) → IsBoundedTo header n → header.brief ≡ false
     → AreJudged header front n → IsRead input (front ++ item ∷ back) held tail reached → IsFit item
 fit input header front back item n held tail reached bound full j read = record {
   forms = (next_item input header front back item n held tail reached bound full j read).1.forms;

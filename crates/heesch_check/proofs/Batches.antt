@@ -13,7 +13,7 @@ use Rattle.heesch_reader.specs.declared.progress.Progress.{Progress}
 use Rattle.heesch_check.specs.declared.answers.Checked.{Checked}
 use Rattle.heesch_check.specs.Answers.{Tells, Comes}
 use Rattle.heesch_check.specs.Judging.{AreJudged, Judges, AreAllGood, StopsIn, JudgesAll}
-use Rattle.heesch_check.proofs.Leading.{IsBounded}
+use Rattle.heesch_check.proofs.Leading.{IsBounded, up_to}
 use Rattle.heesch_check.proofs.Seen.{IsRead}
 use Rattle.heesch_check.proofs.Answering.{settled, holds_at}
 use Rattle.heesch_check.proofs.Deciding.{Fronted, reads_on, stands_read, shown_on}
@@ -31,7 +31,7 @@ pub all_settled : (input : List ℕ) (header : Header) (found front back : List 
 all_settled input header found [] back before after held tail reached bound full j read good =
     subst (λ (x : List Item). AreJudged header x after) (sym (append-nil found)) (subst (AreJudged header found) (sym good) j)
 all_settled input header found (item ∷ front) back before after held tail reached bound full j read good =
-    let here : AreJudged header (found ++ item ∷ []) good.0 = settled input header found (front ++ back) item before good.0 held tail reached None bound full j read (holds_at 0 found (front ++ back) item read.numbered) good.1 in
+    let here : AreJudged header (found ++ item ∷ []) good.0 = settled input header found (front ++ back) item before good.0 held tail reached None (up_to header before bound) full j read (holds_at 0 found (front ++ back) item read.numbered) good.1 in
     let read_on : IsRead input ((found ++ item ∷ []) ++ (front ++ back)) held tail reached = subst (λ (x : List Item). IsRead input x held tail reached) (sym (append_assoc found (item ∷ []) (front ++ back))) read in
     subst (λ (x : List Item). AreJudged header x after) (append_assoc found (item ∷ []) front)
     (all_settled input header (found ++ item ∷ []) front back good.0 after held tail reached bound full here read_on good.2)
@@ -43,7 +43,7 @@ stop_settled input header found items before after held tail reached answer boun
     let whole : IsRead input (found ++ (stop.front ++ stop.item ∷ stop.back)) held tail reached = subst (λ (x : List Item). IsRead input (found ++ x) held tail reached) stop.split read in
     let here = all_settled input header found stop.front (stop.item ∷ stop.back) before stop.middle held tail reached bound full j whole stop.good in
     let read_on : IsRead input ((found ++ stop.front) ++ stop.item ∷ stop.back) held tail reached = subst (λ (x : List Item). IsRead input x held tail reached) (sym (append_assoc found stop.front (stop.item ∷ stop.back))) whole in
-    settled input header (found ++ stop.front) stop.back stop.item stop.middle after held tail reached (Some answer) bound full here read_on (holds_at 0 (found ++ stop.front) stop.back stop.item read_on.numbered) stop.judges
+    settled input header (found ++ stop.front) stop.back stop.item stop.middle after held tail reached (Some answer) (up_to header stop.middle bound) full here read_on (holds_at 0 (found ++ stop.front) stop.back stop.item read_on.numbered) stop.judges
 
 -- an item at fault among the bytes that are read decides
 pub stop_decided : (input : List ℕ) (header : Header) (found items : List Item) (before after : ℕ) (answer : Checked) → IsBounded header → header.brief ≡ false
@@ -57,7 +57,7 @@ stop_decided input header found items before after answer bound full j (inr f) s
     subst (λ (x : List ℕ). IsRead x (found ++ items) f.held (f.left ++ more.0) f.reached) (sym more.1) (stands_read f.front more.0 (found ++ items) f.held f.left f.reached f.stands (shown_on (found ++ items) f.held f.left more.0 f.shown)) in
     let here = all_settled t.front header found stop.front (stop.item ∷ stop.back) before stop.middle f.held (f.left ++ more.0) f.reached bound full j (subst (λ (x : List Item). IsRead t.front x f.held (f.left ++ more.0) f.reached) split read) stop.good in
     let read_on : IsRead t.front ((found ++ stop.front) ++ stop.item ∷ stop.back) f.held (f.left ++ more.0) f.reached = subst (λ (x : List Item). IsRead t.front x f.held (f.left ++ more.0) f.reached) whole read in
-    item_decides t.front f.front more.0 header (found ++ stop.front) stop.back stop.item stop.middle after f.held f.left f.reached answer bound full here
+    item_decides t.front f.front more.0 header (found ++ stop.front) stop.back stop.item stop.middle after f.held f.left f.reached answer (up_to header stop.middle bound) full here
     (subst (λ (x : List Item). Stands none_appended f.front x f.held f.left f.reached) whole f.stands) (subst (λ (x : List Item). IsShown (with_items none_appended x) (text_of f.held ++ f.left)) whole f.shown) more.1 read_on stop.judges t.goes_on)
 
 -- all items were judged good

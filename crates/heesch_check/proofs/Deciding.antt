@@ -3,7 +3,7 @@ use Rattle.std.proofs.Common.{◌≡◌, ◌⊎◌, inl, inr, ℕ, ◌+◌, ◌<
 use Rattle.std.specs.Prelude.{option_map, option_and_then}
 use Rattle.std.specs.List.{AllByRecursion, flat_map}
 use Rattle.std.proofs.lemmas.Bool.{false≢true, eq-eqb}
-use Rattle.std.proofs.lemmas.List.{append-nil}
+use Rattle.std.proofs.lemmas.List.{append-nil, length-append}
 use Rattle.heesch_cert.specs.declared.entry.Entry.{Entry}
 use Rattle.heesch_cert.specs.declared.header.Header.{Header}
 use Rattle.heesch_grid.specs.declared.Cell.{Cell}
@@ -240,7 +240,7 @@ or_left true b e = refl
 or_left false b e = absurd cc
 
 -- of one beginning, the good entries are the same where no good entry stands behind the first ones, and the next begins there
-pub same_rest : (bytes : List ℕ) (header : Header) (es : List Entry) (rest : List ℕ) → IsBounded header → IsOpen bytes → AreChecked bytes header es rest → ((e : Entry) → IsGoodEntry header (length es) e → block_of rest ≡ entry_text e → ⊥)
+pub same_rest : (bytes : List ℕ) (header : Header) (es : List Entry) (rest : List ℕ) → IsBoundedTo header (length es) → IsOpen bytes → AreChecked bytes header es rest → ((e : Entry) → IsGoodEntry header (length es) e → block_of rest ≡ entry_text e → ⊥)
     → begins_next rest ≡ true → IsBegun header (length es) rest ⊎ IsEnded header (length es) rest
 same_rest bytes header es rest bound o c none next =
     let s = same_header bytes c.body o.checked.body header o.header c.headed o.checked.headed in
@@ -265,14 +265,15 @@ same_rest bytes header es rest bound o c none next =
         subst (λ (x : List ℕ). IsBegun header (length es) x ⊎ IsEnded header (length es) x) blocks (subst (λ (x : List Entry). IsBegun header (length x) o.rest ⊎ IsEnded header (length x) o.rest) (sym (are ∙ append-nil o.es)) goes)
     farther (e ∷ more) are blocks goes =
         let good : IsGoodEntry header (length o.es) e = subst (λ (n : ℕ). IsGoodEntry header n e) (omega arith) blocks.0 in
-        let low = bound.below (length o.es) e.cells good.in_place in
+        let many : length es ≡ length o.es + length (e ∷ more) = ap length are ∙ length-append o.es (e ∷ more) in
+        let low = bound.below (length o.es) e.cells (omega (arith, many)) good.in_place in
         let m = (may_stand (geometry_of header.grid) header.limits e good.is_true).full (record { shapes = length o.es; place = places.Between }) refl (omega (arith, low)) in
         let split : o.rest ≡ text_of (entry_lines e) ++ behind_block o.rest = block_split o.rest ∙ ap (λ (x : List ℕ). x ++ behind_block o.rest) blocks.1 in
         absurd (finished header (length o.es) e.cells (body_lines e) (behind_block o.rest) m.behind (subst (λ (x : List ℕ). IsBegun header (length o.es) x ⊎ IsEnded header (length o.es) x) split goes) good.forms
         (next_block more (0 + length o.es + 1) (behind_block o.rest) blocks.2) m.reached m.whole)
 
 -- a block at fault, behind which the next entry or the end begins, decides
-pub block_decides : (bytes : List ℕ) (header : Header) (es : List Entry) (cells : List Cell) (inner : List Line) (behind : List ℕ) (s t : Spot) → IsBounded header → BadBlock bytes header es cells inner behind → begins_next behind ≡ true
+pub block_decides : (bytes : List ℕ) (header : Header) (es : List Entry) (cells : List Cell) (inner : List Line) (behind : List ℕ) (s t : Spot) → IsBoundedTo header (length es) → BadBlock bytes header es cells inner behind → begins_next behind ≡ true
     → is_whole s.place ≡ true → s.shapes ≡ length es → steps false s (lines.Shape cells ∷ inner) ≡ Some t → is_whole t.place ≡ true → IsOpen bytes → ⊥
 block_decides bytes header es cells inner behind s t bound b next whole shapes goes ends o =
     let rest = text_of (lines.Shape cells ∷ inner) ++ behind in
@@ -282,7 +283,7 @@ block_decides bytes header es cells inner behind s t bound b next whole shapes g
     finished header (length es) cells inner behind t g b.forms next from ends
 
 -- an end before all entries decides
-pub end_decides : (bytes : List ℕ) (header : Header) (es : List Entry) (count : ℕ) (behind : List ℕ) → IsBounded header → AreChecked bytes header es (text_of (lines.End count ∷ []) ++ behind) → (AreAll header header.subject (length es) → ⊥) → IsOpen bytes → ⊥
+pub end_decides : (bytes : List ℕ) (header : Header) (es : List Entry) (count : ℕ) (behind : List ℕ) → IsBoundedTo header (length es) → AreChecked bytes header es (text_of (lines.End count ∷ []) ++ behind) → (AreAll header header.subject (length es) → ⊥) → IsOpen bytes → ⊥
 end_decides bytes header es count behind bound c bad o =
     let rest = text_of (lines.End count ∷ []) ++ behind in
     elim (same_rest bytes header es rest bound o c (λ e good same. let b = begins_entry rest e same in absurd cc) refl) [

@@ -35,7 +35,7 @@ use Rattle.heesch_check.specs.Catalogues.{block_of, IsGoodEntry, AreAll}
 use Rattle.heesch_check.specs.Judging.{AreJudged, Judges}
 use Rattle.heesch_check.proofs.Answering.{BadBlock, bad_none, invalid_block, entry_bad, brief_bad, holds_at, next_item}
 use Rattle.heesch_check.proofs.Deciding.{RefusedIn, refused_decided, same_rest, block_decides, end_decides}
-use Rattle.heesch_check.proofs.Leading.{IsBounded, up_to, no_second_header}
+use Rattle.heesch_check.proofs.Leading.{IsBounded, IsBoundedTo, up_to, no_second_header}
 use Rattle.heesch_check.proofs.OneAnswer.{begins_entry}
 use Rattle.heesch_check.proofs.Seen.{IsRead, checked}
 use Rattle.heesch_check.proofs.Stopping.{Held, behind_all, held_at, same_place}
@@ -103,7 +103,7 @@ record Ends (header : Header) (es : List Entry) (ls : List Line) : Type 0 where
   goes : steps false from ls ≡ Some to
   to_whole : is_whole to.place ≡ true
 
-ends_of : (bytes : List ℕ) (header : Header) (found : List Item) (item : Item) (n : ℕ) → IsBounded header → header.brief ≡ false → (j : AreJudged header found n) → Alone bytes (found ++ item ∷ []) → Ends header j.es (item_lines item)
+ends_of : (bytes : List ℕ) (header : Header) (found : List Item) (item : Item) (n : ℕ) → IsBoundedTo header n → header.brief ≡ false → (j : AreJudged header found n) → Alone bytes (found ++ item ∷ []) → Ends header j.es (item_lines item)
 ends_of bytes header found item n bound full j a =
     let i = next_item bytes header found [] item n [] a.tail a.reached bound full j a.read in
     record {
@@ -116,7 +116,7 @@ ends_of bytes header found item n bound full j a =
     }
 
 -- an item at fault among the bytes that are read decides
-pub item_decides : (bytes front more : List ℕ) (header : Header) (found back : List Item) (item : Item) (n after : ℕ) (held : List Line) (left : List ℕ) (reached : Progress) (answer : Checked) → IsBounded header → header.brief ≡ false → AreJudged header found n
+pub item_decides : (bytes front more : List ℕ) (header : Header) (found back : List Item) (item : Item) (n after : ℕ) (held : List Line) (left : List ℕ) (reached : Progress) (answer : Checked) → IsBoundedTo header n → header.brief ≡ false → AreJudged header found n
     → Stands none_appended front (found ++ item ∷ back) held left reached → IsShown (with_items none_appended (found ++ item ∷ back)) (text_of held ++ left) → bytes ≡ front ++ more
     → IsRead bytes (found ++ item ∷ back) held (left ++ more) reached → Judges header n after item (Some answer) → IsOpen bytes → ⊥
 item_decides bytes front more header found back (items.Header other) n after held left reached answer bound full j s shown split read judges o =
@@ -126,16 +126,16 @@ item_decides bytes front more header found back (items.Entry line e) n after hel
     let a = alone bytes front more found back (items.Entry line e) held left reached tt s shown split in
     let b = entry_bad bytes header found [] line e n [] a.tail a.reached bound full j a.read (holds_at 0 found [] (items.Entry line e) a.read.numbered) judges.1 in
     let w = ends_of bytes header found (items.Entry line e) n bound full j a in
-    block_decides bytes header j.es e.cells (body_lines e) a.tail w.from w.to bound b a.next w.from_whole w.shapes w.goes w.to_whole o
+    block_decides bytes header j.es e.cells (body_lines e) a.tail w.from w.to (subst (IsBoundedTo header) j.count bound) b a.next w.from_whole w.shapes w.goes w.to_whole o
 item_decides bytes front more header found back (items.Brief line cells verdict) n after held left reached answer bound full j s shown split read judges o =
     let a = alone bytes front more found back (items.Brief line cells verdict) held left reached tt s shown split in
     let b = brief_bad bytes header found [] line cells verdict n [] a.tail a.reached bound full j a.read in
     let w = ends_of bytes header found (items.Brief line cells verdict) n bound full j a in
-    block_decides bytes header j.es cells (lines.Verdict verdict ∷ []) a.tail w.from w.to bound b a.next w.from_whole w.shapes w.goes w.to_whole o
+    block_decides bytes header j.es cells (lines.Verdict verdict ∷ []) a.tail w.from w.to (subst (IsBoundedTo header) j.count bound) b a.next w.from_whole w.shapes w.goes w.to_whole o
 item_decides bytes front more header found back (items.End count) n after held left reached answer bound full j s shown split read judges o =
     let i = next_item bytes header found back (items.End count) n held (left ++ more) reached bound full j read in
     let behind = text_of (lines_of back ++ held) ++ (left ++ more) in
-    end_decides bytes header j.es count behind bound (checked bytes header j.es (text_of (lines.End count ∷ []) ++ behind) i.1.text i.1.form full j.good (λ some. inr refl))
+    end_decides bytes header j.es count behind (subst (IsBoundedTo header) j.count bound) (checked bytes header j.es (text_of (lines.End count ∷ []) ++ behind) i.1.text i.1.form full j.good (λ some. inr refl))
     (λ all. judges.1 (subst (AreAll header header.subject) (sym j.count) all)) o
 
 -- ---- a last line that comes too early
@@ -194,7 +194,7 @@ early_open : (front : List ℕ) (header : Header) (all : List Item) (n : ℕ) (h
 early_open front header all n held left reached bound full j none read one_line ends bad next no_entry o =
     let h = held_here front header all n held left reached bound full j none read in
     let c = checked front header j.es (text_of held ++ left) h.stand.text h.stand.form full j.good h.shown in
-    elim (same_rest front header j.es (text_of held ++ left) bound o c no_entry next) [
+    elim (same_rest front header j.es (text_of held ++ left) (up_to header (length j.es) bound) o c no_entry next) [
       | inl g ↦
           let same = same_reading held g.held left g.left h.stand.forms g.forms one_line g.one_line g.text in
           bad (subst (AreAll header header.subject) (sym j.count) (g.in_time (subst (λ (x : List ℕ). begins x (codes "end ") ≡ true) same.1 ends)))

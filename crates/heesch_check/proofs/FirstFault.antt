@@ -1,8 +1,11 @@
--- The answer of an input with a fault behind the header, before anything whole: no free list is needed for it.
-use Rattle.std.proofs.Common.{◌≡◌, inl, inr, ℕ, ◌≤◌, false, List, [], ◌∷◌, ◌++◌, length, Option, Some, refl, sym, ap, subst, ◌∙◌, arith}
+-- The answer of an input where what stands first behind the header is at fault: no free list is needed for it.
+use Rattle.std.proofs.Common.{◌≡◌, ◌⊎◌, inl, inr, ℕ, ◌≤◌, false, List, [], ◌∷◌, ◌++◌, length, Option, Some, refl, sym, ap, subst, ◌∙◌, arith}
+use Rattle.std.specs.Prelude.{slice_get}
 use Rattle.std.proofs.lemmas.List.{append-nil, nil_from_length}
+use Rattle.heesch_grid.specs.declared.Cell.{Cell}
 use Rattle.heesch_cert.specs.declared.entry.Entry.{Entry}
 use Rattle.heesch_cert.specs.declared.header.Header.{Header}
+use Rattle.heesch_cert.specs.declared.verdict.Verdict.{Verdict}
 use Rattle.heesch_text.specs.Lines.{text_of}
 use Rattle.heesch_reader.specs.declared.item.Item.{Item}
 use Rattle.heesch_reader.specs.declared.item.Item.TheVariants as items
@@ -12,16 +15,19 @@ use Rattle.heesch_reader.specs.Feeding.{Refuses, FallsShort}
 use Rattle.heesch_stream.specs.Input.{IsAllOf}
 use Rattle.heesch_stream.specs.Taking.{Streamed, HasFault}
 use Rattle.heesch_check.specs.declared.answers.Checked.{Checked}
+use Rattle.heesch_check.specs.declared.answers.Checked.TheVariants as answers
 use Rattle.heesch_check.specs.declared.reading.Reading.{Reading}
 use Rattle.heesch_check.specs.declared.reading.Reading.TheVariants as readings
 use Rattle.heesch_check.specs.Answers.{IsOpen, IsTooLong, IsDecided}
 use Rattle.heesch_check.specs.Catalogues.{block_of, IsGoodEntry, AreBlocks}
-use Rattle.heesch_check.specs.Reading.{FaultsFirst, IsAnswerOf, IsReading, BeginWith}
+use Rattle.heesch_check.specs.Reading.{FaultsAlone, FaultsFirst, IsAnswerOf, IsReading, BeginWith}
+use Rattle.heesch_check.proofs.Answering.{brief_fault}
 use Rattle.heesch_check.proofs.Behind.{first_judged}
-use Rattle.heesch_check.proofs.Deciding.{RefusedIn, open_leads, reads_on, refused_leads, shown_on, stands_read}
+use Rattle.heesch_check.proofs.Early.{item_decides}
+use Rattle.heesch_check.proofs.Deciding.{Fronted, RefusedIn, open_leads, reads_on, refused_leads, shown_on, stands_read}
 use Rattle.heesch_check.proofs.Leading.{IsBoundedTo, up_to_none}
 use Rattle.heesch_check.proofs.OneAnswer.{same_header, short_decided}
-use Rattle.heesch_check.proofs.Readings.{Answers, FaultRead, refusal_read, fall_read, fault_answers}
+use Rattle.heesch_check.proofs.Readings.{Answers, FaultRead, as_reading, refusal_read, fall_read, fault_answers}
 use Rattle.heesch_check.proofs.Seen.{IsRead}
 use Rattle.heesch_check.proofs.Stopping.{Held, StopsAt, refused, held_at, behind_all, no_good}
 
@@ -85,10 +91,46 @@ first_fault_answers first now header s part answer full h e =
     let d = fault_first first header h.0 part full h.1 in
     fault_answers first header (alone header) 0 part answer (up_to_none header) full (first_judged header) d.0 d.1 e
 
-pub faults_first : (first now : Option (List ℕ)) (header : Header) (all : List Item) (s : Streamed) (reading : Reading) (answer : Checked) → header.brief ≡ false → BeginWith header all → IsReading first now all s reading → FaultsFirst all reading answer → Answers first answer
-faults_first first now header all s reading answer full b h f =
+alone_answers : (first now : Option (List ℕ)) (header : Header) (all : List Item) (s : Streamed) (reading : Reading) (answer : Checked) → header.brief ≡ false → BeginWith header all → IsReading first now all s reading → FaultsAlone all reading answer → Answers first answer
+alone_answers first now header all s reading answer full b h f =
     let many : length all ≡ length (items.Header header ∷ b.0) = ap length b.1 in
     let low = f.alone in
     let none : b.0 ≡ [] = nil_from_length b.0 (omega (arith, many, low)) in
     let only : all ≡ alone header = b.1 ∙ ap (λ (x : List Item). items.Header header ∷ x) none in
     first_fault_answers first now header s f.part answer full (subst (IsReading first now (alone header) s) f.fault (subst (λ (x : List Item). IsReading first now x s reading) only h)) (f.tells header)
+
+-- ---- a brief entry
+
+brief_decided : (input : List ℕ) (header : Header) (back : List Item) (line : ℕ) (cells : List Cell) (verdict : Verdict) → header.brief ≡ false
+    → (length input ≤ 1099511627776) ⊎ Fronted input (items.Header header ∷ items.Brief line cells verdict ∷ back) → IsDecided input
+unfolding first_judged
+brief_decided input header back line cells verdict full (inl few) = short_decided input few
+brief_decided input header back line cells verdict full (inr f) = λ at t.
+    let all = items.Header header ∷ items.Brief line cells verdict ∷ back in
+    let more = reads_on input at f.front f.behind t f.split f.few in
+    let read : IsRead t.front all f.held (f.left ++ more.0) f.reached =
+    subst (λ (x : List ℕ). IsRead x all f.held (f.left ++ more.0) f.reached) (sym more.1) (stands_read f.front more.0 all f.held f.left f.reached f.stands (shown_on all f.held f.left more.0 f.shown)) in
+    item_decides t.front f.front more.0 header (alone header) back (items.Brief line cells verdict) 0 0 f.held f.left f.reached (answers.InvalidEntry 1) (up_to_none header) full (first_judged header) f.stands f.shown more.1 read refl t.goes_on
+
+brief_answers : (first now : Option (List ℕ)) (header : Header) (back : List Item) (line : ℕ) (cells : List Cell) (verdict : Verdict) (s : Streamed) (reading : Reading) → header.brief ≡ false
+    → IsReading first now (items.Header header ∷ items.Brief line cells verdict ∷ back) s reading → Answers first (answers.InvalidEntry 1)
+brief_answers first now header back line cells verdict s reading full h =
+    let a = as_reading first now (items.Header header ∷ items.Brief line cells verdict ∷ back) s reading h in
+    (a.input, a.all_of, (brief_fault a.input header (alone header) back line cells verdict 0 a.held a.tail a.reached (up_to_none header) full (first_judged header) a.read, brief_decided a.input header back line cells verdict full a.within))
+
+second_is : (xs : List Item) (item : Item) → slice_get xs 0 ≡ Some item → (back : List Item) × (xs ≡ item ∷ back)
+second_is [] item e = absurd cc
+second_is (x ∷ xs) item e = (xs, ap (λ (y : Item). y ∷ xs) (one_some e))
+  where
+    one_some : {a b : Item} → Some a ≡ Some b → a ≡ b
+    one_some e = cc
+
+-- what stands first behind the header is at fault
+pub faults_first : (first now : Option (List ℕ)) (header : Header) (all : List Item) (s : Streamed) (reading : Reading) (answer : Checked) → header.brief ≡ false → BeginWith header all → IsReading first now all s reading → FaultsFirst all reading answer → Answers first answer
+faults_first first now header all s reading answer full b h (inl f) = alone_answers first now header all s reading answer full b h f
+faults_first first now header all s reading answer full b h (inr f) =
+    let item = items.Brief f.line f.cells f.verdict in
+    let at : slice_get b.0 0 ≡ Some item = ap (λ (x : List Item). slice_get x 1) (sym b.1) ∙ f.second in
+    let second = second_is b.0 item at in
+    let whole : all ≡ items.Header header ∷ item ∷ second.0 = b.1 ∙ ap (λ (x : List Item). items.Header header ∷ x) second.1 in
+    subst (Answers first) (sym f.tells) (brief_answers first now header second.0 f.line f.cells f.verdict s reading full (subst (λ (x : List Item). IsReading first now x s reading) whole h))

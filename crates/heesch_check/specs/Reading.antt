@@ -1,7 +1,9 @@
 -- What reading came to, and the answer behind items that were judged.
 use Rattle.std.specs.Io.KnownBytes.{Consumes}
-use Rattle.std.specs.Prelude.{◌≡◌, ◌⊎◌, ℕ, ◌+◌, ◌<◌, ◌≤◌, false, List, [], ◌∷◌, ◌++◌, length, Option, Some, None, Result, IfOk}
+use Rattle.std.specs.Prelude.{◌≡◌, ◌⊎◌, ℕ, ◌+◌, ◌<◌, ◌≤◌, false, List, [], ◌∷◌, ◌++◌, length, slice_get, Option, Some, None, Result, IfOk}
+use Rattle.heesch_grid.specs.declared.Cell.{Cell}
 use Rattle.heesch_cert.specs.declared.header.Header.{Header}
+use Rattle.heesch_cert.specs.declared.verdict.Verdict.{Verdict}
 use Rattle.heesch_text.specs.declared.line.Line.TheVariants as lines
 use Rattle.heesch_line.specs.Forms.{IsLine}
 use Rattle.heesch_reader.specs.declared.item.Item.{Item}
@@ -42,11 +44,23 @@ IsAnswerOf header entries (readings.Fault parts.End) answer = answer ≡ Some an
 IsAnswerOf header entries (readings.TooLong line ending) answer = (told : Checked) × (answer ≡ Some told) × AnswersLong header entries line ending told
 
 -- a fault stands behind the header, before anything whole, and this is its answer
-pub record FaultsFirst (all : List Item) (reading : Reading) (answer : Checked) : Type 0 where
+pub record FaultsAlone (all : List Item) (reading : Reading) (answer : Checked) : Type 0 where
   pub alone : length all ≤ 1
   pub part : Part
   pub fault : reading ≡ readings.Fault part
   pub tells : (header : Header) → IsAnswerOf header 0 (readings.Fault part) (Some answer)
+
+-- so does a brief entry
+pub record IsBriefFirst (all : List Item) (answer : Checked) : Type 0 where
+  pub line : ℕ
+  pub cells : List Cell
+  pub verdict : Verdict
+  pub second : slice_get all 1 ≡ Some (items.Brief line cells verdict)
+  pub tells : answer ≡ answers.InvalidEntry 1
+
+-- what stands first behind the header is at fault, whatever the free list, and this is its answer
+abbrev pub FaultsFirst : List Item → Reading → Checked → Type 0
+FaultsFirst all reading answer = FaultsAlone all reading answer ⊎ IsBriefFirst all answer
 
 -- since the source had `first` left, these items were read, and reading came so far
 abbrev pub IsReading : (first now : Option (List ℕ)) → List Item → Streamed → Reading → Type 0

@@ -39,11 +39,12 @@ const ROUND: usize = 256;
 ///
 /// `TooLong` comes where the first 2^40 bytes decide no invalid part and more follow.
 ///
-/// Entries are judged by rounds: items are gathered from as many pieces as that takes until there are 256, the input is at fault or
-/// ends, or as much is read as may be; then the entries that are in their places are audited by the workers, each once, and the
-/// answer is that of the first item at fault. The gate is told of each entry's number, from 0. Reading stops with the round that
-/// decides the answer, and no more is held than the items of a round and those of one piece. The free list of a size is made once,
-/// by the workers, before the first round, but where the input is at fault with nothing whole behind its header.
+/// Entries are judged by rounds: items are gathered from as many pieces as that takes until there are 256, the input is at
+/// fault or ends, or as much is read as may be; then the entries that are in their places are audited by the workers, each
+/// once, and the answer is that of the first item at fault. The gate is told of each entry's number, from 0. Reading stops
+/// with the round that decides the answer, and no more is held than the items of a round and those of one piece. The free
+/// list of a size is made once, by the workers, before the first round, but where the input is at fault with nothing whole
+/// behind its header, or with a brief entry.
 ///
 /// Errors: `Failed` only where the source's count of faults rose; `NoMemory` where memory was refused.
 pub fn check<T: Threads + Sync, R: Source, H: Gate + Sync>(
@@ -95,12 +96,14 @@ fn header_of(items: &[Item]) -> Option<Header>
     }
 }
 
-/// The answer where a fault stands behind the header, before anything whole. No list is needed for it.
+/// The answer where what stands first behind the header is at fault whatever the free list: a brief entry, or a fault before
+/// anything whole.
 fn first_fault(items: &[Item], reading: Reading) -> Option<Checked>
     ensures { IfSome result (FaultsFirst items.now reading) }
 {
-    match reading {
-        Reading::Fault { part } if items.len() <= 1 => Some(fault_behind(0, part)),
+    match (items.get(1), reading) {
+        (Some(Item::Brief { .. }), _) => Some(Checked::InvalidEntry { number: 1 }),
+        (None, Reading::Fault { part }) => Some(fault_behind(0, part)),
         _ => None,
     }
 }
@@ -174,7 +177,7 @@ fn check_under<G: Grid + Send + Sync, T: Threads + Sync, R: Source, H: Gate + Sy
         source,
         &mut stream,
         judge,
-        items.as_slice(),
+        items,
         reading,
         workers,
         gate,
@@ -216,7 +219,7 @@ fn check_behind<G: Grid + Send + Sync, T: Threads + Sync, R: Source, H: Gate + S
     source: &mut R,
     stream: &mut Stream,
     mut judge: Judge<G>,
-    items: &[Item],
+    items: Seq<Item>,
     reading: Reading,
     workers: u32,
     gate: &H,
@@ -226,15 +229,18 @@ fn check_behind<G: Grid + Send + Sync, T: Threads + Sync, R: Source, H: Gate + S
     requires limits { AreLimits judge.header.limits }
     requires full { judge.header.brief ≡ false }
     requires none { judge.entries ≡ 0 }
-    requires begins { BeginWith judge.header items.now }
+    requires begins { BeginWith judge.header items }
     requires workers { (1 ≤ workers) × (workers ≤ 64) }
-    requires underway { IsUnderway (R.left source.old) items.now stream.old reading }
-    ensures ok { (first : Option (List ℕ)) → IsReading first (R.left source.old) items.now stream.old reading → IsAnswered first result }
-    ensures no_further { (first : Option (List ℕ)) → IsReading first (R.left source.old) items.now stream.old reading → ReadsNoFurther first (R.left source.old) → IfOk result (λ _. ReadsNoFurther first (R.left source.new)) }
+    requires underway { IsUnderway (R.left source.old) items stream.old reading }
+    ensures ok { (first : Option (List ℕ)) → IsReading first (R.left source.old) items stream.old reading → IsAnswered first result }
+    ensures no_further { (first : Option (List ℕ)) → IsReading first (R.left source.old) items stream.old reading → ReadsNoFurther first (R.left source.old) → IfOk result (λ _. ReadsNoFurther first (R.left source.new)) }
     ensures failed { result ≡ Err CheckStop.Failed → Rose (R.faults source.old) (R.faults source.new) }
     ensures later { R.faults source.old ≤ R.faults source.new }
 {
-    if let Some(answer) = judge.judge_round(rt, alloc, &items[1..], reading, workers, gate)? {
+    let first = items.as_slice();
+    let told = judge.judge_round(rt, alloc, &first[1..], reading, workers, gate)?;
+    drop(items);
+    if let Some(answer) = told {
         return Ok(answer);
     }
     'rounds: loop {

@@ -156,8 +156,8 @@ impl<G: Grid + Send + Sync> Judge<G> {
         entries
     }
 
-    /// Judges items, up to the first at fault, and gives its answer. The entries that stand first among them, each in its place, are
-    /// audited at once.
+    /// Judges items, up to the first at fault, and gives its answer. The entries that stand first among them, each in its
+    /// place, are audited at once.
     fn judge_all<T: Threads + Sync, H: Gate + Sync>(
         &mut self,
         rt: &T,

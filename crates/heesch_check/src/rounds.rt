@@ -16,11 +16,12 @@ use std::alloc::Global;
 use std::marker::PhantomData;
 use std::thread::Threads;
 
-/// The job whose item is whether an entry is true. The first of the items has this number.
+/// The job whose item is whether an entry is true.
 #[derive(Drop)]
 struct AuditOf<'a, G: Grid> {
     alloc: Global,
     items: &'a [Item],
+    /// The number of the first of the items.
     first: u32,
     limits: Limits,
     grid: PhantomData<G>,
@@ -55,8 +56,9 @@ fn is_true<G: Grid>(alloc: Global, entry: &Entry, limits: Limits) -> Result<bool
     }
 }
 
-/// Whether each entry of the numbers from `from` to before `until` is true, in order, by as many workers as told. The first of the
-/// items has the number `from`. One ticket of the pool is one entry, and the gate is told its number. One entry takes no thread.
+/// Whether each entry of the numbers from `from` to before `until` is true, in order, by as many workers as told. The first
+/// of the items has the number `from`. One ticket of the pool is one entry, and the gate is told its number. One entry takes
+/// no thread.
 pub(crate) fn audits<G: Grid + Send + Sync, T: Threads + Sync, H: Gate + Sync>(
     rt: &T,
     alloc: Global,

@@ -18,6 +18,8 @@ const END: &str = "end 1\n";
 
 const LARGE: &str = "heesch 1 iamond 15 turns 20000 levels 3 domain 4 size 60000000\n";
 
+const BRIEF: &str = "shape 1,1\nverdict tiles halfturn domain 2 classes 1\n";
+
 const GIVEN: &str = "heesch 1 iamond given turns 20000 levels 3 domain 4 size 60000000\n";
 
 /// The answer of a text that comes in pieces of at most 5 bytes.
@@ -98,6 +100,10 @@ fn the_first_invalid_part_is_told(rt: HostRuntime) -> Result<(), Fail> {
             Checked::InvalidHeader,
         ),
         (format!(in alloc; "{LARGE}xyz\n")?, Checked::InvalidEnd),
+        (
+            format!(in alloc; "{LARGE}{BRIEF}{BRIEF}")?,
+            Checked::InvalidEntry { number: 1 },
+        ),
         (format!(in alloc; "")?, Checked::InvalidHeader),
     ] {
         assert_eq!(rt; answer_of(&rt, alloc, &text), Ok(answer), "{text}");

@@ -24,7 +24,7 @@ use Rattle.heesch_parts.specs.PartLines.{IsPartLine, part_words, part_text, part
 use Rattle.heesch_parts.specs.Stages.{start, Step, Walk, end_fault}
 use Rattle.heesch_parts.specs.Shares.{items_behind}
 use Rattle.heesch_parts.specs.Faults.{IsLineFault, EndFault}
-use Rattle.heesch_parts.specs.Joining.{AreBuilt, Gives, Settles, Holds, TakesLine, Kept, IsFed, GoesTo, IsFrontStop, IsWholeStop, IsStopBeyond, FeedsTo, Advances, HasRoom, LeavesRoom, ends_entry, new_header, shares_of, header_line, whole_lines}
+use Rattle.heesch_parts.specs.Joining.{AreBuilt, Gives, Settles, Holds, TakesLine, Kept, IsFed, GoesTo, IsFrontStop, StopsBefore, AppendsUntil, IsWholeStop, IsStopBeyond, FeedsTo, Advances, HasRoom, LeavesRoom, ends_entry, new_header, shares_of, header_line, whole_lines}
 use Rattle.heesch_parts.specs.declared.join_stop.JoinStop.{JoinStop}
 use Rattle.heesch_parts.specs.declared.join_stop.JoinStop.TheVariants as stops
 use Rattle.heesch_parts.proofs.Growing.{mapped_long}
@@ -149,6 +149,10 @@ line_more : (line : List ℕ) (b : ℕ) → HasNoNewline line → b ≢ 10 → H
 line_more [] b h other = (other, tt)
 line_more (c ∷ line) b h other = (h.0, line_more line b h.1 other)
 
+-- no byte more
+pub nothing_new : (bytes : List ℕ) (given items : List Item) (kept : Kept) → IsFed bytes given kept → GoesTo bytes given items items kept
+nothing_new bytes given items kept f = record { more = []; after_is = sym (append-nil items); fed = subst (λ (x : List Item). IsFed bytes x kept) (sym (append-nil given)) f }
+
 -- a byte of the line
 pub byte_fed : (before : List ℕ) (given items : List Item) (old new : Kept) (byte : ℕ) → IsFed before given old → byte ≢ 10 → new.stage ≡ old.stage → new.held ≡ old.held → new.lines ≡ old.lines → new.left ≡ old.left ++ byte ∷ []
     → GoesTo (before ++ byte ∷ []) given items items new
@@ -196,7 +200,7 @@ pub advanced : (r : Result (Unit {0}) JoinStop) (before : List ℕ) (given items
     → Advances old new line reached items after r → FeedsTo (before ++ 10 ∷ []) given items after new r
 advanced (Ok u) before given items after old new line reached f form words step a = line_fed before given items after old new line reached f form words step a
 advanced (Err (stops.Fault at fault)) before given items after old new line reached f form words step a = absurd a
-advanced (Err stops.NoMemory) before given items after old new line reached f form words step a = tt
+advanced (Err stops.NoMemory) before given items after old new line reached f form words step a = (tt, a)
 
 -- a line has a byte
 has_words : (line : PartLine) → 0 < length (part_words line)
@@ -222,7 +226,7 @@ goes_on_as : (before more : List ℕ) (given : List Item) (kept : Kept) → (f :
 goes_on_as before more given kept f = ap (λ (x : List ℕ). x ++ more) f.text ∙ append_assoc (parts_text f.ended) kept.left more
 
 -- the line that ended
-pub line_fault : (before : List ℕ) (given : List Item) (kept : Kept) (number : ℕ) (e : JoinStop) → IsFed before given kept → IsLineFault kept.left kept.stage number → e ≡ stops.Fault (kept.lines + 1) number → IsFrontStop (before ++ 10 ∷ []) e
+line_fault : (before : List ℕ) (given : List Item) (kept : Kept) (number : ℕ) (e : JoinStop) → IsFed before given kept → IsLineFault kept.left kept.stage number → e ≡ stops.Fault (kept.lines + 1) number → IsFrontStop (before ++ 10 ∷ []) e
 line_fault before given kept number e f fault is = subst (IsFrontStop (before ++ 10 ∷ [])) (sym is) told
   where
     told : IsFrontStop (before ++ 10 ∷ []) (stops.Fault (kept.lines + 1) number)
@@ -240,6 +244,12 @@ line_fault before given kept number e f fault is = subst (IsFrontStop (before ++
           fault = inl (record { words = kept.left; back = rest; split = refl; one_line = f.one_line; in_time = omega (arith, few, one, long); fault = fault });
           line_is = ap (λ (n : ℕ). n + 1) f.count;
         }
+
+-- nothing was appended in it
+pub line_stops : (before : List ℕ) (given items : List Item) (kept : Kept) (number : ℕ) (e : JoinStop) → IsFed before given kept → IsLineFault kept.left kept.stage number → e ≡ stops.Fault (kept.lines + 1) number → FeedsTo (before ++ 10 ∷ []) given items items kept (Err e)
+line_stops before given items kept number e f fault is =
+    let stopped : StopsBefore (before ++ 10 ∷ []) given items items kept = record { seen = before; unseen = []; split = refl; goes = nothing_new before given items kept f } in
+    (line_fault before given kept number e f fault is, subst (AppendsUntil (before ++ 10 ∷ []) given items items kept) (sym is) stopped)
 
 end_told : (before : List ℕ) (given : List Item) (kept : Kept) (number : ℕ) → IsFed before given kept → EndFault kept.left kept.stage number → IsWholeStop before (stops.Fault (kept.lines + 1) number)
 end_told before given kept number f fault most few =

@@ -14,7 +14,7 @@ use Rattle.heesch_parts.specs.PartLines.{parts_text}
 use Rattle.heesch_parts.specs.Stages.{fault_at_end, end_fault}
 use Rattle.heesch_parts.specs.Shares.{entries_of, items_behind, share_items, shares_from}
 use Rattle.heesch_parts.specs.Faults.{HasFault}
-use Rattle.heesch_parts.specs.Joining.{AreBuilt, Kept, IsFed, GoesTo, FeedsTo, IsFrontStop, Joins, HasRoom, LeavesRoom, MayGoOn, MayGoOnUnless, refusal_of, lines_before}
+use Rattle.heesch_parts.specs.Joining.{AreBuilt, Kept, IsFed, GoesTo, FeedsTo, IsFrontStop, AppendsUntil, Joins, HasRoom, LeavesRoom, MayGoOn, MayGoOnUnless, refusal_of, lines_before}
 use Rattle.heesch_parts.specs.declared.join_stop.JoinStop.{JoinStop}
 use Rattle.heesch_parts.specs.declared.join_stop.JoinStop.TheVariants as stops
 use Rattle.heesch_parts.proofs.Building.{stage_of}
@@ -75,11 +75,11 @@ goes_on bytes more given before between after mid new g h = record {
   fed = subst (λ (x : List Item). IsFed more x new) (append_assoc given g.more h.more) h.fed;
 }
 
-pub nothing_new : (bytes : List ℕ) (given items : List Item) (kept : Kept) → IsFed bytes given kept → GoesTo bytes given items items kept
-nothing_new bytes given items kept f = record { more = []; after_is = sym (append-nil items); fed = subst (λ (x : List Item). IsFed bytes x kept) (sym (append-nil given)) f }
-
 pub byte_more : (before bytes : List ℕ) (i d : ℕ) → i < length bytes → (before ++ take i bytes) ++ get_or bytes i d ∷ [] ≡ before ++ take (i + 1) bytes
 byte_more before bytes i d less = append_assoc before (take i bytes) (get_or bytes i d ∷ []) ∙ ap (λ (t : List ℕ). before ++ t) (sym (take_more bytes i d less))
+
+all_bytes : (before bytes : List ℕ) (i : ℕ) → (before ++ take (i + 1) bytes) ++ drop (i + 1) bytes ≡ before ++ bytes
+all_bytes before bytes i = append_assoc before (take (i + 1) bytes) (drop (i + 1) bytes) ∙ ap (λ (t : List ℕ). before ++ t) (take-append-drop (i + 1) bytes)
 
 -- a fault at a front is one of a longer front
 pub front_stop_later : (front more : List ℕ) (e : JoinStop) → IsFrontStop front e → IsFrontStop (front ++ more) e
@@ -88,10 +88,28 @@ front_stop_later front more (stops.Fault line fault) h = λ most rest few.
 front_stop_later front more stops.NoMemory h = tt
 
 -- the fault of one byte is that of all
-pub byte_stops : (before bytes : List ℕ) (i d : ℕ) (e : JoinStop) → i < length bytes → IsFrontStop ((before ++ take i bytes) ++ get_or bytes i d ∷ []) e → IsFrontStop (before ++ bytes) e
+byte_stops : (before bytes : List ℕ) (i d : ℕ) (e : JoinStop) → i < length bytes → IsFrontStop ((before ++ take i bytes) ++ get_or bytes i d ∷ []) e → IsFrontStop (before ++ bytes) e
 byte_stops before bytes i d e less h =
-    let whole : (before ++ take (i + 1) bytes) ++ drop (i + 1) bytes ≡ before ++ bytes = append_assoc before (take (i + 1) bytes) (drop (i + 1) bytes) ∙ ap (λ (t : List ℕ). before ++ t) (take-append-drop (i + 1) bytes) in
-    subst (λ (t : List ℕ). IsFrontStop t e) whole (front_stop_later (before ++ take (i + 1) bytes) (drop (i + 1) bytes) e (subst (λ (t : List ℕ). IsFrontStop t e) (byte_more before bytes i d less) h))
+    subst (λ (t : List ℕ). IsFrontStop t e) (all_bytes before bytes i) (front_stop_later (before ++ take (i + 1) bytes) (drop (i + 1) bytes) e (subst (λ (t : List ℕ). IsFrontStop t e) (byte_more before bytes i d less) h))
+
+-- what was appended until then
+appends_later : (bytes more : List ℕ) (given before between after : List Item) (mid new : Kept) (e : JoinStop) → (g : GoesTo bytes given before between mid) → AppendsUntil more (given ++ g.more) between after new e → (back : List ℕ) → AppendsUntil (more ++ back) given before after new e
+appends_later bytes more given before between after mid new (stops.Fault line fault) g h back = record {
+  seen = h.seen;
+  unseen = h.unseen ++ back;
+  split = ap (λ (x : List ℕ). x ++ back) h.split ∙ append_assoc h.seen (10 ∷ h.unseen) back;
+  goes = goes_on bytes h.seen given before between after mid new g h.goes;
+}
+appends_later bytes more given before between after mid new stops.NoMemory g h back = (g.more ++ h.0, h.1 ∙ ap (λ (x : List Item). x ++ h.0) g.after_is ∙ append_assoc before g.more h.0)
+
+-- a byte stops the joiner, behind those before it
+pub byte_ends : (r : Result (Unit {0}) JoinStop) (before bytes : List ℕ) (i d : ℕ) (given items between after : List Item) (mid new : Kept) (e : JoinStop) → i < length bytes → (g : GoesTo (before ++ take i bytes) given items between mid)
+    → FeedsTo ((before ++ take i bytes) ++ get_or bytes i d ∷ []) (given ++ g.more) between after new (Err e) → r ≡ Err e → FeedsTo (before ++ bytes) given items after new r
+byte_ends r before bytes i d given items between after mid new e less g h is =
+    let appended = appends_later (before ++ take i bytes) ((before ++ take i bytes) ++ get_or bytes i d ∷ []) given items between after mid new e g h.1 (drop (i + 1) bytes) in
+    let whole : ((before ++ take i bytes) ++ get_or bytes i d ∷ []) ++ drop (i + 1) bytes ≡ before ++ bytes = ap (λ (x : List ℕ). x ++ drop (i + 1) bytes) (byte_more before bytes i d less) ∙ all_bytes before bytes i in
+    subst (λ (x : Result (Unit {0}) JoinStop). FeedsTo (before ++ bytes) given items after new x) (sym is)
+    (byte_stops before bytes i d e less h.0, subst (λ (x : List ℕ). AppendsUntil x given items after new e) whole appended)
 
 -- a joiner that hasn't refused may go on
 pub goes_unless : (r : Result (Unit {0}) JoinStop) (refusal : Option JoinStop) (old new : Kept) (piece : List ℕ) (items after : List Item) → refusal ≡ refusal_of r → MayGoOn old

@@ -34,7 +34,7 @@ pub record Ended (most : ℕ) (front rest : List ℕ) (s : Stage) (number : ℕ)
   pub in_time : length front + length words < most
   pub fault : IsLineFault words s number
 
--- the input may end behind these bytes of a line: there are none, and the last share is whole
+-- the fault of an end of input behind these bytes of a line: 6 where there are some, and else that of the lines before
 abbrev pub EndFault : List ℕ → Stage → ℕ → Type 0
 EndFault [] s number = end_fault s ≡ Some number
 EndFault (b ∷ rest) s number = number ≡ 6

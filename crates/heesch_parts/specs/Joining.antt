@@ -184,10 +184,22 @@ abbrev pub IsFrontStop : List ℕ → JoinStop → Type 0
 IsFrontStop front (stops.Fault line fault) = (most : ℕ) (rest : List ℕ) → length front ≤ most → HasFault most (front ++ rest) line fault
 IsFrontStop front stops.NoMemory = ⊤
 
+-- the bytes before the newline of the faulty line were fed, and the items that are whole by then were appended
+pub record StopsBefore (bytes : List ℕ) (given before after : List Item) (kept : Kept) : Type 0 where
+  pub seen : List ℕ
+  pub unseen : List ℕ
+  pub split : bytes ≡ seen ++ 10 ∷ unseen
+  pub goes : GoesTo seen given before after kept
+
+-- what was appended before the stop: where memory was refused, some items or none
+abbrev pub AppendsUntil : List ℕ → (given before after : List Item) → Kept → JoinStop → Type 0
+AppendsUntil bytes given before after kept (stops.Fault line fault) = StopsBefore bytes given before after kept
+AppendsUntil bytes given before after kept stops.NoMemory = (more : List Item) × (after ≡ before ++ more)
+
 -- the answer to these bytes
 abbrev pub FeedsTo : List ℕ → (given before after : List Item) → Kept → Result (Unit {0}) JoinStop → Type 0
 FeedsTo bytes given before after kept (Ok _) = GoesTo bytes given before after kept
-FeedsTo bytes given before after kept (Err stop) = IsFrontStop bytes stop
+FeedsTo bytes given before after kept (Err stop) = IsFrontStop bytes stop × AppendsUntil bytes given before after kept stop
 
 -- the bytes are those of shares; with the end, which was appended, the items are those of the joined catalogue
 pub record Joins (bytes : List ℕ) (given before after : List Item) : Type 0 where
@@ -206,7 +218,7 @@ IsWholeStop text stops.NoMemory = ⊤
 -- the answer to the end of these bytes
 abbrev pub FinishesWith : List ℕ → (given before after : List Item) → Result (Unit {0}) JoinStop → Type 0
 FinishesWith bytes given before after (Ok _) = Joins bytes given before after
-FinishesWith bytes given before after (Err stop) = IsWholeStop bytes stop
+FinishesWith bytes given before after (Err stop) = IsWholeStop bytes stop × (after ≡ before)
 
 -- each text that goes on behind these bytes has the fault, if no more than these are read
 abbrev pub IsStopBeyond : List ℕ → JoinStop → Type 0
@@ -263,8 +275,8 @@ pub record TakesLine (old new : Kept) (line : PartLine) (reached : Stage) (items
   pub left : new.left ≡ []
   pub lines : new.lines ≡ old.lines + 1
 
--- it was, unless memory was refused
+-- it was, unless memory was refused, and then items were appended or none
 abbrev pub Advances : (old new : Kept) → PartLine → Stage → (items after : List Item) → Result (Unit {0}) JoinStop → Type 0
 Advances old new line reached items after (Ok _) = TakesLine old new line reached items after
 Advances old new line reached items after (Err (stops.Fault at fault)) = ⊥
-Advances old new line reached items after (Err stops.NoMemory) = ⊤
+Advances old new line reached items after (Err stops.NoMemory) = (more : List Item) × (after ≡ items ++ more)

@@ -31,6 +31,7 @@ share_behind (Some progress) s i k = Err 6
 share_behind None s i k =
     if (i == s.share + 1) && may_be s.shares k then Ok (record { shares = Some k; share = i; header = s.header; entries = s.entries; progress = Some stages.Start }) else Err 9
 
+-- share i of k, by what stood before
 abbrev pub share_step : Stage → (i k : ℕ) → Result Stage ℕ
 share_step s i k = share_behind s.progress s i k
 
@@ -75,11 +76,12 @@ led s (lines.Shape cells) reached =
 led s (lines.End count) reached = Ok (record { shares = s.shares; share = s.share; header = s.header; entries = s.entries; progress = None })
 led s line reached = Ok (record { shares = s.shares; share = s.share; header = s.header; entries = s.entries; progress = Some reached })
 
+-- where the grammar of a catalogue leads there, or nowhere
 abbrev pub led_to : Stage → Line → Option Progress → Result Stage ℕ
 led_to s line None = Err 6
 led_to s line (Some reached) = led s line reached
 
--- where it may stand by the grammar of a catalogue
+-- where a line of a catalogue that is no header leads, or its fault: 6 where it may not stand by the grammar of a catalogue
 abbrev pub line_step : Stage → Line → Result Stage ℕ
 line_step s line = led_to s line (option_and_then (λ p. next p line) s.progress)
 
@@ -102,15 +104,16 @@ Walk s (line ∷ ls) t = (u : Stage) × Step s line (Ok u) × Walk u ls t
 
 -- ---- the end of the input
 
--- the fault of an end of input behind the last share line's share, if there is one
+-- the fault of an end of input behind whole shares, if it is one: 6 where there is none, and 11 where there are fewer than K
 abbrev pub fault_between : Option ℕ → ℕ → Option ℕ
 fault_between None share = Some 6
 fault_between (Some shares) share = if share == shares then None else Some 11
 
--- the fault of an end of input behind whole lines, if there is one: it may come behind the last share alone
+-- the fault of an end of input behind a line, by what that one is of: 6 amid a share
 abbrev pub fault_at_end : Option Progress → Stage → Option ℕ
 fault_at_end (Some progress) s = Some 6
 fault_at_end None s = fault_between s.shares s.share
 
+-- the fault of an end of input behind these lines, if it is one: the input may end behind the last share alone
 abbrev pub end_fault : Stage → Option ℕ
 end_fault s = fault_at_end s.progress s

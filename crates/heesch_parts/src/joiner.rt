@@ -54,10 +54,10 @@ impl Joiner {
     /// Appends the first share's header, and each entry that is whole by now: the line behind it ended, which begins
     /// the next entry or ends the share. An item of an entry has the number of the line of its word `shape`.
     ///
-    /// `Fault` comes exactly where a line whose newline was fed can't stand, with the first such line. `NoMemory` may
-    /// come whenever memory is refused. After either the joiner answers the same for good. Condition: the number of
-    /// lines so far, the length of the line that didn't end and that of the piece sum to less than 2^64. Each byte is
-    /// looked at a bounded number of times.
+    /// `Fault` comes exactly where a line whose newline was fed can't stand, with the first such line; the items that are
+    /// whole before it are appended. `NoMemory` may come whenever memory is refused, behind some items or none. After
+    /// either the joiner answers the same for good. Condition: the number of lines so far, the length of the line that
+    /// didn't end and that of the piece sum to less than 2^64. Each byte is looked at a bounded number of times.
     pub fn feed(&mut self, piece: &[u8], items: &mut Seq<Item>) -> Result<(), JoinStop>
         requires room { self.old.kept.lines + length self.old.kept.left + length piece.now < 2 ^ 64 }
         ensures fed { self.old.refusal ≡ None → (before : List ℕ) (given : List Item)
@@ -79,7 +79,8 @@ impl Joiner {
     /// Takes the end of the bytes: Ok exactly where those that were fed are the texts of K shares, numbered 1 to K in
     /// order, under one header. Then an end with the number of all entries is appended, so that the items are those of
     /// one catalogue, and the joiner may go on as if the bytes hadn't ended. Else the fault of the end of the input.
-    /// `NoMemory` may come where memory is refused. After an error the joiner answers the same for good.
+    /// `NoMemory` may come where memory is refused. At an error nothing is appended, and the joiner answers the same for
+    /// good.
     pub fn finish(&mut self, items: &mut Seq<Item>) -> Result<(), JoinStop>
         ensures finished { self.old.refusal ≡ None → (before : List ℕ) (given : List Item)
             → IsFed before given self.old.kept

@@ -1,5 +1,24 @@
 //! What bytes do to the lines of a joiner.
-ghost use Rattle.std.specs.Prelude.{◌≡◌, ◌≢◌, ◌==◌, ◌+◌, ◌-◌, ◌≤◌, ◌<◌, ◌^◌, ◌++◌, ◌∷◌, [], List, ℕ, length, true, false, OnOk};
+ghost use Rattle.std.specs.Prelude.{
+  ◌≡◌,
+  ◌≢◌,
+  ◌==◌,
+  ◌+◌,
+  ◌-◌,
+  ◌≤◌,
+  ◌<◌,
+  ◌^◌,
+  ◌++◌,
+  ◌∷◌,
+  [],
+  List,
+  ℕ,
+  length,
+  true,
+  false,
+  OnOk,
+  OnErr,
+};
 ghost use Rattle.heesch_grammar.specs.Entries.{AreEntryLines};
 ghost use Rattle.heesch_reader.specs.declared.item.Item.{Item};
 ghost use Rattle.heesch_parts.specs.PartLines.{IsPartLine};
@@ -184,7 +203,8 @@ fn settle(
 ) -> Result<(), NoMemory>
     requires whole { ends_entry line.now ≡ true → held.old.items ≢ [] → AreEntryLines false held.old.items }
     requires room { before < 2 ^ 64 - 1 }
-    ensures { OnOk result (Settles (ends_entry line.now) before held.old.items held.new.items items.old items.new) }
+    ensures ok { OnOk result (Settles (ends_entry line.now) before held.old.items held.new.items items.old items.new) }
+    ensures err { OnErr result (items.new ≡ items.old) }
 {
     if !line.ends_entry() || held.is_empty() {
         return Ok(());
@@ -202,7 +222,8 @@ fn hold(
     held: &mut VecDeque<Line>,
     items: &mut Seq<Item>,
 ) -> Result<(), NoMemory>
-    ensures { OnOk result (Holds line first held.old.items held.new.items items.old items.new) }
+    ensures ok { OnOk result (Holds line first held.old.items held.new.items items.old items.new) }
+    ensures err { OnErr result (items.new ≡ items.old) }
 {
     let PartLine::Catalogue { line } = line else {
         return Ok(());

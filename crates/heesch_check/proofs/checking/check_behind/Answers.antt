@@ -7,19 +7,19 @@ use Rattle.heesch_check.proofs.checking.check_behind.Goals as goal
 
 pub judge_round-requires-clause-fit : goal.judge_round-requires-clause-fit
 judge_round-requires-clause-fit g c κs within =
-    start_fits c.requires.underway.0 (g.R.Source.left c.args.source.now) c.args.judge.header c.args.items.now c.args.stream.now c.args.reading c.requires.begins c.requires.underway.1
+    rw c.as_slice-first.ensures (start_fits c.requires.underway.0 (g.R.Source.left c.args.source.now) c.args.judge.header c.args.items c.args.stream.now c.args.reading c.requires.begins c.requires.underway.1)
 
 pub returns-in-Some-clause-ok : goal.returns-in-Some-clause-ok
 returns-in-Some-clause-ok g c first h =
-    start_answers first (g.R.Source.left c.args.source.now) c.args.judge.header c.args.items.now c.args.judge.entries c.judge_round.new.self.entries c.args.stream.now c.args.reading c.in_ok-answer.field-0 c.in-Some.answer
-    (bounded c.args.judge.header c.args.judge.shapes c.requires.shapes) c.requires.full c.requires.begins c.requires.none h c.in_ok-answer.ensures.judges c.in-Some.is
+    start_answers first (g.R.Source.left c.args.source.now) c.args.judge.header c.args.items c.args.judge.entries c.judge_round.new.self.entries c.args.stream.now c.args.reading c.in_ok-told.told c.in-Some.answer
+    (bounded c.args.judge.header c.args.judge.shapes c.requires.shapes) c.requires.full c.requires.begins c.requires.none h (rw c.as_slice-first.ensures at c.in_ok-told.ensures.judges) c.in-Some.is
 
 pub rounds-init : goal.rounds-init
 rounds-init g c = record {
   kept = search rules;
   goes_on = λ first h.
-      start_goes_on first (g.R.Source.left c.args.source.now) c.args.judge.header c.args.items.now c.args.judge.entries c.judge_round.new.self.entries c.args.stream.now c.args.reading c.in_ok-answer.field-0
-      (bounded c.args.judge.header c.args.judge.shapes c.requires.shapes) c.requires.full c.requires.begins c.requires.none h c.in_ok-answer.ensures.judges c.in_default.is;
+      start_goes_on first (g.R.Source.left c.args.source.now) c.args.judge.header c.args.items c.args.judge.entries c.judge_round.new.self.entries c.args.stream.now c.args.reading c.in_ok-told.told
+      (bounded c.args.judge.header c.args.judge.shapes c.requires.shapes) c.requires.full c.requires.begins c.requires.none h (rw c.as_slice-first.ensures at c.in_ok-told.ensures.judges) c.in_default.is;
   no_further = λ first h none. none;
   later = omega arith;
 }
@@ -41,17 +41,17 @@ pub returns-in-Some-answer-clause-ok : goal.returns-in-Some-answer-clause-ok
 returns-in-Some-answer-clause-ok g c first h =
     let u = c.rounds.invariant.goes_on first h in
     next_answers first (g.R.Source.left c.rounds.source) (g.R.Source.left c.gather.new.source) c.args.judge.header c.rounds.judge.header c.rounds.stream c.gather.new.stream c.rounds.judge.entries c.judge_round-in-rounds.new.self.entries 256 c.gather.new.items c.in_ok-reading.reading
-    c.in_ok-answer-2.answer c.in-Some-answer.answer (bounded c.args.judge.header c.args.judge.shapes c.requires.shapes) c.requires.full (ap (λ w. w.header) c.rounds.invariant.kept) u
+    c.in_ok-answer.answer c.in-Some-answer.answer (bounded c.args.judge.header c.args.judge.shapes c.requires.shapes) c.requires.full (ap (λ w. w.header) c.rounds.invariant.kept) u
     (subst (λ xs. Gathers (g.R.Source.left c.rounds.source) (g.R.Source.left c.gather.new.source) c.rounds.stream c.gather.new.stream xs c.gather.new.items 256 readings.More c.in_ok-reading.reading) c.new-round.ensures c.in_ok-reading.ensures.ok)
-    (rw c.as_slice.ensures at c.in_ok-answer-2.ensures.judges) c.in-Some-answer.is
+    (rw c.as_slice.ensures at c.in_ok-answer.ensures.judges) c.in-Some-answer.is
 
 pub rounds-smaller : goal.rounds-smaller
 rounds-smaller g c =
     let u = c.rounds.invariant.goes_on c.requires.underway.0 c.requires.underway.1 in
     next_smaller (g.R.Source.left c.rounds.source) (g.R.Source.left c.gather.new.source) c.args.judge.header c.rounds.judge.header c.rounds.stream c.gather.new.stream c.rounds.judge.entries c.judge_round-in-rounds.new.self.entries 256 c.gather.new.items c.in_ok-reading.reading
-    c.in_ok-answer-2.answer c.requires.underway.0 u (omega arith)
+    c.in_ok-answer.answer c.requires.underway.0 u (omega arith)
     (subst (λ xs. Gathers (g.R.Source.left c.rounds.source) (g.R.Source.left c.gather.new.source) c.rounds.stream c.gather.new.stream xs c.gather.new.items 256 readings.More c.in_ok-reading.reading) c.new-round.ensures c.in_ok-reading.ensures.ok)
-    (rw c.as_slice.ensures at c.in_ok-answer-2.ensures.judges) c.in_default-answer.is
+    (rw c.as_slice.ensures at c.in_ok-answer.ensures.judges) c.in_default-answer.is
 
 pub rounds-preserved : goal.rounds-preserved
 rounds-preserved g c = record {
@@ -59,9 +59,9 @@ rounds-preserved g c = record {
   goes_on = λ first h.
       let u = c.rounds.invariant.goes_on first h in
       next_goes_on first (g.R.Source.left c.rounds.source) (g.R.Source.left c.gather.new.source) c.args.judge.header c.rounds.judge.header c.rounds.stream c.gather.new.stream c.rounds.judge.entries c.judge_round-in-rounds.new.self.entries 256 c.gather.new.items c.in_ok-reading.reading
-      c.in_ok-answer-2.answer (bounded c.args.judge.header c.args.judge.shapes c.requires.shapes) c.requires.full (ap (λ w. w.header) c.rounds.invariant.kept) u
+      c.in_ok-answer.answer (bounded c.args.judge.header c.args.judge.shapes c.requires.shapes) c.requires.full (ap (λ w. w.header) c.rounds.invariant.kept) u
       (subst (λ xs. Gathers (g.R.Source.left c.rounds.source) (g.R.Source.left c.gather.new.source) c.rounds.stream c.gather.new.stream xs c.gather.new.items 256 readings.More c.in_ok-reading.reading) c.new-round.ensures c.in_ok-reading.ensures.ok)
-      (rw c.as_slice.ensures at c.in_ok-answer-2.ensures.judges) c.in_default-answer.is;
+      (rw c.as_slice.ensures at c.in_ok-answer.ensures.judges) c.in_default-answer.is;
   no_further = λ first h none.
       let u = c.rounds.invariant.goes_on first h in
       next_no_further first (g.R.Source.left c.rounds.source) (g.R.Source.left c.gather.new.source) c.args.judge.header c.rounds.stream c.rounds.judge.entries u c.requires.full

@@ -1,4 +1,4 @@
 use Rattle.heesch_check.proofs.checking.check_under.Goals as goal
 
 pub returns-clause-no_further : goal.returns-clause-no_further
-returns-clause-no_further g c first h none = c.check_behind.ensures.no_further first (rw c.as_slice.ensures h) none
+returns-clause-no_further g c first h none = c.check_behind.ensures.no_further first h none

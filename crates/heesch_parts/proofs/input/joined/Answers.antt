@@ -41,7 +41,7 @@ returns-in_err-feed-clause-stop g c =
     let few : c.pieces.count + c.in_ok-read.read ≤ g.row.MOST = omega (arith, c.pieces-test.true, room, long, c.in_ok-read.ensures.bound.0) in
     let told : GivesFault g.row.MOST (g.R.Source.left c.args.source.now) (stop_of c.in_err-feed.field-0.0) =
     piece_stops g.row.MOST (g.R.Source.left c.args.source.now) (g.R.Source.left c.pieces.source) (g.R.Source.left c.read.new.self) c.pieces.count c.in_ok-read.read c.read.new.into _ c.pieces.items c.feed.new.items c.pieces.joiner.kept c.feed.new.self.kept c.in_err-feed.field-0.0
-    c.pieces.invariant.going c.in_ok-read.ensures.bound.0 c.in_ok-read.ensures.bytes.0 few (c.in_err-feed.ensures.fed c.pieces.invariant.unrefused) in
+    c.pieces.invariant.going c.in_ok-read.ensures.bound.0 c.in_ok-read.ensures.bytes.0 few (λ bytes items fed. (c.in_err-feed.ensures.fed c.pieces.invariant.unrefused bytes items fed).0) in
     search rules
 
 pub returns-in_err-feed-clause-no_further : goal.returns-in_err-feed-clause-no_further

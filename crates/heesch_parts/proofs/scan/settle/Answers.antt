@@ -3,8 +3,8 @@ use Rattle.heesch_parts.specs.Joining.{ends_entry}
 use Rattle.heesch_parts.proofs.Feeding.{settles}
 use Rattle.heesch_parts.proofs.scan.settle.Goals as goal
 
-pub returns : goal.returns
-returns c =
+pub returns-clause-ok : goal.returns-clause-ok
+returns-clause-ok c =
     let ends : ends_entry c.args.line.now ≡ true = search rules in
     let some : c.args.held.now.items ≢ [] = search rules in
     let lines = rw c.replace-lines.ensures.value at c.in_ok-entry.ensures.lines in

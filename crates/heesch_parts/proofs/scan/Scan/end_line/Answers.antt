@@ -1,12 +1,12 @@
 use Rattle.std.proofs.Common.{refl, sym, inl, inr, ◌∙◌}
 use Rattle.heesch_parts.specs.Joining.{kept_of}
-use Rattle.heesch_parts.proofs.Feeding.{line_fault, advanced, leaves_room, may_settle, held_few}
+use Rattle.heesch_parts.proofs.Feeding.{line_stops, advanced, leaves_room, may_settle, held_few}
 use Rattle.heesch_parts.proofs.scan.Scan.end_line.Goals as goal
 
 pub returns-in-Err-NotALine-clause-fed : goal.returns-in-Err-NotALine-clause-fed
 returns-in-Err-NotALine-clause-fed c = λ before given fed.
     let none = rw c.in-Err-NotALine.field-0-is at c.in-Err-NotALine.ensures.not_a_line in
-    line_fault before given (kept_of c.args.self.now) 6 c.fault.result fed (inr ((λ line form e. none refl line form (e ∙ sym c.as_slice.ensures.value)), refl)) c.fault.ensures
+    line_stops before given c.args.items.now (kept_of c.args.self.now) 6 c.fault.result fed (inr ((λ line form e. none refl line form (e ∙ sym c.as_slice.ensures.value)), refl)) c.fault.ensures
 
 pub advance-requires-clause-whole : goal.advance-requires-clause-whole
 advance-requires-clause-whole c =
@@ -23,7 +23,7 @@ returns-in-Ok-next-clause-fed c = λ before given fed.
 
 pub returns-in-Err-clause-fed : goal.returns-in-Err-clause-fed
 returns-in-Err-clause-fed c = λ before given fed.
-    line_fault before given (kept_of c.args.self.now) c.in-Err.fault c.fault-in-Err.result fed
+    line_stops before given c.args.items.now (kept_of c.args.self.now) c.in-Err.fault c.fault-in-Err.result fed
     (inl (record { line = c.in-Ok.line; form = c.in-Ok.ensures.ok.0; words_are = c.in-Ok.ensures.ok.1 ∙ c.as_slice.ensures.value; fault = c.in-Err.ensures })) c.fault-in-Err.ensures
 
 pub returns-in-Ok-next-clause-room : goal.returns-in-Ok-next-clause-room

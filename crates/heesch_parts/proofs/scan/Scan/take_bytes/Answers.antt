@@ -1,7 +1,8 @@
-use Rattle.std.proofs.Common.{List, ℕ, ◌++◌, take, sym, subst, append-nil, arith, rules}
+use Rattle.std.proofs.Common.{◌≡◌, List, ℕ, ◌++◌, take, sym, subst, append-nil, Err, arith, rules}
 use Rattle.std.proofs.lemmas.List.{take_all}
-use Rattle.heesch_parts.specs.Joining.{GoesTo, IsFrontStop, kept_of}
-use Rattle.heesch_parts.proofs.Finishing.{nothing_new, goes_on, byte_more, byte_stops}
+use Rattle.heesch_parts.specs.Joining.{GoesTo, kept_of}
+use Rattle.heesch_parts.proofs.Feeding.{nothing_new}
+use Rattle.heesch_parts.proofs.Finishing.{goes_on, byte_more, byte_ends}
 use Rattle.heesch_parts.proofs.scan.Scan.take_bytes.Goals as goal
 
 pub take_byte-requires-clause-going : goal.take_byte-requires-clause-going
@@ -20,8 +21,9 @@ pub returns-in_err-take_byte-clause-fed : goal.returns-in_err-take_byte-clause-f
 returns-in_err-take_byte-clause-fed c = λ before given fed.
     let i = c.loop-byte.byte-index in
     let g = c.loop-byte.invariant.goes before given fed in
-    let told : IsFrontStop (before ++ c.args.piece.now) c.in_err-take_byte.field-0.0 = byte_stops before c.args.piece.now i 0 c.in_err-take_byte.field-0.0 c.loop-byte-test.true (c.in_err-take_byte.ensures.fed (before ++ take i c.args.piece.now) _ g.fed) in
-    search rules
+    let same : c.from_residual.result ≡ Err c.in_err-take_byte.field-0.0 = search rules in
+    byte_ends c.from_residual.result before c.args.piece.now i 0 given c.args.items.now c.loop-byte.items c.take_byte.new.items (kept_of c.loop-byte.self) (kept_of c.take_byte.new.self) c.in_err-take_byte.field-0.0 c.loop-byte-test.true g
+    (c.in_err-take_byte.ensures.fed (before ++ take i c.args.piece.now) _ g.fed) same
 
 pub loop-byte-preserved : goal.loop-byte-preserved
 loop-byte-preserved c = record {
