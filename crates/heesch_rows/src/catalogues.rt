@@ -7,7 +7,11 @@ use std::test::Fail;
 use std::thread::Threads;
 
 /// What the words write, or nothing where they don't end Done.
-fn written<T: Threads + Sync>(rt: &T, alloc: Global, line: &str) -> Result<Vec<u8>, NoMemory> {
+pub(crate) fn written<T: Threads + Sync>(
+    rt: &T,
+    alloc: Global,
+    line: &str,
+) -> Result<Vec<u8>, NoMemory> {
     let (status, sink) = run_into(rt, alloc, line, room(alloc, 400_000)?)?;
     if status == Status::Done {
         Ok(sink.held)

@@ -18,6 +18,8 @@ mod plains;
 #[cfg(test)]
 mod running;
 #[cfg(test)]
+mod shares;
+#[cfg(test)]
 mod solver;
 #[cfg(test)]
 mod tables;
