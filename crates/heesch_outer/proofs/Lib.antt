@@ -1,0 +1,3 @@
+pub mod OuterNumbers
+pub mod OuterSound
+pub mod OuterRight

@@ -1,0 +1,4 @@
+pub mod Coronas
+pub mod Proofs
+pub mod Answer
+pub mod Statements

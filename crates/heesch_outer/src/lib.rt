@@ -1,0 +1,7 @@
+//! The outer number of a shape: how many coronas it has where the outermost one alone may have holes.
+#![tactic(auto)]
+
+mod answer;
+pub mod laws;
+
+pub use answer::OuterAnswer;
