@@ -2,6 +2,7 @@
 #![tactic(auto)]
 
 mod answer;
+mod copies;
 pub mod laws;
 
 pub use answer::OuterAnswer;
