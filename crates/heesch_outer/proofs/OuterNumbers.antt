@@ -9,7 +9,7 @@ use Rattle.heesch_grid.proofs.FromDefinitions.{fewer_coronas_exist}
 use Rattle.heesch_outer.specs.Coronas.{inner_layers, HasOuterCoronas, HasOuterNumber}
 use Rattle.heesch_outer.specs.Statements.{OuterCoronasLieBetween, FewerOuterCoronasExist, OuterNumbersAreUnique, OuterNumbersAreNext, OuterNumbersLieBelow}
 
-first_coronas : (g : Geometry) (shape : List Cell) (patch : List (List Cell)) (layers : List (List (List Cell))) (n : ℕ) → AreCoronasOf g shape patch layers → AreCoronasOf g shape patch (take n layers)
+pub first_coronas : (g : Geometry) (shape : List Cell) (patch : List (List Cell)) (layers : List (List (List Cell))) (n : ℕ) → AreCoronasOf g shape patch layers → AreCoronasOf g shape patch (take n layers)
 first_coronas g shape patch layers zero h = tt
 first_coronas g shape patch [] (suc n) h = tt
 first_coronas g shape patch (layer ∷ layers) (suc n) h = (h.0, first_coronas g shape (patch ++ layer) layers n h.1)

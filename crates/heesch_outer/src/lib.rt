@@ -2,7 +2,17 @@
 #![tactic(auto)]
 
 mod answer;
+mod answering;
+mod checking;
 mod copies;
 pub mod laws;
+mod parts;
+mod searching;
+mod steps;
 
 pub use answer::OuterAnswer;
+pub use answering::outer;
+pub use checking::check_outer;
+
+#[cfg(test)]
+mod tests;
