@@ -1,5 +1,5 @@
 -- What a true entry with a refuted wall says, and the parts of entries made of it.
-use Rattle.std.proofs.Common.{◌≡◌, refl, sym, subst, ◌∙◌, ℕ, zero, suc, ◌+◌, ap, ◌<◌, ◌≤◌, List, [], ◌∷◌, length, inl, inr, arith, All, not, true≢false, eq-eqb, eqb-true}
+use Rattle.std.proofs.Common.{◌≡◌, refl, sym, subst, ◌∙◌, ℕ, zero, suc, ◌+◌, ap, ◌<◌, ◌≤◌, List, length, inl, inr, arith, All, not, true≢false, eq-eqb, eqb-true}
 use Rattle.std.specs.Prelude.{Option, IsTrue, ◌↔◌, nat_eq}
 use Rattle.std.proofs.lemmas.Bool.{cases_Bool, cases_order}
 use Rattle.std.proofs.lemmas.List.Elements.{All-nil, All-weaker, All-from_recursion}
@@ -21,10 +21,15 @@ use Rattle.heesch_cert.specs.declared.verdict.Verdict.TheVariants.{Tiles, Heesch
 use Rattle.heesch_cert.specs.declared.proof.Proof.{Proof}
 use Rattle.heesch_cert.specs.declared.proof.Step.{Step}
 use Rattle.heesch_cert.specs.declared.proof.Step.TheVariants.{Learn, Cut}
+use Rattle.heesch_grid.specs.Corona.{AreCoronas}
+use Rattle.heesch_grid.specs.CoronaFormula.{Variable}
+use Rattle.heesch_cnf.specs.declared.literal.Lit.{Lit}
+use Rattle.heesch_cnf.specs.declared.version.Version.{Version}
+use Rattle.heesch_cert.specs.Formulas.{IsCountedFormula}
 use Rattle.heesch_cert.specs.Limits.{AreLimits}
 use Rattle.heesch_cert.specs.Parts.{PartHolds, IsLeastFailing}
 use Rattle.heesch_cert.specs.Proofs.{RefutesCoronas, IsLawfulStep}
-use Rattle.heesch_cert.specs.TrueEntry.{IsAdmitted, HasNoPlain, FitsVerdict, FormFits, FreeHolds, ShapeHolds, FormHolds, CoverHolds, ClassesHold, WallHolds, first_number}
+use Rattle.heesch_cert.specs.TrueEntry.{Spells, IsAdmitted, HasNoPlain, FitsVerdict, FormFits, FreeHolds, ShapeHolds, FormHolds, CoverHolds, ClassesHold, WallHolds, first_number}
 use Rattle.heesch_near.specs.Statements.{IsNearPlace, IsNearLayer}
 use Rattle.heesch_near.proofs.Shapes.{shapes_are_near}
 use Rattle.heesch_near.proofs.Coronas.{coronas_are_near}
@@ -90,19 +95,26 @@ module _ (g : Geometry) (law : IsGrid g) (cells : List Cell) (shape : AreCanonic
   layer_near : (layer : List Iso) → IsNearLayer g layer → All IsNearIso layer
   layer_near layer near = All-weaker (IsNearPlace g) IsNearIso (λ by h. h.1) layer (All-from_recursion (IsNearPlace g) layer near.near)
 
+  -- a proof with lawful cuts over a corona formula is near
+  pub steps_near : (version : Version) (j : ℕ) (vars : List Variable) (count : ℕ) (clauses : List (List Lit)) (proof : Proof) → 1 ≤ j → j ≤ 6 → IsCountedFormula version g cells j vars count clauses → All (IsLawfulStep g cells j vars) proof.steps → IsNearProof proof
+  steps_near version j vars count clauses proof low high formula lawful = λ k d below. step_near _ (lawful k d below)
+    where
+      step_near : (step : Step) → IsLawfulStep g cells j vars step → IsNearStep step
+      step_near (Learn clause hints) l = tt
+      step_near (Cut cut) l = All-from_recursion (IsWithin 100000) cut.hole (holes_are_near version g law shape.0 cells j vars count clauses cut shape.1 shape.2 shape.3 low high formula l).near
+
+  pub proof_near : (limits : Limits) (j : ℕ) (proof : Proof) → 1 ≤ j → j ≤ 6 → RefutesCoronas limits.version g cells j limits.size proof → IsNearProof proof
+  proof_near limits j proof low high r = steps_near limits.version j r.vars r.count r.clauses proof low high r.formula r.lawful
+
+  pub layers_near : (layers : List (List Iso)) (tiles : List (List (List Cell))) → length layers ≤ 6 → Spells g cells layers tiles → AreCoronas g cells tiles → AreNearLayers layers
+  layers_near layers tiles few spelled coronas =
+      All-weaker (IsNearLayer g) (All IsNearIso) layer_near layers (All-from_recursion (IsNearLayer g) layers (coronas_are_near g law shape.0 cells layers tiles shape.1 shape.2 shape.3 few spelled coronas))
+
   pub free_near : (limits : Limits) (free : List (List Iso)) → AreLimits limits → IsFound g limits cells free → AreNearLayers free
   free_near limits free are f =
       let level = f.level in
       let most = are.levels_range.1 in
-      All-weaker (IsNearLayer g) (All IsNearIso) layer_near free
-      (All-from_recursion (IsNearLayer g) free (coronas_are_near g law shape.0 cells free f.tiles shape.1 shape.2 shape.3 (omega (arith, level, most)) f.spelled f.coronas.0))
-
-  pub proof_near : (limits : Limits) (j : ℕ) (proof : Proof) → 1 ≤ j → j ≤ 6 → RefutesCoronas limits.version g cells j limits.size proof → IsNearProof proof
-  proof_near limits j proof low high r = λ k d below. step_near _ (r.lawful k d below)
-    where
-      step_near : (step : Step) → IsLawfulStep g cells j r.vars step → IsNearStep step
-      step_near (Learn clause hints) l = tt
-      step_near (Cut cut) l = All-from_recursion (IsWithin 100000) cut.hole (holes_are_near limits.version g law shape.0 cells j r.vars r.count r.clauses cut shape.1 shape.2 shape.3 low high r.formula l).near
+      layers_near free f.tiles (omega (arith, level, most)) f.spelled f.coronas.0
 
 -- the entries made of near things are near
 module _ (cells : List Cell) (free : List (List Iso)) (at : All (IsWithin 100000) cells) (near : AreNearLayers free) where

@@ -1,5 +1,5 @@
 -- The universe of the levels below the outermost stands first in that of all levels, and a cut over it is one over them all.
-use Rattle.std.proofs.Common.{◌≡◌, refl, sym, ap, subst, ◌∙◌, ℕ, zero, suc, ◌+◌, ◌-◌, ◌<◌, ◌≤◌, List, [], ◌∷◌, ◌++◌, length, map, filter, filter_map, cond, Bool, true, false, ◌&&◌, inl, inr, arith, All, Contains, true≢false, append-nil, ltb-true, eqb-true, leb-true, le-leb, length-append, slice_get}
+use Rattle.std.proofs.Common.{◌≡◌, refl, sym, ap, subst, ◌∙◌, ℕ, zero, suc, ◌+◌, ◌-◌, ◌<◌, ◌≤◌, List, [], ◌∷◌, ◌++◌, length, map, filter, filter_map, cond, Bool, true, false, ◌&&◌, inl, inr, arith, All, Contains, append-nil, ltb-true, eqb-true, leb-true, le-leb, length-append, slice_get}
 use Rattle.std.specs.Prelude.{IsTrue, Option, Some, None, nat_lt, nat_le, nat_eq, ◌==◌}
 use Rattle.std.specs.List.{enumerate_from, range_with_len, list_any, cons_option}
 use Rattle.std.proofs.lemmas.Bool.{cases_Bool, or_cases, and_parts, lt-leb, leb-false}
@@ -7,8 +7,8 @@ use Rattle.std.proofs.lemmas.List.Elements.{All-nil, All-cons, All-head, All-tai
 use Rattle.std.proofs.lemmas.Option.{slice_get_within}
 use Rattle.heesch_grid.specs.declared.Cell.{Cell}
 use Rattle.heesch_grid.specs.Cells.{cells_before, meet}
-use Rattle.heesch_grid.specs.Geometry.{Geometry, Adjacent}
-use Rattle.heesch_grid.specs.Listing.{IsRising, ListsExactly}
+use Rattle.heesch_grid.specs.Geometry.{Geometry}
+use Rattle.heesch_grid.specs.Listing.{IsRising}
 use Rattle.heesch_grid.specs.Corona.{StaysHoleFree}
 use Rattle.heesch_grid.specs.CoronaFormula.{Variable, variable_before, IsVariable, IsUniverse}
 use Rattle.heesch_grid.specs.Statements.{chosen_layer, chosen_layers}
@@ -18,7 +18,7 @@ use Rattle.heesch_cnf.specs.declared.literal.Lit.{Lit}
 use Rattle.heesch_cnf.specs.Clauses.{assignment_of}
 use Rattle.heesch_cert.specs.declared.proof.Cut.{Cut}
 use Rattle.heesch_cert.specs.Literals.{literals}
-use Rattle.heesch_cert.specs.Cuts.{IsLawful, IsBorderVariable, IsInBorder, IsVariableAt, cut_clause}
+use Rattle.heesch_cert.specs.Cuts.{IsLawful, IsBorderVariable, IsVariableAt, cut_clause}
 use Rattle.heesch_grid.specs.Clauses.{clause_holds}
 use Rattle.heesch_place.specs.Universes.{Levels, IsUniverseOf}
 use Rattle.heesch_cuts.specs.Chosen.{IsOpen, CutsOff}

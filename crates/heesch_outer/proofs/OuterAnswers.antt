@@ -1,5 +1,5 @@
 -- What is asked of an answer behind a refuted wall, and what it says.
-use Rattle.std.proofs.Common.{◌≡◌, refl, sym, ap, subst, ◌∙◌, ℕ, ◌+◌, ◌≤◌, List, length, arith, All}
+use Rattle.std.proofs.Common.{◌≡◌, refl, sym, subst, ℕ, ◌+◌, ◌≤◌, List, length, arith}
 use Rattle.std.specs.Prelude.{◌↔◌, Option}
 use Rattle.heesch_grid.specs.declared.Cell.{Cell}
 use Rattle.heesch_grid.specs.Geometry.{Geometry, IsGrid}
@@ -15,12 +15,18 @@ use Rattle.heesch_cert.specs.declared.entry.Entry.{Entry}
 use Rattle.heesch_cert.specs.declared.verdict.Verdict.{Verdict}
 use Rattle.heesch_cert.specs.declared.verdict.Verdict.TheVariants.{Tiles as TilesVerdict, Heesch, Levels, Holes, Turns, Size}
 use Rattle.heesch_cert.specs.declared.proof.Proof.{Proof}
-use Rattle.heesch_cert.specs.Proofs.{RefutesCoronas}
+use Rattle.heesch_cert.specs.Limits.{AreLimits}
+use Rattle.heesch_cert.specs.Proofs.{RefutesCoronas, IsTooLarge}
+use Rattle.heesch_cert.proofs.Exactly.{too_large_exactly}
 use Rattle.heesch_cert.specs.TrueEntry.{FormFits, FreeHolds, WallHolds, IsTrueEntry, first_number}
 use Rattle.heesch_outer.specs.declared.answer.OuterAnswer.{OuterAnswer}
+use Rattle.heesch_outer.specs.declared.answer.OuterAnswer.TheVariants.{Tiles, Unknown, More, Same, Spent}
 use Rattle.heesch_outer.specs.Answer.{FitsOuter, IsBeyondWall, IsOuterAnswer, IsSearched}
-use Rattle.heesch_outer.specs.Found.{IsFound}
-use Rattle.heesch_outer.proofs.Entries.{found_of}
+use Rattle.heesch_outer.specs.Found.{IsFound, IsNearAnswer}
+use Rattle.heesch_outer.specs.Statements.{TellsNumber}
+use Rattle.heesch_outer.proofs.CanonicalCells.{form_of}
+use Rattle.heesch_outer.proofs.Entries.{found_of, layers_near, proof_near, steps_near}
+use Rattle.heesch_outer.proofs.OuterRight.{outer_answers_are_right}
 
 -- behind a wall that another search is needed beyond, an answer is one of that search
 beyond_searched : (g : Geometry) (limits : Limits) (cells : List Cell) (h : ℕ) (proof : Proof) (bare : Bare) (answer : OuterAnswer) → ¬ (bare ≡ BareSame) → IsBeyondWall g limits cells h proof bare answer ↔ IsSearched g limits cells h answer
@@ -69,3 +75,32 @@ module _ (g : Geometry) (limits : Limits) (entry : Entry) (true_entry : IsTrueEn
       let a = answer_beyond answer in
       let b = beyond_searched g limits entry.cells (length free.layers) proof bare answer other in
       ((λ x. b.0 (a.0 x)), (λ x. a.1 (b.1 x)))
+
+  pub level_in : length free.layers + 1 ≤ limits.levels
+  level_in = found_in.level
+
+  -- the formula of the wall isn't too large
+  pub fits_in : IsGrid g → ¬ IsTooLarge limits.version g entry.cells (length free.layers + 1) limits.size
+  fits_in law large =
+      let r = wall_in in
+      let above = (too_large_exactly limits.version g law entry.cells (form_of g law entry.cells true_entry.shape).0 (length free.layers + 1) r.vars r.count r.clauses r.formula limits.size).0 large in
+      let fits = r.fits in
+      omega (arith, above, fits)
+
+  -- the answer tells the number of the shape
+  pub number_in : IsGrid g → AreLimits limits → (answer : OuterAnswer) → IsOuterAnswer g limits entry answer → TellsNumber g entry.cells (first_number entry.verdict) answer
+  number_in law ranges answer a = outer_answers_are_right g limits entry answer law ranges true_entry a
+
+  -- what a search of its own ends with is near
+  pub near_in : IsGrid g → AreLimits limits → (answer : OuterAnswer) → IsSearched g limits entry.cells (length free.layers) answer → IsNearAnswer answer
+  near_in law ranges answer = near answer
+    where
+      few : length free.layers + 1 ≤ 6
+      few = let level = level_in in let most = ranges.levels_range.1 in omega (arith, level, most)
+
+      near : (answer : OuterAnswer) → IsSearched g limits entry.cells (length free.layers) answer → IsNearAnswer answer
+      near Tiles a = tt
+      near Unknown a = tt
+      near (More layers) a = let long = a.count in layers_near g law entry.cells true_entry.shape layers.layers a.tiles (let most = few in omega (arith, long, most)) a.spelled a.coronas.0
+      near (Same proof) a = proof_near g law entry.cells true_entry.shape limits (length free.layers + 1) proof (omega arith) few a.refutes
+      near (Spent proof) a = let s = a.is_spent in steps_near g law entry.cells true_entry.shape limits.version (length free.layers + 1) s.vars s.count s.clauses proof (omega arith) few s.formula s.lawful

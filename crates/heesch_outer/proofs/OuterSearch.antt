@@ -1,5 +1,5 @@
 -- How the state of a search for outer coronas goes on, and what its end says.
-use Rattle.std.proofs.Common.{◌≡◌, refl, sym, ap, subst, ◌∙◌, ℕ, ◌+◌, ◌-◌, ◌≤◌, Bool, List, [], ◌∷◌, ◌++◌, length, map, take, arith, All, append-nil, length-append, Result}
+use Rattle.std.proofs.Common.{◌≡◌, sym, ap, subst, ◌∙◌, ℕ, ◌+◌, ◌-◌, ◌≤◌, Bool, List, [], ◌∷◌, ◌++◌, length, map, take, arith, All, append-nil, length-append, Result}
 use Rattle.std.specs.Prelude.{Option, Some, None, Ok, Err, IfOk, MatchOption}
 use Rattle.std.specs.List.{AllZip, range_with_len}
 use Rattle.std.proofs.Math.Seq.{take-append_seam}
@@ -40,7 +40,7 @@ use Rattle.heesch_levels.proofs.StepFacts.{given_append, given_learns}
 use Rattle.heesch_outer.specs.Answer.{SpellsOuterCoronas}
 use Rattle.heesch_outer.specs.Coronas.{inner_layers}
 use Rattle.heesch_outer.specs.Proofs.{IsStepUpTo, RefutesOuter, IsSpentOuter}
-use Rattle.heesch_outer.specs.Searching.{IsInnerCut, IsInside, IsOpenInside, IsSearch}
+use Rattle.heesch_outer.specs.Searching.{IsInnerCut, IsOpenInside, IsSearch}
 
 -- ---- the search goes on
 

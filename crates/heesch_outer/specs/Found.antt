@@ -1,5 +1,5 @@
 -- What a true entry with a refuted wall says of its shape, and entries that ask of proofs and layers what parts of a true entry ask.
-use Rattle.std.specs.Prelude.{◌≡◌, ℕ, ◌+◌, ◌≤◌, Some, None, List, [], length, ⊤}
+use Rattle.std.specs.Prelude.{ℕ, ◌+◌, ◌≤◌, Some, None, List, [], length, ⊤}
 use Rattle.heesch_grid.specs.declared.Cell.{Cell}
 use Rattle.heesch_grid.specs.declared.isometries.Iso.{Iso}
 use Rattle.heesch_grid.specs.Geometry.{Geometry}
@@ -16,7 +16,7 @@ use Rattle.heesch_cert.specs.TrueEntry.{HasNoPlain, Spells}
 use Rattle.heesch_audit.specs.Shapes.{AreCanonical}
 use Rattle.heesch_audit.specs.Near.{AreNearLayers, IsNearProof}
 use Rattle.heesch_outer.specs.declared.answer.OuterAnswer.{OuterAnswer}
-use Rattle.heesch_outer.specs.declared.answer.OuterAnswer.TheVariants.{Tiles, Unknown, More, Same, Spent}
+use Rattle.heesch_outer.specs.declared.answer.OuterAnswer.TheVariants.{More, Same, Spent}
 
 -- the layers spell hole-free coronas of the shape, one fewer than are sought at most, and no plain tiling is admitted
 pub record IsFound (g : Geometry) (limits : Limits) (cells : List Cell) (free : List (List Iso)) : Type 0 where

@@ -4,7 +4,7 @@ use Rattle.heesch_grid.specs.Geometry.{Geometry}
 use Rattle.heesch_grid.specs.Corona.{StaysHoleFree}
 use Rattle.heesch_grid.specs.Statements.{chosen_layers}
 use Rattle.heesch_cnf.specs.Clauses.{assignment_of}
-use Rattle.heesch_cnf.specs.Lines.{clauses_with, Refutes, IsSpent}
+use Rattle.heesch_cnf.specs.Lines.{Refutes, IsSpent}
 use Rattle.heesch_cnf.specs.Meaning.{given_clauses}
 use Rattle.heesch_cdcl.specs.Problem.{Problem, IsSolver, IsModel}
 use Rattle.heesch_place.specs.Universes.{Levels, IsUniverseOf}

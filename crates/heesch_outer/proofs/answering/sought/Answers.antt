@@ -1,4 +1,4 @@
-use Rattle.std.proofs.Common.{◌≡◌, ◌∙◌, ◌≤◌, ◌+◌, sym, ap, subst, List}
+use Rattle.std.proofs.Common.{◌≡◌, ◌∙◌, ◌≤◌, ◌+◌, sym, ap, subst}
 use Rattle.std.specs.Prelude.{IfOk}
 use Rattle.heesch_grid.specs.Clauses.{formula_size}
 use Rattle.heesch_place.specs.Universes.{Levels}

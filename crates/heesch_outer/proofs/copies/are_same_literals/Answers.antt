@@ -1,4 +1,4 @@
-use Rattle.std.proofs.Common.{◌≡◌, refl, sym, ap, Bool, true, false, ◌&&◌, true≢false, eqb-true, eq-eqb, eqb, ℕ}
+use Rattle.std.proofs.Common.{◌≡◌, ap, ◌&&◌, eqb-true, eq-eqb, eqb}
 use Rattle.std.specs.Bool.{Decides}
 use Rattle.std.specs.Cmp.{booleans_Decides}
 use Rattle.std.proofs.Math.Bool.{beq}

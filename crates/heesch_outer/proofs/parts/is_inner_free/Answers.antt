@@ -1,4 +1,4 @@
-use Rattle.std.proofs.Common.{◌≡◌, ◌∙◌, ℕ, [], List, ◌∷◌, true, sym, subst, refl, length, arith, eqb-true}
+use Rattle.std.proofs.Common.{◌≡◌, ◌∙◌, [], List, ◌∷◌, true, sym, subst, refl, length, arith, eqb-true}
 use Rattle.std.proofs.lemmas.List.Elements.{All-nil}
 use Rattle.heesch_grid.specs.declared.Cell.{Cell}
 use Rattle.heesch_grid.specs.Cells.{cells_before}

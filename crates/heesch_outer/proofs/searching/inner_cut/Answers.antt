@@ -1,4 +1,4 @@
-use Rattle.std.proofs.Common.{◌≡◌, ◌+◌, ◌≤◌, subst, length, arith}
+use Rattle.std.proofs.Common.{◌≡◌, ◌+◌, subst, arith}
 use Rattle.std.specs.Prelude.{MatchOption}
 use Rattle.heesch_cuts.specs.Chosen.{CutsOff}
 use Rattle.heesch_place.specs.Universes.{IsUniverseOf, Levels}

@@ -1,4 +1,4 @@
-use Rattle.std.proofs.Common.{sym, subst}
+use Rattle.std.proofs.Common.{subst}
 use Rattle.std.specs.Prelude.{MatchOption}
 use Rattle.heesch_cuts.specs.Chosen.{CutsOff}
 use Rattle.heesch_levels.proofs.SearchFacts.{kept_model}
