@@ -77,7 +77,7 @@ fn answer_of<G: Grid>(
 }
 
 /// What a search for h + 1 outer coronas ends with, where the corona formula isn't too large.
-fn sought<G: Grid>(
+fn search_outer<G: Grid>(
     alloc: Global,
     shape: &Shape<G>,
     h: u32,
@@ -136,5 +136,5 @@ pub fn outer<G: Grid>(alloc: Global, entry: &Entry, limits: Limits) -> Result<Ou
         return Ok(OuterAnswer::Same { proof });
     }
     let shape = shape_of::<G>(entry.cells.as_slice());
-    sought(alloc, &shape, free.layers.len() as u32, limits)
+    search_outer(alloc, &shape, free.layers.len() as u32, limits)
 }

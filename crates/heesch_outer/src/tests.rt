@@ -1,5 +1,5 @@
 //! Answers of the specification's rows, and of a shape that can be surrounded with holes alone.
-ghost use Rattle.std.specs.Prelude.{◌≡◌, true, IfOk};
+ghost use Rattle.std.specs.Prelude.{◌≡◌, ◌≤◌, [], true, IfOk};
 ghost use Rattle.heesch_grid.specs.declared.Cell.{Cell};
 ghost use Rattle.heesch_grid.specs.Cells.{has};
 ghost use Rattle.heesch_grid.specs.Polyform.{IsCanonicalListOf};
@@ -16,7 +16,7 @@ use heesch_cnf::Version;
 use heesch_grid::{Cell, Grid, Iamond, Iso, Square};
 use heesch_io::Seq;
 use heesch_lattice::Triple;
-use heesch_levels::{WallAnswer, wall};
+use heesch_levels::{LevelAnswer, WallAnswer, level, wall};
 use heesch_shape::{Shape, ShapeFault};
 use std::alloc::{AllocError, Global};
 use std::test::Fail;
@@ -41,6 +41,38 @@ const ENCLOSING: [Cell; 7] = [
     Cell { a: 1, b: 2 },
 ];
 
+/// A heptomino that can be surrounded with holes alone.
+const CROSSING: [Cell; 7] = [
+    Cell { a: 1, b: 0 },
+    Cell { a: 0, b: 1 },
+    Cell { a: 1, b: 1 },
+    Cell { a: 2, b: 1 },
+    Cell { a: 3, b: 1 },
+    Cell { a: 1, b: 2 },
+    Cell { a: 1, b: 3 },
+];
+
+/// An octomino that can be surrounded once without holes.
+const HOOKED: [Cell; 8] = [
+    Cell { a: 0, b: 0 },
+    Cell { a: 1, b: 0 },
+    Cell { a: 2, b: 0 },
+    Cell { a: 2, b: 1 },
+    Cell { a: 3, b: 1 },
+    Cell { a: 2, b: 2 },
+    Cell { a: 1, b: 3 },
+    Cell { a: 2, b: 3 },
+];
+
+/// No layers.
+fn no_layers(alloc: Global) -> Layers
+    ensures { result.layers ≡ [] }
+{
+    Layers {
+        layers: Seq::new(alloc),
+    }
+}
+
 /// A copy of the items.
 fn seq<T: Copy>(alloc: Global, items: &[T]) -> Result<Seq<T>, AllocError> {
     Ok(Seq::from_vec(Vec::from_slice(alloc, items)?))
@@ -56,7 +88,7 @@ fn canonical_of<G: Grid>(cells: &[Cell]) -> Result<Shape<G>, ShapeFault>
 }
 
 /// The answer for the entry, which has to be true, and whether the check accepts it and refuses the other one.
-fn answered<G: Grid>(
+fn checked_answer<G: Grid>(
     alloc: Global,
     entry: &Entry,
     other: &OuterAnswer,
@@ -94,11 +126,12 @@ fn with_cut(alloc: Global, last: u32) -> Result<OuterAnswer, Fail>
     })
 }
 
-/// An entry of searches without layers.
-fn searched(
+/// An entry of searches.
+fn search_entry(
     alloc: Global,
     cells: &[Cell],
     verdict: Verdict,
+    free: Layers,
     wall: Wall,
     bare: Bare,
     wider: Option<Layers>,
@@ -107,9 +140,7 @@ fn searched(
         cells: seq(alloc, cells)?,
         verdict,
         evidence: Evidence::Search {
-            free: Layers {
-                layers: Seq::new(alloc),
-            },
+            free,
             wall,
             bare,
             wider,
@@ -128,8 +159,16 @@ fn enclosed_cell(rt: HostRuntime) -> Result<(), Fail> {
     };
     let verdict = Verdict::Heesch { h: 0, m: 1 };
     let wall = Wall::Refuted { proof };
-    let entry = searched(alloc, &ENCLOSING, verdict, wall, Bare::Same, None)?;
-    let (answer, checked) = answered::<Square>(alloc, &entry, &with_cut(alloc, 9)?, LEAST)?;
+    let entry = search_entry(
+        alloc,
+        &ENCLOSING,
+        verdict,
+        no_layers(alloc),
+        wall,
+        Bare::Same,
+        None,
+    )?;
+    let (answer, checked) = checked_answer::<Square>(alloc, &entry, &with_cut(alloc, 9)?, LEAST)?;
     assert!(rt; checked);
     match &answer {
         OuterAnswer::Same { proof } => {
@@ -142,52 +181,80 @@ fn enclosed_cell(rt: HostRuntime) -> Result<(), Fail> {
     Ok(())
 }
 
-/// A shape that can be surrounded, but never without a hole, has outer number 1.
-#[test]
-fn surrounded_with_holes(rt: HostRuntime) -> Result<(), Fail> {
-    let alloc = rt.alloc();
-    let heptomino = [
-        Cell { a: 1, b: 0 },
-        Cell { a: 0, b: 1 },
-        Cell { a: 1, b: 1 },
-        Cell { a: 2, b: 1 },
-        Cell { a: 3, b: 1 },
-        Cell { a: 1, b: 2 },
-        Cell { a: 1, b: 3 },
-    ];
-    let shape: Shape<Square> = canonical_of(&heptomino)?;
+/// The layers of h hole-free coronas.
+fn free_layers<G: Grid>(alloc: Global, shape: &Shape<G>, h: u32) -> Result<Layers, Fail>
+    requires level { h ≤ 5 }
+    requires canonical { IsCanonicalListOf G.geometry shape.now shape.now }
+{
+    if h == 0 {
+        return Ok(no_layers(alloc));
+    }
+    match level(
+        alloc,
+        shape,
+        h,
+        true,
+        LEAST.turns,
+        LEAST.size,
+        LEAST.version,
+    )? {
+        LevelAnswer::Coronas { layers } => Ok(layers),
+        _ => Err(Fail::new("no hole-free coronas")),
+    }
+}
+
+/// How many outer coronas are found of a shape with Heesch number h that has h + 1 coronas with holes; fewer aren't accepted.
+fn count_outer<G: Grid>(alloc: Global, shape: &Shape<G>, h: u32) -> Result<usize, Fail>
+    requires level { h ≤ 5 }
+    requires canonical { IsCanonicalListOf G.geometry shape.now shape.now }
+{
     let WallAnswer::Holed { proof, layers } = wall(
         alloc,
-        &shape,
-        1,
-        20_000,
-        60_000_000,
-        Version::One,
+        shape,
+        h + 1,
+        LEAST.turns,
+        LEAST.size,
+        LEAST.version,
     )?
     else {
         return Err(Fail::new("no coronas with holes"));
     };
-    let verdict = Verdict::Holes { h: 0 };
-    let wall = Wall::Refuted { proof };
-    let entry = searched(
+    let entry = search_entry(
         alloc,
         shape.cells(),
-        verdict,
-        wall,
+        Verdict::Holes { h },
+        free_layers(alloc, shape, h)?,
+        Wall::Refuted { proof },
         Bare::Open,
         Some(layers),
     )?;
-    let other = OuterAnswer::More {
-        layers: Layers {
-            layers: Seq::new(alloc),
-        },
+    let limits = Limits {
+        levels: h + 1,
+        ..LEAST
     };
-    let (answer, checked) = answered::<Square>(alloc, &entry, &other, LEAST)?;
-    assert!(rt; checked);
-    match &answer {
-        OuterAnswer::More { layers } => assert_eq!(rt; layers.layers.len(), 1),
-        _ => assert!(rt; false),
+    let none = OuterAnswer::More {
+        layers: no_layers(alloc),
+    };
+    let (answer, checked) = checked_answer::<G>(alloc, &entry, &none, limits)?;
+    match answer {
+        OuterAnswer::More { layers } if checked => Ok(layers.layers.len()),
+        _ => Err(Fail::new("no outer coronas")),
     }
+}
+
+/// A shape that can be surrounded, but never without a hole, has outer number 1.
+#[test]
+fn surrounded_with_holes(rt: HostRuntime) -> Result<(), Fail> {
+    let shape: Shape<Square> = canonical_of(&CROSSING)?;
+    assert_eq!(rt; count_outer(rt.alloc(), &shape, 0)?, 1);
+    Ok(())
+}
+
+/// One that can be surrounded twice, but then never without a hole, has outer number 2.
+#[test]
+fn surrounded_twice(rt: HostRuntime) -> Result<(), Fail> {
+    let shape: Shape<Square> = canonical_of(&HOOKED)?;
+    assert_eq!(rt; count_outer(rt.alloc(), &shape, 1)?, 2);
     Ok(())
 }
 
@@ -202,8 +269,16 @@ fn unknown_number(rt: HostRuntime) -> Result<(), Fail> {
         at: 1,
     };
     let cells = [Cell { a: 1, b: 1 }];
-    let entry = searched(alloc, &cells, verdict, Wall::Size, Bare::Absent, None)?;
-    let (answer, checked) = answered::<Iamond>(alloc, &entry, &OuterAnswer::Tiles, limits)?;
+    let entry = search_entry(
+        alloc,
+        &cells,
+        verdict,
+        no_layers(alloc),
+        Wall::Size,
+        Bare::Absent,
+        None,
+    )?;
+    let (answer, checked) = checked_answer::<Iamond>(alloc, &entry, &OuterAnswer::Tiles, limits)?;
     assert!(rt; checked);
     match answer {
         OuterAnswer::Unknown => Ok(()),
@@ -241,7 +316,7 @@ fn square_that_tiles(rt: HostRuntime) -> Result<(), Fail> {
         },
         evidence: Evidence::Cover { tiling, classes },
     };
-    let (answer, checked) = answered::<Square>(alloc, &entry, &OuterAnswer::Unknown, LEAST)?;
+    let (answer, checked) = checked_answer::<Square>(alloc, &entry, &OuterAnswer::Unknown, LEAST)?;
     assert!(rt; checked);
     match answer {
         OuterAnswer::Tiles => Ok(()),

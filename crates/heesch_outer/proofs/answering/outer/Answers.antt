@@ -24,8 +24,8 @@ returns-in-Same-clause-number g c =
     number_in geometry a.limits a.entry.now c.requires.entry s.free proof BareSame s.wider s.triples is g.met.G.Grid.laws c.requires.limits answer
     ((answer_beyond geometry a.limits a.entry.now c.requires.entry s.free proof BareSame s.wider s.triples is answer).1 (ap Same c.in_ok-proof.ensures))
 
-pub sought-requires : goal.sought-requires
-sought-requires g c =
+pub search_outer-requires : goal.search_outer-requires
+search_outer-requires g c =
     let a = c.args in
     let s = c.in-Search in
     let proof = c.in-Refuted.proof in
@@ -53,13 +53,13 @@ returns g c =
     let is = s.is ∙ ap (λ w. Search s.free w s.bare s.wider s.triples) c.in-Refuted.is in
     let shape = c.shape_of-shape.ensures.same ∙ c.as_slice.ensures in
     let both = answer_searched geometry a.limits a.entry.now c.requires.entry s.free proof s.bare s.wider s.triples is c.in_default-bare.not-Same in
-    let found : IfOk c.sought.result (IsSearched geometry a.limits a.entry.now.cells (length s.free.layers)) =
-    subst (λ n. IfOk c.sought.result (IsSearched geometry a.limits a.entry.now.cells n)) c.len.ensures
-    (subst (λ cells. IfOk c.sought.result (IsSearched geometry a.limits cells c.len.result)) shape c.sought.ensures) in
+    let found : IfOk c.search_outer.result (IsSearched geometry a.limits a.entry.now.cells (length s.free.layers)) =
+    subst (λ n. IfOk c.search_outer.result (IsSearched geometry a.limits a.entry.now.cells n)) c.len.ensures
+    (subst (λ cells. IfOk c.search_outer.result (IsSearched geometry a.limits cells c.len.result)) shape c.search_outer.ensures) in
     record {
-      answer = IfOk-weaker c.sought.result (IsSearched geometry a.limits a.entry.now.cells (length s.free.layers)) (IsOuterAnswer geometry a.limits a.entry.now) (λ answer x. (both answer).1 x) found;
-      near = IfOk-weaker c.sought.result (IsSearched geometry a.limits a.entry.now.cells (length s.free.layers)) IsNearAnswer
+      answer = IfOk-weaker c.search_outer.result (IsSearched geometry a.limits a.entry.now.cells (length s.free.layers)) (IsOuterAnswer geometry a.limits a.entry.now) (λ answer x. (both answer).1 x) found;
+      near = IfOk-weaker c.search_outer.result (IsSearched geometry a.limits a.entry.now.cells (length s.free.layers)) IsNearAnswer
           (near_in geometry a.limits a.entry.now c.requires.entry s.free proof s.bare s.wider s.triples is law c.requires.limits) found;
-      number = IfOk-weaker c.sought.result (IsSearched geometry a.limits a.entry.now.cells (length s.free.layers)) (TellsNumber geometry a.entry.now.cells (first_number a.entry.now.verdict))
+      number = IfOk-weaker c.search_outer.result (IsSearched geometry a.limits a.entry.now.cells (length s.free.layers)) (TellsNumber geometry a.entry.now.cells (first_number a.entry.now.verdict))
           (λ answer x. number_in geometry a.limits a.entry.now c.requires.entry s.free proof s.bare s.wider s.triples is law c.requires.limits answer ((both answer).1 x)) found;
     }

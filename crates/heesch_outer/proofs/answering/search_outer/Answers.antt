@@ -4,7 +4,7 @@ use Rattle.heesch_grid.specs.Clauses.{formula_size}
 use Rattle.heesch_place.specs.Universes.{Levels}
 use Rattle.heesch_levels.proofs.LevelFacts.{formula_kept}
 use Rattle.heesch_outer.specs.Answer.{IsSearched}
-use Rattle.heesch_outer.proofs.answering.sought.Goals as goal
+use Rattle.heesch_outer.proofs.answering.search_outer.Goals as goal
 
 pub returns : goal.returns
 returns g c =
