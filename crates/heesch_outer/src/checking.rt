@@ -1,5 +1,5 @@
 //! The check of an answer.
-ghost use Rattle.std.specs.Prelude.{◌≡◌, ◌↔◌, ◌+◌, ◌≤◌, ℕ, length, IfOk, IsTrue};
+ghost use Rattle.std.specs.Prelude.{◌≡◌, ◌↔◌, ◌+◌, length, IfOk, IsTrue};
 ghost use Rattle.heesch_audit.specs.Near.{IsNearProof};
 ghost use Rattle.heesch_cert.specs.Limits.{AreLimits};
 ghost use Rattle.heesch_cert.specs.Proofs.{RefutesCoronas};

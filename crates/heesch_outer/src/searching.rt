@@ -1,5 +1,5 @@
 //! The search for outer coronas.
-ghost use Rattle.std.specs.Prelude.{◌≡◌, ◌<◌, ◌≤◌, ◌^◌, ◌+◌, [], ℕ, Some, None, IfOk, IfSome, IfNone, All, length, map, MatchOption};
+ghost use Rattle.std.specs.Prelude.{◌≡◌, ◌<◌, ◌≤◌, ◌^◌, ◌+◌, ℕ, Some, None, IfOk, IfSome, IfNone, All, length, map, MatchOption};
 ghost use Rattle.heesch_cdcl.specs.Problem.{SameProblem};
 ghost use Rattle.heesch_cert.specs.Cuts.{cut_clause};
 ghost use Rattle.heesch_cert.specs.Proofs.{IsLawfulStep, log_of};
