@@ -1,0 +1,9 @@
+pub mod OuterNumbers
+pub mod OuterSound
+pub mod OuterRight
+pub mod Entries
+pub mod OuterLayers
+pub mod Inside
+pub mod OuterSearch
+pub mod CanonicalCells
+pub mod OuterAnswers

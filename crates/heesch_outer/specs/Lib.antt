@@ -1,0 +1,6 @@
+pub mod Coronas
+pub mod Proofs
+pub mod Answer
+pub mod Found
+pub mod Searching
+pub mod Statements

@@ -1,0 +1,162 @@
+//! Copies of proofs and layers, and whether two proofs are the same.
+ghost use Rattle.std.specs.Prelude.{◌≡◌, ◌↔◌, IfOk, IsTrue};
+
+use heesch_cert::{Cut, Isos, Layers, Proof, Step};
+use heesch_cnf::{Hints, Lit};
+use heesch_grid::Cell;
+use heesch_io::{NoMemory, Seq};
+use std::alloc::Global;
+
+/// A list of the same items.
+pub(crate) fn copy_items<T: Copy>(alloc: Global, items: &[T]) -> Result<Seq<T>, NoMemory>
+    ensures { IfOk result (λ copy. copy ≡ items.now) }
+{
+    Ok(Seq::from_vec(Vec::from_slice(alloc, items)?))
+}
+
+fn copy_cut(alloc: Global, cut: &Cut) -> Result<Cut, NoMemory>
+    ensures { IfOk result (λ copy. copy ≡ cut.now) }
+{
+    let hole = copy_items(alloc, cut.hole.as_slice())?;
+    let border = copy_items(alloc, cut.border.as_slice())?;
+    Ok(Cut {
+        level: cut.level,
+        hole,
+        border,
+    })
+}
+
+fn copy_step(alloc: Global, step: &Step) -> Result<Step, NoMemory>
+    ensures { IfOk result (λ copy. copy ≡ step.now) }
+{
+    match step {
+        Step::Learn { clause, hints } => {
+            let clause = copy_items(alloc, clause.as_slice())?;
+            let hints = copy_items(alloc, hints.as_slice())?;
+            Ok(Step::Learn { clause, hints })
+        }
+        Step::Cut { cut } => {
+            let cut = copy_cut(alloc, cut)?;
+            Ok(Step::Cut { cut })
+        }
+    }
+}
+
+fn copy_last(alloc: Global, last: &Option<Hints>) -> Result<Option<Hints>, NoMemory>
+    ensures { IfOk result (λ copy. copy ≡ last.now) }
+{
+    match last {
+        None => Ok(None),
+        Some(hints) => {
+            let copy = copy_items(alloc, hints.as_slice())?;
+            Ok(Some(copy))
+        }
+    }
+}
+
+fn copy_steps(alloc: Global, steps: &[Step]) -> Result<Seq<Step>, NoMemory>
+    ensures { IfOk result (λ copy. copy ≡ steps.now) }
+{
+    let mut copy = Seq::new(alloc);
+    for step in steps {
+        copy.push(copy_step(alloc, step)?)?;
+    }
+    Ok(copy)
+}
+
+/// An equal proof. The cost is its size.
+pub(crate) fn copy_proof(alloc: Global, proof: &Proof) -> Result<Proof, NoMemory>
+    ensures { IfOk result (λ copy. copy ≡ proof.now) }
+{
+    let steps = copy_steps(alloc, proof.steps.as_slice())?;
+    let last = copy_last(alloc, &proof.last)?;
+    Ok(Proof { steps, last })
+}
+
+/// The same layers.
+pub(crate) fn copy_layers(alloc: Global, layers: &[Isos]) -> Result<Layers, NoMemory>
+    ensures { IfOk result (λ copy. copy.layers ≡ layers.now) }
+{
+    let mut copy = Seq::new(alloc);
+    for layer in layers {
+        copy.push(copy_items(alloc, layer.as_slice())?)?;
+    }
+    Ok(Layers { layers: copy })
+}
+
+fn are_same_cells(cells: &[Cell], others: &[Cell]) -> bool
+    ensures { IsTrue result ↔ (cells.now ≡ others.now) }
+{
+    cells == others
+}
+
+fn are_same_literals(literals: &[Lit], others: &[Lit]) -> bool
+    ensures { IsTrue result ↔ (literals.now ≡ others.now) }
+{
+    literals == others
+}
+
+fn are_same_numbers(numbers: &[u32], others: &[u32]) -> bool
+    ensures { IsTrue result ↔ (numbers.now ≡ others.now) }
+{
+    numbers == others
+}
+
+fn is_same_cut(cut: &Cut, other: &Cut) -> bool
+    ensures { IsTrue result ↔ (cut.now ≡ other.now) }
+{
+    cut.level == other.level
+        && are_same_cells(cut.hole.as_slice(), other.hole.as_slice())
+        && are_same_numbers(cut.border.as_slice(), other.border.as_slice())
+}
+
+fn is_same_step(step: &Step, other: &Step) -> bool
+    ensures { IsTrue result ↔ (step.now ≡ other.now) }
+{
+    match (step, other) {
+        (
+            Step::Learn { clause, hints },
+            Step::Learn {
+                clause: other_clause,
+                hints: other_hints,
+            },
+        ) => {
+            are_same_literals(clause.as_slice(), other_clause.as_slice())
+                && are_same_numbers(hints.as_slice(), other_hints.as_slice())
+        }
+        (Step::Cut { cut }, Step::Cut { cut: other_cut }) => is_same_cut(cut, other_cut),
+        _ => false,
+    }
+}
+
+fn are_same_steps(steps: &[Step], others: &[Step]) -> bool
+    ensures { IsTrue result ↔ (steps.now ≡ others.now) }
+{
+    if steps.len() != others.len() {
+        return false;
+    }
+    for (i, step) in steps.iter().enumerate() {
+        if !is_same_step(step, &others[i]) {
+            return false;
+        }
+    }
+    true
+}
+
+fn is_same_last(last: &Option<Hints>, other: &Option<Hints>) -> bool
+    ensures { IsTrue result ↔ (last.now ≡ other.now) }
+{
+    match (last, other) {
+        (None, None) => true,
+        (Some(hints), Some(others)) => are_same_numbers(hints.as_slice(), others.as_slice()),
+        _ => false,
+    }
+}
+
+/// Whether the proofs have the same steps and the same last line.
+pub(crate) fn is_same_proof(proof: &Proof, other: &Proof) -> bool
+    ensures { IsTrue result ↔ (proof.now ≡ other.now) }
+{
+    are_same_steps(proof.steps.as_slice(), other.steps.as_slice())
+        && is_same_last(&proof.last, &other.last)
+}

@@ -1,0 +1,251 @@
+//! The parts of a true entry that answers are checked by.
+ghost use Rattle.std.specs.Prelude.{◌≡◌, ◌↔◌, ◌+◌, ◌≤◌, ◌<◌, ℕ, true, false, length, IfOk, IsTrue};
+ghost use Rattle.heesch_audit.specs.Near.{AreNearLayers, IsNearEntry, IsNearProof};
+ghost use Rattle.heesch_audit.specs.Shapes.{AreCanonical};
+ghost use Rattle.heesch_audit.specs.Spelling.{SpellCoronas};
+ghost use Rattle.heesch_cert.specs.Limits.{AreLimits};
+ghost use Rattle.heesch_cert.specs.Parts.{PartHolds};
+ghost use Rattle.heesch_cert.specs.Proofs.{RefutesCoronas, IsSpentOnCoronas};
+ghost use Rattle.heesch_cert.specs.TrueEntry.{HasNoPlain};
+ghost use Rattle.heesch_outer.specs.Answer.{SpellsOuterCoronas};
+ghost use Rattle.heesch_outer.specs.Found.{IsFound, free_entry, open_entry, refuted_entry, spent_entry, with_levels};
+
+use crate::copies::{copy_items, copy_layers, copy_proof};
+use heesch_audit::{EntryAnswer, audit};
+use heesch_cert::{Bare, Entry, Evidence, Isos, Layers, Limits, Phase, Proof, Verdict, Wall};
+use heesch_grid::{Cell, Grid};
+use heesch_io::{NoMemory, Seq};
+use std::alloc::Global;
+
+/// Whether a part of the entry holds, where those before it do.
+fn part_holds<G: Grid>(
+    alloc: Global,
+    entry: &Entry,
+    limits: Limits,
+    part: u32,
+) -> Result<bool, NoMemory>
+    requires limits { AreLimits limits }
+    requires near { IsNearEntry entry.now }
+    requires before { (k : ℕ) → k < part → PartHolds G.geometry limits entry.now k }
+    ensures { IfOk result (λ yes. IsTrue yes ↔ PartHolds G.geometry limits entry.now part) }
+{
+    match audit::<G>(alloc, entry, limits)? {
+        EntryAnswer::Valid => Ok(true),
+        EntryAnswer::Invalid { part: failing } => Ok(failing != part),
+    }
+}
+
+/// The limits, with another number of coronas that are sought.
+fn with_levels(limits: Limits, levels: u32) -> Limits
+    ensures { result ≡ with_levels limits levels }
+{
+    Limits { levels, ..limits }
+}
+
+/// The entry of so many layers whose wall the proof refutes.
+fn refuted_entry(
+    alloc: Global,
+    cells: &[Cell],
+    free: &[Isos],
+    proof: &Proof,
+) -> Result<Entry, NoMemory>
+    requires { length free.now ≤ 6 }
+    ensures { IfOk result (λ entry. entry ≡ refuted_entry cells.now free.now proof.now) }
+{
+    let h = free.len() as u32;
+    let evidence = Evidence::Search {
+        free: copy_layers(alloc, free)?,
+        wall: Wall::Refuted {
+            proof: copy_proof(alloc, proof)?,
+        },
+        bare: Bare::Same,
+        wider: None,
+        triples: Seq::new(alloc),
+    };
+    Ok(Entry {
+        cells: copy_items(alloc, cells)?,
+        verdict: Verdict::Heesch { h, m: h + 1 },
+        evidence,
+    })
+}
+
+/// The entry of so many layers whose search for more ended with the proof.
+fn spent_entry(
+    alloc: Global,
+    cells: &[Cell],
+    free: &[Isos],
+    proof: &Proof,
+) -> Result<Entry, NoMemory>
+    requires { length free.now ≤ 6 }
+    ensures { IfOk result (λ entry. entry ≡ spent_entry cells.now free.now proof.now) }
+{
+    let h = free.len() as u32;
+    let evidence = Evidence::Search {
+        free: copy_layers(alloc, free)?,
+        wall: Wall::Spent {
+            proof: copy_proof(alloc, proof)?,
+        },
+        bare: Bare::Absent,
+        wider: None,
+        triples: Seq::new(alloc),
+    };
+    Ok(Entry {
+        cells: copy_items(alloc, cells)?,
+        verdict: Verdict::Turns {
+            h,
+            phase: Phase::Free,
+            at: h + 1,
+        },
+        evidence,
+    })
+}
+
+/// The entry of so many layers with wider ones, behind a wall that the proof refutes.
+fn open_entry(
+    alloc: Global,
+    cells: &[Cell],
+    free: &[Isos],
+    wall: &Proof,
+    wider: &[Isos],
+) -> Result<Entry, NoMemory>
+    requires { length free.now ≤ 6 }
+    ensures { IfOk result (λ entry. entry ≡ open_entry cells.now free.now wall.now wider.now) }
+{
+    let evidence = Evidence::Search {
+        free: copy_layers(alloc, free)?,
+        wall: Wall::Refuted {
+            proof: copy_proof(alloc, wall)?,
+        },
+        bare: Bare::Open,
+        wider: Some(copy_layers(alloc, wider)?),
+        triples: Seq::new(alloc),
+    };
+    Ok(Entry {
+        cells: copy_items(alloc, cells)?,
+        verdict: Verdict::Holes {
+            h: free.len() as u32,
+        },
+        evidence,
+    })
+}
+
+/// The entry of so many layers, which are as many as are sought.
+fn free_entry(alloc: Global, cells: &[Cell], free: &[Isos]) -> Result<Entry, NoMemory>
+    requires { length free.now ≤ 6 }
+    ensures { IfOk result (λ entry. entry ≡ free_entry cells.now free.now) }
+{
+    let evidence = Evidence::Search {
+        free: copy_layers(alloc, free)?,
+        wall: Wall::Absent,
+        bare: Bare::Absent,
+        wider: None,
+        triples: Seq::new(alloc),
+    };
+    Ok(Entry {
+        cells: copy_items(alloc, cells)?,
+        verdict: Verdict::Levels {
+            h: free.len() as u32,
+        },
+        evidence,
+    })
+}
+
+/// Whether the proof refutes the corona formula of the level after the layers, and its cuts are lawful.
+pub(crate) fn is_refuted<G: Grid>(
+    alloc: Global,
+    cells: &[Cell],
+    free: &[Isos],
+    proof: &Proof,
+    limits: Limits,
+) -> Result<bool, NoMemory>
+    requires limits { AreLimits limits }
+    requires found { IsFound G.geometry limits cells.now free.now }
+    requires near { IsNearProof proof.now }
+    ensures { IfOk result (λ yes. IsTrue yes ↔ RefutesCoronas limits.version G.geometry cells.now (length free.now + 1) limits.size proof.now) }
+{
+    let entry = refuted_entry(alloc, cells, free, proof)?;
+    part_holds::<G>(alloc, &entry, limits, 6)
+}
+
+/// Whether the proof is spent for the limit on turns over that formula, and its cuts are lawful.
+pub(crate) fn is_spent<G: Grid>(
+    alloc: Global,
+    cells: &[Cell],
+    free: &[Isos],
+    proof: &Proof,
+    limits: Limits,
+) -> Result<bool, NoMemory>
+    requires limits { AreLimits limits }
+    requires found { IsFound G.geometry limits cells.now free.now }
+    requires near { IsNearProof proof.now }
+    ensures { IfOk result (λ yes. IsTrue yes ↔ IsSpentOnCoronas limits.version G.geometry cells.now (length free.now + 1) limits.turns limits.size proof.now) }
+{
+    let entry = spent_entry(alloc, cells, free, proof)?;
+    part_holds::<G>(alloc, &entry, limits, 6)
+}
+
+/// Whether the layers without the outermost are hole-free coronas.
+fn is_inner_free<G: Grid>(
+    alloc: Global,
+    cells: &[Cell],
+    inner: &[Isos],
+    limits: Limits,
+) -> Result<bool, NoMemory>
+    requires limits { AreLimits limits }
+    requires shape { AreCanonical G.geometry cells.now }
+    requires no_plain { HasNoPlain G.geometry limits cells.now }
+    requires few { length inner.now ≤ 6 }
+    requires near { AreNearLayers inner.now }
+    ensures { IfOk result (λ yes. IsTrue yes ↔ SpellCoronas G.geometry cells.now true inner.now) }
+{
+    if inner.is_empty() {
+        return Ok(true);
+    }
+    let entry = free_entry(alloc, cells, inner)?;
+    part_holds::<G>(alloc, &entry, with_levels(limits, inner.len() as u32), 5)
+}
+
+/// Whether the layers are coronas, holes allowed, one more than were found hole-free, behind a wall that the proof refutes.
+fn is_wider<G: Grid>(
+    alloc: Global,
+    cells: &[Cell],
+    free: &[Isos],
+    wall: &Proof,
+    layers: &[Isos],
+    limits: Limits,
+) -> Result<bool, NoMemory>
+    requires limits { AreLimits limits }
+    requires found { IsFound G.geometry limits cells.now free.now }
+    requires wall { RefutesCoronas limits.version G.geometry cells.now (length free.now + 1) limits.size wall.now }
+    requires one_more { length layers.now ≡ length free.now + 1 }
+    requires near { AreNearLayers layers.now }
+    ensures { IfOk result (λ yes. IsTrue yes ↔ SpellCoronas G.geometry cells.now false layers.now) }
+{
+    let entry = open_entry(alloc, cells, free, wall, layers)?;
+    part_holds::<G>(alloc, &entry, with_levels(limits, layers.len() as u32), 7)
+}
+
+/// Whether the layers are outer coronas, one more than were found hole-free, behind a wall that the proof refutes.
+pub(crate) fn are_outer<G: Grid>(
+    alloc: Global,
+    cells: &[Cell],
+    free: &[Isos],
+    wall: &Proof,
+    layers: &Layers,
+    limits: Limits,
+) -> Result<bool, NoMemory>
+    requires limits { AreLimits limits }
+    requires found { IsFound G.geometry limits cells.now free.now }
+    requires wall { RefutesCoronas limits.version G.geometry cells.now (length free.now + 1) limits.size wall.now }
+    requires near { AreNearLayers layers.now.layers }
+    ensures { IfOk result (λ yes. IsTrue yes ↔ SpellsOuterCoronas G.geometry cells.now (length free.now + 1) layers.now) }
+{
+    let layers = layers.layers.as_slice();
+    if layers.len() != free.len() + 1 {
+        return Ok(false);
+    }
+    if !is_inner_free::<G>(alloc, cells, &layers[..free.len()], limits)? {
+        return Ok(false);
+    }
+    is_wider::<G>(alloc, cells, free, wall, layers, limits)
+}
