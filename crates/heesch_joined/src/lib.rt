@@ -1,0 +1,4 @@
+//! That the shares of a catalogue, joined, are the catalogue.
+#![tactic(auto)]
+
+pub mod laws;
