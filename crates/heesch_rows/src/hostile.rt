@@ -22,17 +22,17 @@ const FRONTS: [(usize, &str); 6] = [
 fn every_front_of_a_catalogue_is_invalid(rt: HostRuntime) -> Result<(), Fail> {
     let alloc = rt.alloc();
     let bytes = TRIANGLE.as_bytes();
-    let mut len = 0;
+    let mut from = 0;
     for (until, line) in FRONTS {
-        while len < until {
+        for len in from..until {
             let front = str::from_utf8(&bytes[..len.min(bytes.len())])?;
             let (status, held) = told(&rt, alloc, front)?;
             assert_eq!(rt; held.as_slice(), line.as_bytes(), "{len}");
             assert_eq!(rt; status, Status::Invalid, "{len}");
-            len += 1;
         }
+        from = until;
     }
-    assert_eq!(rt; len, bytes.len());
+    assert_eq!(rt; from, bytes.len());
     Ok(())
 }
 
