@@ -3,4 +3,5 @@ pub mod Proofs
 pub mod Answer
 pub mod Found
 pub mod Searching
+pub mod Record
 pub mod Statements

@@ -7,12 +7,14 @@ mod checking;
 mod copies;
 pub mod laws;
 mod parts;
+mod record;
 mod searching;
 mod steps;
 
 pub use answer::OuterAnswer;
 pub use answering::outer;
 pub use checking::check_outer;
+pub use record::write_answer;
 
 #[cfg(test)]
 mod tests;

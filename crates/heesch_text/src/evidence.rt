@@ -151,7 +151,8 @@ fn append_tiles(places: &[Iso], members: &[Member], out: &mut Vec<u8>) -> Result
     Ok(())
 }
 
-fn append_layers(layers: &[Isos], out: &mut Vec<u8>) -> Result<(), NoMemory>
+/// A line for each layer.
+pub fn append_layers(layers: &[Isos], out: &mut Vec<u8>) -> Result<(), NoMemory>
     ensures ok { OnOk result (out.new.items ≡ out.old.items ++ text_of (layer_lines layers.now)) }
     ensures kept { take (length out.old.items) out.new.items ≡ out.old.items }
     ensures naturals { OnOk result (AllByRecursion HasNaturals (layer_lines layers.now)) }
@@ -267,7 +268,8 @@ fn append_triple_proof(triple: &TripleProof, out: &mut Vec<u8>) -> Result<(), No
     append_proof(&triple.proof, out)
 }
 
-fn append_proof(proof: &Proof, out: &mut Vec<u8>) -> Result<(), NoMemory>
+/// The steps and the last line of a proof.
+pub fn append_proof(proof: &Proof, out: &mut Vec<u8>) -> Result<(), NoMemory>
     ensures ok { OnOk result (out.new.items ≡ out.old.items ++ text_of (proof_lines proof.now)) }
     ensures kept { take (length out.old.items) out.new.items ≡ out.old.items }
     ensures naturals { OnOk result (AllByRecursion HasNaturals (proof_lines proof.now)) }

@@ -13,6 +13,7 @@ mod shapes;
 mod tests;
 
 pub use catalogue::{write_brief, write_coronas, write_end, write_entry, write_header};
+pub use evidence::{append_layers, append_proof};
 pub use line::{BareOutcome, Line, Outcome};
 pub use plains::write_plain;
 pub use shapes::write_shape;
