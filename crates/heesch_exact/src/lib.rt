@@ -8,7 +8,7 @@ mod candidates;
 mod counts;
 mod search;
 
-ghost use Rattle.std.specs.Prelude.{◌+◌, ◌≤◌, ◌<◌, ◌^◌, length, IfOk, OnOk};
+ghost use Rattle.std.specs.Prelude.{◌+◌, ◌≤◌, ◌<◌, ◌^◌, length, IfOk, OnOk, IsErr, ◌≡◌};
 ghost use Rattle.heesch_exact.specs.Covers.{IsAnswer};
 
 use crate::candidates::within;
@@ -47,6 +47,7 @@ pub fn exact_cover(
     requires few { length masks.now < 2 ^ 31 }
     ensures answer { IfOk result (IsAnswer masks.now points nodes.old) }
     ensures nodes { nodes.new ≤ nodes.old }
+    ensures kept { IsErr result → nodes.new ≡ nodes.old }
     ensures few { OnOk result (nodes.old ≤ nodes.new + 2 ^ length masks.now) }
 {
     let mut search = Search {

@@ -60,6 +60,8 @@ impl Source for MemorySource {
         ensures calls { self.new.calls ≡ capped (self.old.calls + 1) }
         ensures same { (self.new.bytes ≡ self.old.bytes) × (self.new.most ≡ self.old.most)
             × (self.new.fails ≡ self.old.fails) }
+        ensures untouched { IsErr result → into.new ≡ into.old }
+        ensures behind { IfOk result (λ count. drop count into.new ≡ drop count into.old) }
     {
         if begins_failing(&mut self.calls, &self.fails) {
             return Err(Failed);
