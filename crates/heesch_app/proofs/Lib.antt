@@ -6,6 +6,5 @@ mod Headline
 mod PlainAnswers
 mod PlainLines
 mod Ranges
-mod ReadingLaws
 mod ToldExchanges
 mod ValidOutputs

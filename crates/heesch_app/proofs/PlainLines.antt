@@ -4,7 +4,7 @@ use Rattle.std.proofs.Math.Seq.{drop-cons}
 use Rattle.std.proofs.lemmas.List.{drop_all}
 use Rattle.heesch_grid.specs.declared.Cell.{Cell}
 use Rattle.heesch_tiling.specs.declared.found.Plain.{Plain}
-use Rattle.heesch_text.specs.Plains.{plain_line, plain_list_text}
+use Rattle.heesch_app.specs.Plains.{plain_line, plain_list_text}
 
 -- the lines of the shapes from place i on
 abbrev pub lines_from : ℕ → List (List Cell) → List (Option Plain) → List ℕ

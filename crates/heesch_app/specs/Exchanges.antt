@@ -7,7 +7,7 @@ use Rattle.heesch_exchange.specs.Formulas.{IsFormula, HasFormulaFault}
 use Rattle.heesch_exchange.specs.declared.stop.ExchangeStop.{ExchangeStop}
 use Rattle.heesch_exchange.specs.declared.stop.ExchangeStop.TheVariants.{Fault, NoMemory}
 use Rattle.heesch_grid.specs.Geometry.{Geometry}
-use Rattle.heesch_stream.specs.Input.{IsAllOf}
+use Rattle.heesch_io.specs.Input.{IsAllOf}
 use Rattle.heesch_app.specs.declared.status.Status.{Status}
 use Rattle.heesch_app.specs.declared.status.Status.TheVariants.{Done, BadInput}
 use Rattle.heesch_app.specs.Inputs.{bad_input_text}

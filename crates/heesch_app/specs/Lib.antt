@@ -3,6 +3,7 @@ pub mod Endings
 pub mod Exchanges
 pub mod Inputs
 pub mod Outputs
+pub mod Plains
 pub mod Ranges
 pub mod Statuses
 pub mod Tables

@@ -15,7 +15,7 @@ use Rattle.heesch_grid.specs.Geometry.{Geometry}
 use Rattle.heesch_grid.specs.Names.{geometry_of}
 use Rattle.heesch_grid.specs.Polyform.{IsFreeList}
 use Rattle.heesch_text.specs.Catalogue.{catalogue_text}
-use Rattle.heesch_text.specs.Plains.{plain_list_text}
+use Rattle.heesch_app.specs.Plains.{plain_list_text}
 use Rattle.heesch_text.specs.Shapes.{list_text}
 use Rattle.heesch_tiling.specs.declared.found.Plain.{Plain}
 use Rattle.heesch_words.specs.declared.requests.Request.{Request}
@@ -36,7 +36,7 @@ use Rattle.heesch_sample.specs.Samples.{IsSample}
 use Rattle.heesch_share.specs.Written.{IsShareOfSize, IsBegunShareOfSize}
 use Rattle.heesch_share.specs.Joined.{IsJoined}
 use Rattle.heesch_parts.specs.Faults.{HasFault as HasJoinFault}
-use Rattle.heesch_stream.specs.Input.{IsAllOf}
+use Rattle.heesch_io.specs.Input.{IsAllOf}
 use Rattle.heesch_stream.specs.Taking.{input_max}
 use Rattle.heesch_tabulate.specs.declared.answers.Tabulated.{Tabulated}
 use Rattle.heesch_tabulate.specs.Tabulating.{IsTabulated}

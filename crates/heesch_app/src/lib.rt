@@ -7,6 +7,7 @@ mod exchanges;
 mod given_catalogue;
 mod joins;
 mod listing;
+mod plains;
 mod program;
 mod reading;
 mod reply;

@@ -2,7 +2,7 @@
 ghost use Rattle.std.specs.Prelude.{◌≡◌, ◌≤◌, Err, IfOk, OnOk};
 ghost use Rattle.std.specs.Io.KnownBytes.{IsAtEnd};
 ghost use Rattle.heesch_io.specs.Causes.{Rose};
-ghost use Rattle.heesch_stream.specs.Input.{IsAllOf};
+ghost use Rattle.heesch_io.specs.Input.{IsAllOf};
 
 use heesch_io::{NoMemory, Source};
 use std::alloc::Global;

@@ -2,17 +2,17 @@
 ghost use Rattle.std.specs.Prelude.{◌≡◌, ◌≤◌, length, IfOk, IsTrue};
 ghost use Rattle.heesch_grid.specs.Names.{geometry_of};
 ghost use Rattle.heesch_listing.specs.Parts.{are_small};
-ghost use Rattle.heesch_text.specs.Plains.{plain_list_text};
+ghost use Rattle.heesch_app.specs.Plains.{plain_list_text};
 ghost use Rattle.heesch_app.specs.Outputs.{IsPlainListing};
 ghost use Rattle.heesch_app.specs.Tilings.{ArePlain};
 
+use crate::plains::write_plain;
 use heesch_grid::{Grid, GridName, Hex, Iamond, Square};
 use heesch_io::NoMemory;
 use heesch_kite::Kite;
 use heesch_listing::all_shapes;
 use heesch_pool::{Answer, Gate, Job, run_all};
 use heesch_shape::Shape;
-use heesch_text::write_plain;
 use heesch_tiling::{Plain, plain};
 use std::alloc::Global;
 use std::thread::Threads;

@@ -12,7 +12,7 @@ use Rattle.heesch_reader.specs.declared.item.Item.TheVariants as items
 use Rattle.heesch_reader.specs.declared.item.Part.{Part}
 use Rattle.heesch_reader.specs.Items.{none_appended}
 use Rattle.heesch_reader.specs.Feeding.{Refuses, FallsShort}
-use Rattle.heesch_stream.specs.Input.{IsAllOf}
+use Rattle.heesch_io.specs.Input.{IsAllOf}
 use Rattle.heesch_stream.specs.Taking.{Streamed, HasFault}
 use Rattle.heesch_check.specs.declared.answers.Checked.{Checked}
 use Rattle.heesch_check.specs.declared.answers.Checked.TheVariants as answers

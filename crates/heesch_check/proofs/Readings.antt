@@ -22,7 +22,8 @@ use Rattle.heesch_reader.specs.declared.progress.AtHand.TheVariants as hands
 use Rattle.heesch_reader.specs.Endings.{ending_of}
 use Rattle.heesch_reader.specs.Faults.{begins}
 use Rattle.heesch_reader.specs.Feeding.{Refuses, FallsShort}
-use Rattle.heesch_stream.specs.Input.{IsAllOf, IsWholeCatalogue}
+use Rattle.heesch_io.specs.Input.{IsAllOf}
+use Rattle.heesch_stream.specs.Input.{IsWholeCatalogue}
 use Rattle.heesch_stream.specs.Taking.{Streamed, HasRead, Begins, HasFault, HasTooMany}
 use Rattle.heesch_check.specs.declared.answers.Checked.{Checked}
 use Rattle.heesch_check.specs.declared.answers.Checked.TheVariants as answers

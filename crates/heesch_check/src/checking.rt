@@ -5,7 +5,7 @@ ghost use Rattle.heesch_cert.specs.Limits.{AreLimits};
 ghost use Rattle.heesch_grid.specs.Names.{geometry_of};
 ghost use Rattle.heesch_io.specs.Causes.{Rose};
 ghost use Rattle.heesch_cert.specs.Sizes.{IsSubject};
-ghost use Rattle.heesch_stream.specs.Input.{IsAllOf};
+ghost use Rattle.heesch_io.specs.Input.{IsAllOf};
 ghost use Rattle.heesch_check.specs.Answers.{IsChecked};
 ghost use Rattle.heesch_check.specs.Judging.{HasShapes};
 ghost use Rattle.heesch_check.specs.Reading.{

@@ -4,6 +4,7 @@ ghost use Rattle.heesch_dimacs.specs.Formulas.{lit_word, clause_line, clause_lin
 
 use heesch_cnf::{FlatFormula, Formula, Lit, PackedLit};
 use heesch_io::NoMemory;
+use heesch_text::fields::append_bytes;
 use itoa::Buffer;
 
 /// Appends the clause text of a formula, which other solvers read: the line `p cnf V C`, with its numbers of variables and
@@ -105,13 +106,4 @@ fn append_lit(lit: Lit, out: &mut Vec<u8>) -> Result<(), NoMemory>
     }
     append_bytes(Buffer::new().format(lit.var).as_bytes(), out)?;
     append_bytes(b" ", out)
-}
-
-/// The bytes stand last.
-fn append_bytes(bytes: &[u8], out: &mut Vec<u8>) -> Result<(), NoMemory>
-    ensures ok { OnOk result (out.new.items ≡ out.old.items ++ bytes.now) }
-    ensures kept { take (length out.old.items) out.new.items ≡ out.old.items }
-{
-    out.extend_from_slice(bytes)?;
-    Ok(())
 }

@@ -6,13 +6,12 @@ use Rattle.std.proofs.lemmas.List.{length-take-le, append-nil}
 use Rattle.heesch_grid.specs.declared.Cell.{Cell}
 use Rattle.heesch_grid.specs.Geometry.{Geometry}
 use Rattle.heesch_line.specs.Scanning.{Scanned}
-use Rattle.heesch_stream.specs.Input.{IsAllOf}
-use Rattle.heesch_stream.proofs.Reading.{consumes_both, front_read, one_byte}
+use Rattle.heesch_io.specs.Input.{IsAllOf}
+use Rattle.heesch_io.proofs.KnownBytes.{all_given, consumes_both, consumes_none, front_given, front_read, one_byte}
 use Rattle.heesch_given.specs.declared.stop.GivenStop.{GivenStop}
 use Rattle.heesch_given.specs.declared.stop.GivenStop.TheVariants as stops
 use Rattle.heesch_given.specs.Given.{AreGiven, HasFault, GivesShapes, GivesFault, ReadsNoFurther}
 use Rattle.heesch_given.specs.Steps.{IsRead, IsFrontStop, IsWholeStop, IsStopBeyond}
-use Rattle.heesch_given.proofs.Known.{consumes_none, all_given, front_given}
 
 -- bytes were read since the source had `first` left, so many, and they decide nothing
 pub record Going (g : Geometry) (first now : Option (List ℕ)) (count : ℕ) (shapes : List (List Cell)) (s : Scanned) : Type 0 where

@@ -1,5 +1,4 @@
 mod Going
-mod Known
 pub mod OneFault
 pub mod Reading
 pub mod ShapeFaults

@@ -13,7 +13,7 @@ use Rattle.heesch_line.specs.Lists.{AreCells, IsListText, GoesOn}
 use Rattle.heesch_line.specs.Scanning.{IsNoLine}
 use Rattle.heesch_shape.specs.declared.faults.ShapeFault.{ShapeFault}
 use Rattle.heesch_shape.specs.Faults.{IsFault, IsFaultless, number_of}
-use Rattle.heesch_stream.specs.Input.{IsAllOf}
+use Rattle.heesch_io.specs.Input.{IsAllOf}
 use Rattle.heesch_given.specs.declared.stop.GivenStop.{GivenStop}
 use Rattle.heesch_given.specs.declared.stop.GivenStop.TheVariants.{Fault, Failed, NoMemory}
 

@@ -6,17 +6,9 @@ ghost use Rattle.heesch_outer.specs.Record.{answer_text, number_line};
 use crate::OuterAnswer;
 use heesch_cert::{Entry, Verdict};
 use heesch_io::NoMemory;
+use heesch_text::fields::append_bytes;
 use heesch_text::{append_layers, append_proof};
 use itoa::Buffer;
-
-/// The bytes stand last.
-fn append_bytes(bytes: &[u8], out: &mut Vec<u8>) -> Result<(), NoMemory>
-    ensures ok { OnOk result (out.new.items ≡ out.old.items ++ bytes.now) }
-    ensures kept { take (length out.old.items) out.new.items ≡ out.old.items }
-{
-    out.extend_from_slice(bytes)?;
-    Ok(())
-}
 
 /// The label, a number and a newline stand last.
 fn append_number_line(label: &[u8], number: u64, out: &mut Vec<u8>) -> Result<(), NoMemory>

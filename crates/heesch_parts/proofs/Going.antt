@@ -4,8 +4,8 @@ use Rattle.std.specs.Prelude.{Option, Some, None, Result, Ok, Err, IfOk, IfErr}
 use Rattle.std.specs.Io.KnownBytes.{Consumes, Keeps, IsAtEnd}
 use Rattle.std.proofs.lemmas.List.{length-take-le}
 use Rattle.heesch_reader.specs.declared.item.Item.{Item}
-use Rattle.heesch_stream.specs.Input.{IsAllOf}
-use Rattle.heesch_stream.proofs.Reading.{consumes_both, front_read, one_byte}
+use Rattle.heesch_io.specs.Input.{IsAllOf}
+use Rattle.heesch_io.proofs.KnownBytes.{all_given, consumes_both, consumes_none, front_given, front_read, one_byte}
 use Rattle.heesch_parts.specs.declared.join_stop.JoinStop.{JoinStop}
 use Rattle.heesch_parts.specs.declared.join_stop.JoinStop.TheVariants as join_stops
 use Rattle.heesch_parts.specs.declared.input_stop.InputStop.{InputStop}
@@ -15,22 +15,6 @@ use Rattle.heesch_parts.specs.Joining.{Kept, IsFed, GoesTo, IsFrontStop, IsWhole
 use Rattle.heesch_parts.specs.Inputs.{stop_of, AreJoined, GivesJoined, GivesFault, ReadsNoFurther, IsWholeInputStop}
 
 -- ---- known bytes
-
-consumes_none : (old : Option (List ℕ)) → Consumes old old []
-consumes_none None = tt
-consumes_none (Some all) = refl
-
--- at the end all was given
-all_given : (old new : Option (List ℕ)) (xs : List ℕ) → Consumes old new xs → IsAtEnd new → IsAllOf old xs
-all_given None new xs lost at_end = tt
-all_given (Some all) None xs lost at_end = absurd lost
-all_given (Some all) (Some left) xs lost at_end = sym (lost ∙ ap (λ r. xs ++ r) at_end ∙ append-nil xs)
-
--- what was given is a front of all
-front_given : (old new : Option (List ℕ)) (xs : List ℕ) → Consumes old new xs → (rest : List ℕ) × IsAllOf old (xs ++ rest)
-front_given None new xs lost = ([], tt)
-front_given (Some all) None xs lost = absurd lost
-front_given (Some all) (Some left) xs lost = (left, sym lost)
 
 -- what was read stands first in the room, and is as long
 piece_read : (before now : Option (List ℕ)) (more : ℕ) (room rest : List ℕ) → more ≤ length room → Consumes before now (take more room) → Consumes before now (take more (room ++ rest)) × (length (take more (room ++ rest)) ≡ more)

@@ -6,7 +6,7 @@ use Rattle.heesch_cert.specs.declared.header.Header.{Header}
 use Rattle.heesch_cert.specs.declared.entry.Entry.{Entry}
 use Rattle.heesch_line.specs.Forms.{HasNoNewline}
 use Rattle.heesch_reader.specs.declared.item.Item.{Item}
-use Rattle.heesch_stream.specs.Input.{IsAllOf}
+use Rattle.heesch_io.specs.Input.{IsAllOf}
 use Rattle.heesch_parts.specs.declared.part_line.PartLine.{PartLine}
 use Rattle.heesch_parts.specs.declared.stage.Stage.{Stage}
 use Rattle.heesch_parts.specs.declared.join_stop.JoinStop.{JoinStop}

@@ -2,6 +2,8 @@
 use Rattle.std.proofs.Common.{◌≡◌, inl, inr, ℕ, ◌+◌, ◌<◌, ◌≤◌, ◌==◌, List, [], ◌∷◌, ◌++◌, length, take, Option, Some, None, Result, Ok, Err, refl, sym, ap, subst, ◌∙◌, append_assoc, arith}
 use Rattle.std.specs.Prelude.{if◌then◌else◌}
 use Rattle.std.specs.Io.KnownBytes.{Consumes, IsAtEnd}
+use Rattle.heesch_io.proofs.KnownBytes.{consumes_both, consumes_none}
+use Rattle.heesch_io.specs.Input.{IsAllOf}
 use Rattle.std.proofs.lemmas.Bool.{false≢true}
 use Rattle.std.proofs.lemmas.List.{append-nil, length-append, take-append-le}
 use Rattle.std.proofs.lemmas.List.Sums.{sum_by-append, count_by-le-length}
@@ -18,22 +20,11 @@ use Rattle.heesch_stream.specs.declared.answers.Taken.TheVariants as takens
 use Rattle.heesch_stream.specs.declared.answers.StreamStop.{StreamStop}
 use Rattle.heesch_stream.specs.declared.answers.StreamStop.TheVariants as stops
 use Rattle.heesch_stream.specs.Answers.{stop_of}
-use Rattle.heesch_stream.specs.Input.{IsAllOf, newlines}
+use Rattle.heesch_stream.specs.Input.{newlines}
 use Rattle.heesch_stream.specs.Taking.{Streamed, Begins, HasRead, TakesPiece, TakesEnd, TellsFault, TellsTooLong, TakeResult, FeedsPiece, FinishesAll}
 use Rattle.heesch_stream.proofs.Joining.{takes_on, refuses_on, falls_short_on, finishes_on}
 
 -- ---- known bytes
-
--- known bytes lose what two reads give
-pub consumes_both : (old between new : Option (List ℕ)) (xs ys : List ℕ) → Consumes old between xs → Consumes between new ys → Consumes old new (xs ++ ys)
-consumes_both None between new xs ys first second = tt
-consumes_both (Some all) None new xs ys first second = absurd first
-consumes_both (Some all) (Some rest) None xs ys first second = absurd second
-consumes_both (Some all) (Some rest) (Some left) xs ys first second = first ∙ ap (λ r. xs ++ r) second ∙ sym (append_assoc xs ys left)
-
-consumes_none : (old : Option (List ℕ)) → Consumes old old []
-consumes_none None = tt
-consumes_none (Some all) = refl
 
 unread : Option (List ℕ) → List ℕ
 unread None = []
@@ -269,13 +260,3 @@ fed_refusal old new items after piece reader_stops.NoMemory e f = (none_again ol
 pub finished_refusal : (old new : Kept) (items after : List Item) (stop : Stop) → old.refusal ≡ None → FinishResult old new items after (Err stop) → new.refusal ≡ Some stop
 finished_refusal old new items after (reader_stops.NotText line part) e f = (finish_again old.refusal old new items after old.rest (Err (reader_stops.NotText line part)) e f).1
 finished_refusal old new items after reader_stops.NoMemory e f = (finish_again old.refusal old new items after old.rest (Err reader_stops.NoMemory) e f).1
-
--- one byte was read into room for one
-pub one_byte : (before now : Option (List ℕ)) (count : ℕ) (room : List ℕ) → length room ≡ 1 → count ≤ 1 → 0 < count → Consumes before now (take count room) → (byte : ℕ) × Consumes before now (byte ∷ [])
-one_byte before now count [] long most some c = absurd (omega arith)
-one_byte before now count (byte ∷ x ∷ room) long most some c = absurd (omega arith)
-one_byte before now count (byte ∷ []) long most some c = let n : count ≡ 1 = omega arith in (byte, subst (λ (k : ℕ). Consumes before now (take k (byte ∷ []))) n c)
-
--- what was read stands first in the room
-pub front_read : (before now : Option (List ℕ)) (count : ℕ) (room rest : List ℕ) → count ≤ length room → Consumes before now (take count room) → Consumes before now (take count (room ++ rest))
-front_read before now count room rest le c = subst (λ (bytes : List ℕ). Consumes before now bytes) (sym (take-append-le count room rest le)) c

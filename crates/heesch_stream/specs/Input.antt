@@ -1,16 +1,11 @@
--- The whole input of a source, and whole catalogues.
-use Rattle.std.specs.Prelude.{◌≡◌, ℕ, ◌==◌, count_by, List, Option, Some, None, true, ⊤}
+-- Whole catalogues.
+use Rattle.std.specs.Prelude.{◌≡◌, ℕ, ◌==◌, count_by, List, true}
 use Rattle.heesch_text.specs.Lines.{text_of}
 use Rattle.heesch_reader.specs.declared.item.Item.{Item}
 use Rattle.heesch_reader.specs.declared.progress.Progress.{Progress}
 use Rattle.heesch_reader.specs.declared.progress.Progress.TheVariants as stages
 use Rattle.heesch_reader.specs.Progress.{Lead}
 use Rattle.heesch_reader.specs.Items.{lines_of, AreItemsAt, with_items, none_appended}
-
--- where the source told what it had left, these are the bytes
-abbrev pub IsAllOf : Option (List ℕ) → List ℕ → Type 0
-IsAllOf None bytes = ⊤
-IsAllOf (Some input) bytes = bytes ≡ input
 
 -- how many of the bytes are newlines
 abbrev pub newlines : List ℕ → ℕ

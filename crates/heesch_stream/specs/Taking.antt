@@ -15,7 +15,8 @@ use Rattle.heesch_stream.specs.declared.answers.Taken.{Taken}
 use Rattle.heesch_stream.specs.declared.answers.Taken.TheVariants as takens
 use Rattle.heesch_stream.specs.declared.answers.StreamStop.{StreamStop}
 use Rattle.heesch_stream.specs.declared.answers.StreamStop.TheVariants as stops
-use Rattle.heesch_stream.specs.Input.{IsAllOf, newlines, IsWholeCatalogue}
+use Rattle.heesch_io.specs.Input.{IsAllOf}
+use Rattle.heesch_stream.specs.Input.{newlines, IsWholeCatalogue}
 
 -- the most bytes that are read
 abbrev pub input_max : ℕ

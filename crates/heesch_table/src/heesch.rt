@@ -6,9 +6,10 @@ ghost use Rattle.heesch_table.specs.Counts.{heesch_of};
 ghost use Rattle.heesch_table.specs.Steps.{RaisesCount};
 ghost use Rattle.heesch_table.specs.Texts.{heesch_text};
 
-use crate::fields::{append_count, append_labelled};
+use crate::fields::append_count;
 use heesch_cert::Verdict;
 use heesch_io::NoMemory;
+use heesch_text::fields::append_labelled;
 use std::alloc::Global;
 use std::collections::BTreeMap;
 use std::marker::Model;

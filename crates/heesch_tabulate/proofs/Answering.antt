@@ -20,9 +20,10 @@ use Rattle.heesch_stream.specs.declared.answers.Taken.{Taken}
 use Rattle.heesch_stream.specs.declared.answers.Taken.TheVariants as takens
 use Rattle.heesch_stream.specs.declared.answers.StreamStop.{StreamStop}
 use Rattle.heesch_stream.specs.declared.answers.StreamStop.TheVariants as stream_stops
-use Rattle.heesch_stream.specs.Input.{IsAllOf, IsWholeCatalogue}
+use Rattle.heesch_io.specs.Input.{IsAllOf}
+use Rattle.heesch_stream.specs.Input.{IsWholeCatalogue}
 use Rattle.heesch_stream.specs.Taking.{Streamed, HasRead, HasFault, HasTooMany, TakeResult, TakesOnePiece}
-use Rattle.heesch_stream.proofs.Reading.{consumes_both}
+use Rattle.heesch_io.proofs.KnownBytes.{consumes_both}
 use Rattle.heesch_table.specs.Counts.{counts_of}
 use Rattle.heesch_table.specs.Texts.{tally_text}
 use Rattle.heesch_tabulate.specs.declared.answers.EntryFault.{EntryFault}

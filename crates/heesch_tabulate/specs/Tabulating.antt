@@ -16,7 +16,8 @@ use Rattle.heesch_reader.specs.declared.progress.Progress.TheVariants as stages
 use Rattle.heesch_reader.specs.Progress.{Lead, may_end}
 use Rattle.heesch_reader.specs.Faults.{begins_next}
 use Rattle.heesch_reader.specs.Items.{lines_of, AreItemsAt}
-use Rattle.heesch_stream.specs.Input.{IsAllOf, IsWholeCatalogue}
+use Rattle.heesch_io.specs.Input.{IsAllOf}
+use Rattle.heesch_stream.specs.Input.{IsWholeCatalogue}
 use Rattle.heesch_stream.specs.Taking.{Begins, HasFault, HasTooMany, input_max, piece_max}
 use Rattle.heesch_table.specs.Texts.{tally_text}
 use Rattle.heesch_tabulate.specs.declared.answers.Tabulated.{Tabulated}

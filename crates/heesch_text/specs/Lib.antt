@@ -3,5 +3,4 @@ pub mod Fields
 pub mod Lines
 pub mod Names
 pub mod Naturals
-pub mod Plains
 pub mod Shapes

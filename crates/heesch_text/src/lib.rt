@@ -3,11 +3,10 @@
 
 mod catalogue;
 mod evidence;
-mod fields;
+pub mod fields;
 mod line;
 mod lines;
 mod names;
-mod plains;
 mod shapes;
 #[cfg(test)]
 mod tests;
@@ -15,5 +14,4 @@ mod tests;
 pub use catalogue::{write_brief, write_coronas, write_end, write_entry, write_header};
 pub use evidence::{append_layers, append_proof};
 pub use line::{BareOutcome, Line, Outcome};
-pub use plains::write_plain;
 pub use shapes::write_shape;

@@ -1,7 +1,7 @@
 use Rattle.std.proofs.Common.{Vec, Global, ℕ, sym, subst}
 use Rattle.std.proofs.lemmas.Result.{IfOk-weaker}
 use Rattle.heesch_grid.specs.Names.{geometry_of}
-use Rattle.heesch_stream.specs.Input.{IsAllOf}
+use Rattle.heesch_io.specs.Input.{IsAllOf}
 use Rattle.heesch_exchange.specs.Answers.{IsAnswer, IsAnswerStop}
 use Rattle.heesch_app.proofs.ToldExchanges.{told}
 use Rattle.heesch_app.proofs.exchanges.model_reply.Goals as goal

@@ -1,5 +1,5 @@
 use Rattle.std.proofs.Common.{◌≡◌, ◌++◌, get_or, ap, ◌∙◌}
-use Rattle.heesch_text.specs.Plains.{plain_line, plain_list_text}
+use Rattle.heesch_app.specs.Plains.{plain_line, plain_list_text}
 use Rattle.heesch_app.proofs.PlainLines.{lines_more, lines_end}
 use Rattle.heesch_app.proofs.tilings.text_of.Goals as goal
 

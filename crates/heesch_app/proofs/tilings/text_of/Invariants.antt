@@ -1,5 +1,5 @@
 use Rattle.std.proofs.Common.{◌≡◌, ◌++◌}
-use Rattle.heesch_text.specs.Plains.{plain_list_text}
+use Rattle.heesch_app.specs.Plains.{plain_list_text}
 use Rattle.heesch_app.proofs.PlainLines.{lines_from}
 use Rattle.heesch_app.proofs.tilings.text_of.Given as goal
 

@@ -1,5 +1,6 @@
 use Rattle.std.proofs.lemmas.Result.{err_from_is_err_and}
-use Rattle.heesch_stream.proofs.Reading.{feed_stops, front_read}
+use Rattle.heesch_io.proofs.KnownBytes.{front_read}
+use Rattle.heesch_stream.proofs.Reading.{feed_stops}
 use Rattle.heesch_stream.proofs.stream.Stream.take.Goals as goal
 
 pub returns-in_err-feed-clause-taken : goal.returns-in_err-feed-clause-taken

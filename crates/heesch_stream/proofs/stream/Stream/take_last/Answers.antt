@@ -1,6 +1,7 @@
 use Rattle.std.proofs.Common.{◌≡◌, refl, ap, subst, ◌∙◌, arith}
 use Rattle.heesch_stream.specs.Taking.{Streamed, TellsTooLong}
-use Rattle.heesch_stream.proofs.Reading.{too_long, one_byte}
+use Rattle.heesch_io.proofs.KnownBytes.{one_byte}
+use Rattle.heesch_stream.proofs.Reading.{too_long}
 use Rattle.heesch_stream.proofs.stream.Stream.take_last.Goals as goal
 
 pub returns-then-branch-gt0-clause-taken : goal.returns-then-branch-gt0-clause-taken

@@ -1,9 +1,9 @@
 //! Lines of cells with a plain tiling.
 ghost use Rattle.std.specs.Prelude.{◌≡◌, ◌++◌, codes, length, take, OnOk, OnErr};
 ghost use Rattle.std.specs.Fmt.{signed_decimal};
-ghost use Rattle.heesch_text.specs.Plains.{plain_text, plain_line};
+ghost use Rattle.heesch_app.specs.Plains.{plain_text, plain_line};
 
-use crate::fields::{append_byte, append_bytes, append_cells, append_integer, append_triple};
+use heesch_text::fields::{append_byte, append_bytes, append_cells, append_integer, append_triple};
 use heesch_grid::Cell;
 use heesch_io::NoMemory;
 use heesch_tiling::Plain;
