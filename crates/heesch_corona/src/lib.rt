@@ -11,5 +11,3 @@ mod touching;
 
 pub use check::{CoronaAnswer, check_coronas};
 
-#[cfg(test)]
-mod tests;

@@ -11,5 +11,3 @@ mod vectors;
 
 pub use classing::classes;
 
-#[cfg(test)]
-mod tests;

@@ -8,5 +8,3 @@ mod window;
 
 pub use region::Region;
 
-#[cfg(test)]
-mod tests;

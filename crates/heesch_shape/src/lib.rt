@@ -13,5 +13,3 @@ pub use lists::CELLS_MAX;
 pub use reach::is_next_to;
 pub use shapes::Shape;
 
-#[cfg(test)]
-mod tests;

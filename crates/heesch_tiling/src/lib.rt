@@ -12,5 +12,3 @@ pub use check::{Cover, check_cover};
 pub use found::Plain;
 pub use search::plain;
 
-#[cfg(test)]
-mod tests;

@@ -21,5 +21,3 @@ pub use answer::{TorusAnswer, search};
 pub use cover::{CoverAnswer, find_cover};
 pub use formula::torus_formula;
 
-#[cfg(test)]
-mod tests;

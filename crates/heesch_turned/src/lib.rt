@@ -6,5 +6,3 @@ mod turned;
 
 pub use turned::{first_vector, is_turned, second_vector};
 
-#[cfg(test)]
-mod tests;

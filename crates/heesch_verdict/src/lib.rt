@@ -16,5 +16,3 @@ mod walled;
 
 pub use classifying::classify;
 
-#[cfg(test)]
-mod tests;
