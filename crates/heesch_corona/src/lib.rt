@@ -10,4 +10,3 @@ mod patches;
 mod touching;
 
 pub use check::{CoronaAnswer, check_coronas};
-

@@ -59,8 +59,8 @@ fn lists_nest_and_the_standard_streams_are_made(rt: HostRuntime) -> Result<(), F
     outer.push(Seq::new(alloc))?;
     assert_eq!(rt; outer.len(), 2);
     assert!(rt; outer.pop().is_some_and(|inner| inner.is_empty()));
-    let source = crate::StdSource::new(rt.stdin(), alloc);
-    let mut sink = crate::StdSink::new(rt.stdout(), alloc)?;
+    let source = heesch_io::StdSource::new(rt.stdin(), alloc);
+    let mut sink = heesch_io::StdSink::new(rt.stdout(), alloc)?;
     assert!(rt; source.is_ok());
     assert_eq!(rt; put(&mut sink, b""), Ok(()));
     Ok(())

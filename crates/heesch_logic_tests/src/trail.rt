@@ -1,6 +1,6 @@
 //! How many clauses propagation visits.
-use heesch_trail::Trail;
 use heesch_cnf::{FlatFormula, Lit, is_clause};
+use heesch_trail::Trail;
 use std::alloc::Global;
 use std::process::Abort;
 use std::test::Fail;

@@ -10,4 +10,3 @@ mod turns;
 mod vectors;
 
 pub use classing::classes;
-

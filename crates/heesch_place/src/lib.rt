@@ -12,4 +12,3 @@ mod universe;
 
 pub use placement::Placement;
 pub use universe::Universe;
-

@@ -7,4 +7,3 @@ mod region;
 mod window;
 
 pub use region::Region;
-

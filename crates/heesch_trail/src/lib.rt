@@ -14,4 +14,3 @@ mod watches;
 
 pub use step::Step;
 pub use trail::Trail;
-

@@ -5,4 +5,3 @@ pub mod laws;
 mod turned;
 
 pub use turned::{first_vector, is_turned, second_vector};
-

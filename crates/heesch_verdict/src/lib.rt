@@ -15,4 +15,3 @@ mod triples;
 mod walled;
 
 pub use classifying::classify;
-
