@@ -10,6 +10,3 @@ mod patches;
 mod touching;
 
 pub use check::{CoronaAnswer, check_coronas};
-
-#[cfg(test)]
-mod tests;

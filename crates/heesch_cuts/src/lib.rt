@@ -13,8 +13,6 @@ mod cutting;
 mod marks;
 mod parts;
 mod patches;
-#[cfg(test)]
-mod tests;
 
 pub use checking::lawful;
 pub use clauses::clause_of;

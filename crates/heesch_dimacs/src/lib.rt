@@ -7,8 +7,6 @@ mod falsity;
 mod lines;
 mod model;
 mod named;
-#[cfg(test)]
-mod tests;
 
 pub use access::HasLiterals;
 pub use clauses::{write_cnf, write_flat_cnf};

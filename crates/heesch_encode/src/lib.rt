@@ -17,6 +17,3 @@ mod stop;
 
 pub use encoding::{Encoded, FlatEncoded, encode, encode_flat};
 pub use stop::EncodeStop;
-
-#[cfg(test)]
-mod tests;

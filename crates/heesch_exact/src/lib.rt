@@ -16,9 +16,6 @@ use crate::search::{Ending, Search};
 use heesch_io::{NoMemory, Seq};
 use std::alloc::Global;
 
-#[cfg(test)]
-mod tests;
-
 /// Whether some of the sets cover the points exactly.
 #[derive(Debug, Drop)]
 pub enum CoverAnswer {

@@ -7,8 +7,6 @@ pub mod laws;
 mod model;
 mod shapes;
 mod stop;
-#[cfg(test)]
-mod tests;
 
 pub use answers::answer;
 pub use formulas::formula;

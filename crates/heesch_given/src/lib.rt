@@ -5,8 +5,6 @@ mod given;
 pub mod laws;
 mod lines;
 mod stop;
-#[cfg(test)]
-mod tests;
 
 pub use given::shapes_given;
 pub use lines::canonical_of;

@@ -8,8 +8,6 @@ mod parts;
 mod place;
 mod searches;
 mod spot;
-#[cfg(test)]
-mod tests;
 
 pub use entries::{brief_of, entry_of};
 pub use place::{AfterProof, Place};

@@ -7,8 +7,6 @@ mod growing;
 pub mod laws;
 mod neighbours;
 mod random;
-#[cfg(test)]
-mod tests;
 
 pub use block::first;
 pub use draws::Draws;

@@ -4,7 +4,5 @@
 mod entries;
 mod index;
 mod sets;
-#[cfg(test)]
-mod tests;
 
 pub use index::CellIndex;

@@ -9,6 +9,3 @@ mod steps;
 
 pub use answer::{LevelAnswer, WallAnswer, level, wall};
 pub use layers::layers_of;
-
-#[cfg(test)]
-mod tests;

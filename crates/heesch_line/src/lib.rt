@@ -8,8 +8,6 @@ mod line_reading;
 mod list;
 mod list_line;
 mod names;
-#[cfg(test)]
-mod tests;
 mod words;
 
 pub use fault::LineFault;

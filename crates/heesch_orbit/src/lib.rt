@@ -10,6 +10,3 @@ mod turns;
 mod vectors;
 
 pub use classing::classes;
-
-#[cfg(test)]
-mod tests;

@@ -11,8 +11,6 @@ mod places;
 mod scan;
 mod shares;
 mod stage;
-#[cfg(test)]
-mod tests;
 
 pub use input::joined;
 pub use input_stop::InputStop;

@@ -12,6 +12,3 @@ mod universe;
 
 pub use placement::Placement;
 pub use universe::Universe;
-
-#[cfg(test)]
-mod tests;

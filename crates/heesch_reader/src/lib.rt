@@ -7,8 +7,6 @@ mod progress;
 mod reader;
 mod scan;
 mod scanning;
-#[cfg(test)]
-mod tests;
 
 pub use item::{Item, Part, Stop};
 pub use progress::{AtHand, Progress};

@@ -7,6 +7,3 @@ mod region;
 mod window;
 
 pub use region::Region;
-
-#[cfg(test)]
-mod tests;

@@ -12,6 +12,3 @@ pub use faults::ShapeFault;
 pub use lists::CELLS_MAX;
 pub use reach::is_next_to;
 pub use shapes::Shape;
-
-#[cfg(test)]
-mod tests;

@@ -6,8 +6,6 @@ mod heesch;
 mod holes;
 pub mod laws;
 mod tally;
-#[cfg(test)]
-mod tests;
 mod tilings;
 mod undecided;
 

@@ -8,8 +8,6 @@ mod line;
 mod lines;
 mod names;
 mod shapes;
-#[cfg(test)]
-mod tests;
 
 pub use catalogue::{write_brief, write_coronas, write_end, write_entry, write_header};
 pub use evidence::{append_layers, append_proof};

@@ -11,6 +11,3 @@ mod window;
 pub use check::{Cover, check_cover};
 pub use found::Plain;
 pub use search::plain;
-
-#[cfg(test)]
-mod tests;

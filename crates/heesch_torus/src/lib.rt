@@ -20,6 +20,3 @@ mod window;
 pub use answer::{TorusAnswer, search};
 pub use cover::{CoverAnswer, find_cover};
 pub use formula::torus_formula;
-
-#[cfg(test)]
-mod tests;

@@ -14,6 +14,3 @@ mod watches;
 
 pub use step::Step;
 pub use trail::Trail;
-
-#[cfg(test)]
-mod tests;

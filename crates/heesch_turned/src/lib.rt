@@ -5,6 +5,3 @@ pub mod laws;
 mod turned;
 
 pub use turned::{first_vector, is_turned, second_vector};
-
-#[cfg(test)]
-mod tests;

@@ -15,6 +15,3 @@ mod triples;
 mod walled;
 
 pub use classifying::classify;
-
-#[cfg(test)]
-mod tests;
