@@ -1,4 +1,4 @@
 pub mod EntryLists
-mod LimitTests
-mod Readable
+pub mod LimitTests
+pub mod Readable
 pub mod RoundTexts

@@ -57,7 +57,7 @@ more_texts g header xs ys a b (es, are, naturals, is) (fs, are_too, naturals_too
 
 -- ---- rounds
 
-rounds_meet : (shapes : List (List Cell)) (from until : ℕ) → from ≤ until → take from shapes ++ take (until - from) (drop from shapes) ≡ take until shapes
+pub rounds_meet : (shapes : List (List Cell)) (from until : ℕ) → from ≤ until → take from shapes ++ take (until - from) (drop from shapes) ≡ take until shapes
 rounds_meet shapes from until le =
     let sum : from + (until - from) ≡ until = omega arith in
     sym (take-add from (until - from) shapes) ∙ ap (λ n. take n shapes) sum
@@ -76,7 +76,7 @@ round_written g header shapes from until a b c le (xs, are, first) (ys, are_too,
   appends_both a b c xs ys first next,
 )
 
-whole_prefix : (a b : Option (List ℕ)) (xs : List ℕ) → Appends a b xs → AppendsPrefix a b xs
+pub whole_prefix : (a b : Option (List ℕ)) (xs : List ℕ) → Appends a b xs → AppendsPrefix a b xs
 whole_prefix a b xs all = (length xs, subst (λ l. Appends a b l) (sym (take_all (length xs) xs (omega arith))) all)
 
 -- a round is begun behind those before it
@@ -93,7 +93,7 @@ round_begun g header shapes from until a b c le (xs, are, first) (inr (ys, are_t
 
 -- ---- the catalogue
 
-longer : (a b : Option (List ℕ)) (xs zs : List ℕ) → AppendsPrefix a b xs → AppendsPrefix a b (xs ++ zs)
+pub longer : (a b : Option (List ℕ)) (xs zs : List ℕ) → AppendsPrefix a b xs → AppendsPrefix a b (xs ++ zs)
 longer a b xs zs prefix = appends_then_prefix a a b [] xs zs (appends_nothing a) prefix
 
 -- the end's text where these entries are all

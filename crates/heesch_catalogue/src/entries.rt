@@ -37,8 +37,8 @@ impl<'a, G: Grid> Answer<Entry> for EntryOf<'a, G> {
     }
 }
 
-/// The canonical form of a shape, which is its own canonical form.
-fn canonical_of<G: Grid>(shape: &Shape<G>) -> Shape<G>
+/// The canonical form of a shape, which is its own canonical form. Its cost is that of `Shape::canonical`.
+pub fn canonical_of<G: Grid>(shape: &Shape<G>) -> Shape<G>
     ensures canonical { IsCanonicalListOf G.geometry shape.now result }
     ensures itself { IsCanonicalListOf G.geometry result result }
 {

@@ -25,7 +25,7 @@ use std::alloc::Global;
 use std::thread::Threads;
 
 /// How many shapes are classified before their entries are written.
-const ROUND: u32 = 256;
+pub const ROUND: u32 = 256;
 
 /// Why a catalogue was not written to its end.
 #[derive(Clone, Copy, Debug, PartialEq, Eq)]
@@ -162,8 +162,10 @@ fn put_header<W: Sink>(alloc: Global, header: &Header, sink: &mut W) -> Result<(
     Ok(())
 }
 
-/// Writes the end's text, of so many entries.
-fn put_end<W: Sink>(alloc: Global, count: u32, sink: &mut W) -> Result<(), WriteStop>
+/// Writes the end's text, of so many entries, by one `put`.
+///
+/// Errors: `Failed` only where the sink's count of faults rose, and `NoMemory`; a prefix of the text was then written.
+pub fn put_end<W: Sink>(alloc: Global, count: u32, sink: &mut W) -> Result<(), WriteStop>
     ensures ok { OnOk result (Appends (W.held sink.old) (W.held sink.new) (end_text count)) }
     ensures err { OnErr result (AppendsPrefix (W.held sink.old) (W.held sink.new) (end_text count)) }
     ensures failed { result ≡ Err WriteStop.Failed → Rose (W.faults sink.old) (W.faults sink.new) }

@@ -1,0 +1,3 @@
+mod OuterLists
+mod OuterReadable
+pub mod OuterTexts

@@ -1,0 +1,18 @@
+use Rattle.std.proofs.Common.{◌≤◌, ◌-◌, length, take}
+use Rattle.heesch_catalogue.specs.Rounds.{WritesOne}
+use Rattle.heesch_outers.specs.Rounds.{AreRecordsOf}
+use Rattle.heesch_outers.proofs.rounds.write_rounds.Given as goal
+
+-- the records of the shapes before this place are written
+abbrev pub invariant-loop-from : goal.invariant-loop-from
+invariant-loop-from g l =
+    let held = g.W.Sink.held in
+    let faults = g.W.Sink.faults in
+    record {
+      within : l.from ≤ length l.shapes;
+      written : WritesOne (AreRecordsOf g.G.Grid.geometry l.limits (take l.from l.shapes)) (held l.fn.sink) (held l.sink);
+      later : faults l.fn.sink ≤ faults l.sink;
+    }
+
+abbrev pub decreases-loop-from : goal.decreases-loop-from
+decreases-loop-from g l = l.count - l.from

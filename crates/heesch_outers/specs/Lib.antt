@@ -1,0 +1,3 @@
+pub mod Outers
+pub mod Answers
+pub mod Rounds

@@ -1,0 +1,11 @@
+//! Outer texts: for each shape of a list its entry and what is known of its outer number, written as they are made.
+#![tactic(auto)]
+
+mod answers;
+mod rounds;
+#[cfg(test)]
+mod tests;
+mod texts;
+
+pub use answers::OuterEntry;
+pub use rounds::{write_outers, write_outers_of_size};
