@@ -5,5 +5,4 @@ pub mod Formulas
 pub mod Logs
 pub mod Plains
 pub mod Walls
-pub mod Domains
 pub mod Bounds

@@ -1,24 +1,22 @@
 //! Part 9, the triples of larger domains.
-ghost use Rattle.std.specs.Prelude.{◌≡◌, ◌≤◌, ◌-◌, ◌*◌, ◌++◌, ◌↔◌, List, [], map, length, All, IsTrue, IfOk, OnOk, IfSome, IfNone};
+ghost use Rattle.std.specs.Prelude.{◌≡◌, ◌↔◌, map, length, All, IsTrue, IfOk};
 ghost use Rattle.heesch_grid.specs.Lattice.{Triple as Lattice};
-ghost use Rattle.heesch_grid.specs.Listing.{ListsExactly};
 ghost use Rattle.heesch_torus.specs.Domain.{HasDomain};
 ghost use Rattle.heesch_torus.specs.Formula.{IsFormulaOf};
 ghost use Rattle.heesch_cert.specs.declared.entry.TripleProof.{TripleProof as Written};
 ghost use Rattle.heesch_cert.specs.Limits.{AreLimits};
 ghost use Rattle.heesch_cert.specs.Proofs.{SettlesTriple};
-ghost use Rattle.heesch_cert.specs.TrueEntry.{area_before, IsUndecided, TriplesHold};
-ghost use Rattle.heesch_audit.specs.Domains.{IsTripleUpTo, IsAreaOf, NoAreaOf};
+ghost use Rattle.heesch_cert.specs.TrueEntry.{IsUndecided, TriplesHold};
 ghost use Rattle.heesch_audit.specs.Shapes.{IsCanonicalShape};
 
 use crate::logs::{is_ended, learnt_log};
 use heesch_cert::{Evidence, Limits, TripleProof, Verdict};
 use heesch_cnf::FlatFormula;
-use heesch_grid::{Grid, Sizes};
+use heesch_grid::Grid;
 use heesch_io::NoMemory;
-use heesch_lattice::{Triple, triples};
+use heesch_lattice::Triple;
 use heesch_shape::Shape;
-use heesch_torus::torus_formula;
+use heesch_torus::{torus_formula, triples_up_to};
 use std::alloc::Global;
 use std::thread::Threads;
 
@@ -33,47 +31,6 @@ fn is_undecided(verdict: Verdict) -> bool
         | Verdict::Turns { .. }
         | Verdict::Size { .. } => true,
     }
-}
-
-/// How many units so many cells have.
-fn area_of<G: Grid>(count: u32) -> Option<u32>
-    requires some { 1 ≤ count }
-    requires few { count ≤ 384 }
-    ensures found { IfSome result (IsAreaOf G.geometry count) }
-    ensures none { IfNone result (NoAreaOf G.geometry count) }
-{
-    if count % G::PER == 0 {
-        return Some(count / G::PER);
-    }
-    None
-}
-
-/// The triples of the domain of so many tiles stand last.
-fn add_domain<G: Grid>(count: u32, tiles: u32, all: &mut Vec<Triple>) -> Result<(), NoMemory>
-    requires count { (1 ≤ count) × (count ≤ 32) }
-    requires tiles { (2 ≤ tiles) × (tiles ≤ 12) }
-    requires before { ListsExactly area_before (IsTripleUpTo G.geometry count (tiles - 1)) all.old.items }
-    ensures { OnOk result (ListsExactly area_before (IsTripleUpTo G.geometry count tiles) all.new.items) }
-{
-    if let Some(area) = area_of::<G>(tiles * count) {
-        for triple in triples(area) {
-            all.push(triple)?;
-        }
-    }
-    Ok(())
-}
-
-/// All triples of the domains from 2 to this one, in order.
-fn triples_up_to<G: Grid>(alloc: Global, count: u32, domain: u32) -> Result<Vec<Triple>, NoMemory>
-    requires count { (1 ≤ count) × (count ≤ 32) }
-    requires domain { (1 ≤ domain) × (domain ≤ 12) }
-    ensures { IfOk result (λ all. ListsExactly area_before (IsTripleUpTo G.geometry count domain) all.items) }
-{
-    let mut all = Vec::new(alloc);
-    for tiles in 2..domain + 1 {
-        add_domain::<G>(count, tiles, &mut all)?;
-    }
-    Ok(all)
 }
 
 /// Whether these are the triples that proofs are written of, one after the other.

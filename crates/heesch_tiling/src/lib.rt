@@ -10,4 +10,4 @@ mod window;
 
 pub use check::{Cover, check_cover};
 pub use found::Plain;
-pub use search::plain;
+pub use search::{area_of, plain};

@@ -186,10 +186,9 @@ fn first_half_turn<G: Grid>(cells: &[Cell], area: u32) -> Option<Plain>
     None
 }
 
-/// How many units so many cells have.
-fn area_of<G: Grid>(count: u32) -> Option<u32>
+/// How many units so many cells have, where that is a whole number. Condition: there is a cell. It takes no memory.
+pub fn area_of<G: Grid>(count: u32) -> Option<u32>
     requires some { 1 ≤ count }
-    requires few { count ≤ 64 }
     ensures found { IfSome result (IsAreaOf G.geometry count) }
     ensures none { IfNone result (NoAreaOf G.geometry count) }
 {

@@ -12,5 +12,6 @@ pub mod Solving
 pub mod Beside
 pub mod Masking
 pub mod Filled
+pub mod Listed
 pub mod Valued
 pub mod Turning

@@ -1,4 +1,5 @@
 pub mod Domain
+pub mod Domains
 pub mod Variables
 pub mod Repeats
 pub mod Trying

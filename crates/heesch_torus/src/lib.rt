@@ -5,6 +5,7 @@ mod answer;
 mod clauses;
 mod cover;
 mod covering;
+mod domains;
 mod filling;
 mod formula;
 mod found;
@@ -19,4 +20,5 @@ mod window;
 
 pub use answer::{TorusAnswer, search};
 pub use cover::{CoverAnswer, find_cover};
+pub use domains::triples_up_to;
 pub use formula::torus_formula;

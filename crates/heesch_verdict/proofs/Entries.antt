@@ -30,7 +30,8 @@ use Rattle.heesch_cert.proofs.EntryRight.{true_entries_are_right}
 use Rattle.heesch_verdict.specs.declared.searched.Searched.{Searched}
 use Rattle.heesch_verdict.specs.declared.settled.Settled.{Settled}
 use Rattle.heesch_verdict.specs.declared.settled.Settled.TheVariants.{Cover as FirstCover, Triples}
-use Rattle.heesch_verdict.specs.Domains.{AreDomains, AreSettled, AreUpTo, IsSettledFor}
+use Rattle.heesch_torus.specs.Domains.{AreUpTo}
+use Rattle.heesch_verdict.specs.Domains.{AreDomains, AreSettled, IsSettledFor}
 use Rattle.heesch_verdict.specs.Earliest.{HasEarliestCover}
 use Rattle.heesch_verdict.specs.Ends.{IsSearched}
 use Rattle.heesch_verdict.specs.Shapes.{IsCanonicalShape}

@@ -22,11 +22,12 @@ use Rattle.heesch_torus.specs.Answer.{IsChosenCover, IsTorusAnswer}
 use Rattle.heesch_torus.specs.declared.cover.CoverAnswer.TheVariants.{Open}
 use Rattle.heesch_torus.specs.Covers.{IsCoverAnswer}
 use Rattle.heesch_torus.specs.Domain.{HasDomain}
-use Rattle.heesch_verdict.specs.Domains.{AreLeftOpen, AreUpTo, IsFirstOf, IsTried, StandsBehind}
-use Rattle.heesch_verdict.specs.Earliest.{HasNoCover, IsPassedOver, IsTripleUpTo}
+use Rattle.heesch_torus.specs.Domains.{AreUpTo, IsTripleUpTo}
+use Rattle.heesch_verdict.specs.Domains.{AreLeftOpen, IsFirstOf, IsTried, StandsBehind}
+use Rattle.heesch_verdict.specs.Earliest.{HasNoCover, IsPassedOver}
 use Rattle.heesch_verdict.specs.Shapes.{IsCanonicalShape}
 use Rattle.heesch_verdict.specs.Tilings.{IsCoverOf, IsFirstCover}
-use Rattle.heesch_verdict.proofs.Listed.{not_before_both}
+use Rattle.heesch_torus.proofs.Listed.{not_before_both}
 use Rattle.heesch_verdict.proofs.Nearby.{places_in_range}
 
 -- what comes before a triple of a rising list stands before it there

@@ -1,6 +1,5 @@
 pub mod Nearby
 pub mod PlainEnds
-pub mod Listed
 pub mod Firsts
 pub mod Turned
 pub mod Settling

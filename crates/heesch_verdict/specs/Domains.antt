@@ -3,7 +3,6 @@ use Rattle.std.specs.Prelude.{◌≡◌, ◌≤◌, ◌<◌, ◌*◌, ◌⊎◌,
 use Rattle.heesch_grid.specs.declared.Cell.{Cell}
 use Rattle.heesch_grid.specs.Geometry.{Geometry}
 use Rattle.heesch_grid.specs.Lattice.{Triple}
-use Rattle.heesch_grid.specs.Listing.{ListsExactly}
 use Rattle.heesch_torus.specs.declared.cover.CoverAnswer.TheVariants.{Open}
 use Rattle.heesch_torus.specs.Covers.{IsCoverAnswer}
 use Rattle.heesch_cert.specs.declared.limits.Limits.{Limits}
@@ -11,25 +10,11 @@ use Rattle.heesch_cert.specs.declared.tiling.Tiling.{Tiling}
 use Rattle.heesch_cert.specs.declared.verdict.Verdict.{Verdict}
 use Rattle.heesch_cert.specs.declared.entry.TripleProof.{TripleProof}
 use Rattle.heesch_cert.specs.Proofs.{SettlesTriple}
-use Rattle.heesch_cert.specs.TrueEntry.{area_before, TriplesShow}
+use Rattle.heesch_cert.specs.TrueEntry.{TriplesShow}
 use Rattle.heesch_verdict.specs.declared.settled.Settled.{Settled}
 use Rattle.heesch_verdict.specs.declared.settled.Settled.TheVariants.{Cover, Triples}
-use Rattle.heesch_verdict.specs.Earliest.{HasNoCover, IsPassedOver, IsTripleUpTo}
+use Rattle.heesch_verdict.specs.Earliest.{HasNoCover, IsPassedOver}
 use Rattle.heesch_verdict.specs.Tilings.{IsCoverOf, IsFirstCover}
-
--- the units of so many cells
-pub record IsAreaOf (g : Geometry) (count area : ℕ) : Type 0 where
-  pub is : g.per * area ≡ count
-  pub some : 1 ≤ area
-  pub few : area ≤ 384
-
--- so many cells are no whole number of units
-abbrev pub NoAreaOf : Geometry → ℕ → Type 0
-NoAreaOf g count = (area : ℕ) → g.per * area ≡ count → ⊥
-
--- these are the triples of the domains from 2 to the most, in order
-abbrev pub AreUpTo : Geometry → ℕ → ℕ → List Triple → Type 0
-AreUpTo g n most triples = ListsExactly area_before (IsTripleUpTo g n most) triples
 
 -- the triple stands in the list, and each before it has no cover or is one of these
 pub record StandsBehind (g : Geometry) (shape : List Cell) (listed some : List Triple) (t : Triple) : Type 0 where

@@ -1,9 +1,9 @@
 -- The first triple that has a cover.
-use Rattle.std.specs.Prelude.{◌≤◌, ◌⊎◌, ℕ, List, length, IsTrue, ⊤}
+use Rattle.std.specs.Prelude.{◌⊎◌, ℕ, List, length, IsTrue, ⊤}
 use Rattle.heesch_grid.specs.declared.Cell.{Cell}
 use Rattle.heesch_grid.specs.declared.isometries.Iso.{Iso}
 use Rattle.heesch_grid.specs.Geometry.{Geometry}
-use Rattle.heesch_grid.specs.Lattice.{Triple, IsTripleOfDomain}
+use Rattle.heesch_grid.specs.Lattice.{Triple}
 use Rattle.heesch_grid.specs.Tiling.{IsPeriodicCover}
 use Rattle.heesch_cnf.specs.declared.log.Log.{Log}
 use Rattle.heesch_cert.specs.declared.limits.Limits.{Limits}
@@ -16,10 +16,7 @@ use Rattle.heesch_cert.specs.declared.entry.Evidence.TheVariants.{Cover}
 use Rattle.heesch_cert.specs.declared.entry.Entry.{Entry}
 use Rattle.heesch_cert.specs.Proofs.{HasNoGiven, IsSpentOnTorus}
 use Rattle.heesch_cert.specs.TrueEntry.{area_before}
-
--- the triple is one of a domain from 2 to the most
-abbrev pub IsTripleUpTo : Geometry → ℕ → ℕ → Triple → Type 0
-IsTripleUpTo g n most t = (m : ℕ) × (2 ≤ m) × (m ≤ most) × IsTripleOfDomain g n m t
+use Rattle.heesch_torus.specs.Domains.{IsTripleUpTo}
 
 -- the triple has no periodic cover
 abbrev pub HasNoCover : Geometry → List Cell → Triple → Type 0

@@ -10,11 +10,11 @@ ghost use Rattle.heesch_verdict.specs.Earliest.{HasEarliestCover};
 use crate::covers::first_cover;
 use crate::entry::{cells_of, corona_entry, periodic_entry, tiled_entry};
 use crate::tiled::plain_tiling;
-use crate::triples::triples_up_to;
 use heesch_cert::{Entry, Limits};
 use heesch_grid::Grid;
 use heesch_io::NoMemory;
 use heesch_shape::Shape;
+use heesch_torus::triples_up_to;
 use std::alloc::Global;
 
 /// The entry of a shape: its verdict, and what shows it. Condition: the shape is its own canonical

@@ -4,7 +4,8 @@ ghost use Rattle.heesch_grid.specs.Lattice.{Triple as Lattice};
 ghost use Rattle.heesch_torus.specs.Domain.{HasDomain};
 ghost use Rattle.heesch_cert.specs.Limits.{AreLimits};
 ghost use Rattle.heesch_verdict.specs.Shapes.{IsCanonicalShape};
-ghost use Rattle.heesch_verdict.specs.Domains.{AreLeftOpen, AreUpTo, IsFirstFound, IsFirstOf};
+ghost use Rattle.heesch_torus.specs.Domains.{AreUpTo};
+ghost use Rattle.heesch_verdict.specs.Domains.{AreLeftOpen, IsFirstFound, IsFirstOf};
 ghost use Rattle.heesch_verdict.specs.Tilings.{IsCoverOf};
 
 use crate::alike::is_alike;

@@ -4,7 +4,7 @@ ghost use Rattle.heesch_grid.specs.Polyform.{IsCanonicalListOf};
 ghost use Rattle.heesch_cert.specs.Limits.{AreLimits};
 ghost use Rattle.heesch_cert.specs.Reduced.{HasReducedCover};
 ghost use Rattle.heesch_cert.specs.TrueEntry.{HasNoPlain, IsTrueEntry};
-ghost use Rattle.heesch_verdict.specs.Domains.{AreUpTo};
+ghost use Rattle.heesch_torus.specs.Domains.{AreUpTo};
 ghost use Rattle.heesch_verdict.specs.Earliest.{HasEarliestCover};
 ghost use Rattle.heesch_verdict.specs.Shapes.{IsCanonicalShape};
 ghost use Rattle.heesch_verdict.specs.Tilings.{IsFirstCover, IsTiled};

@@ -11,7 +11,6 @@ mod searched;
 mod settled;
 mod steps;
 mod tiled;
-mod triples;
 mod walled;
 
 pub use classifying::classify;

@@ -3,7 +3,8 @@ ghost use Rattle.std.specs.Prelude.{◌≤◌, length, IfOk};
 ghost use Rattle.heesch_torus.specs.Domain.{HasDomain};
 ghost use Rattle.heesch_cert.specs.Limits.{AreLimits};
 ghost use Rattle.heesch_verdict.specs.Shapes.{IsCanonicalShape};
-ghost use Rattle.heesch_verdict.specs.Domains.{AreDomains, AreUpTo, IsSettledFor, IsTripleEnd};
+ghost use Rattle.heesch_torus.specs.Domains.{AreUpTo};
+ghost use Rattle.heesch_verdict.specs.Domains.{AreDomains, IsSettledFor, IsTripleEnd};
 
 use crate::steps::proof_of;
 use heesch_cert::{Limits, Tiling, TripleProof, Verdict};

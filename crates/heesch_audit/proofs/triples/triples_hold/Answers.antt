@@ -7,7 +7,7 @@ use Rattle.heesch_cert.specs.declared.entry.Evidence.{Evidence}
 use Rattle.heesch_cert.specs.declared.entry.TripleProof.{TripleProof}
 use Rattle.heesch_cert.specs.Proofs.{SettlesTriple}
 use Rattle.heesch_cert.specs.TrueEntry.{area_before, TriplesHold}
-use Rattle.heesch_audit.specs.Domains.{IsTripleUpTo}
+use Rattle.heesch_torus.specs.Domains.{IsTripleUpTo}
 use Rattle.heesch_audit.proofs.Equal.{refused}
 use Rattle.heesch_audit.proofs.Listed.{are_all, have_domains}
 use Rattle.heesch_audit.proofs.Proofs.{if_ok_more}

@@ -1,24 +1,12 @@
 //! The triples of the domains, in order.
-ghost use Rattle.std.specs.Prelude.{◌≤◌, ◌-◌, length, IfOk, IfSome, IfNone, OnOk};
-ghost use Rattle.heesch_verdict.specs.Domains.{AreUpTo, IsAreaOf, NoAreaOf};
+ghost use Rattle.std.specs.Prelude.{◌≤◌, ◌-◌, IfOk, OnOk};
+ghost use Rattle.heesch_torus.specs.Domains.{AreUpTo};
 
-use heesch_grid::{Grid, Sizes};
+use heesch_grid::Grid;
 use heesch_io::NoMemory;
 use heesch_lattice::{Triple, triples};
+use heesch_tiling::area_of;
 use std::alloc::Global;
-
-/// How many units so many cells have.
-fn area_of<G: Grid>(count: u32) -> Option<u32>
-    requires some { 1 ≤ count }
-    requires few { count ≤ 384 }
-    ensures found { IfSome result (IsAreaOf G.geometry count) }
-    ensures none { IfNone result (NoAreaOf G.geometry count) }
-{
-    if count % G::PER == 0 {
-        return Some(count / G::PER);
-    }
-    None
-}
 
 /// The triples of the domain of so many tiles of so many cells stand last.
 fn add_domain<G: Grid>(count: u32, tiles: u32, all: &mut Vec<Triple>) -> Result<(), NoMemory>
@@ -35,8 +23,9 @@ fn add_domain<G: Grid>(count: u32, tiles: u32, all: &mut Vec<Triple>) -> Result<
     Ok(())
 }
 
-/// The triples of the domains from 2 to this one of a shape of so many cells, in the order of
-/// domains and then of triples.
+/// The triples of the domains from 2 to this one of a shape of so many cells, in the order of domains and then of triples.
+///
+/// Condition: 1 to 32 cells, and a domain of 1 to 12 tiles. Its cost is the number of triples.
 pub fn triples_up_to<G: Grid>(
     alloc: Global,
     count: u32,

@@ -1,7 +1,7 @@
 -- The triples of the domains, one domain after the other.
-use Rattle.std.proofs.Common.{◌≡◌, sym, ap, ◌∙◌, ℕ, ◌+◌, ◌*◌, ◌<◌, ◌≤◌, List, [], ◌∷◌, ◌++◌, true, ◌&&◌, ◌==◌, inl, inr, arith, ◌⊎◌, All, Contains, eq-eqb, eqb-true, lt-ltb, ltb-true}
+use Rattle.std.proofs.Common.{◌≡◌, sym, ap, ◌∙◌, ℕ, ◌+◌, ◌*◌, ◌<◌, ◌≤◌, List, [], ◌∷◌, ◌++◌, true, false, ◌&&◌, ◌==◌, inl, inr, arith, ◌⊎◌, All, Contains, eq-eqb, eqb-true, lt-ltb, ltb-true}
 use Rattle.std.specs.Prelude.{IsTrue, nat_lt}
-use Rattle.std.proofs.lemmas.Bool.{and_from, and_parts, or_cases, cases_lt}
+use Rattle.std.proofs.lemmas.Bool.{and_from, and_parts, or_cases, cases_lt, cases_Bool}
 use Rattle.std.proofs.lemmas.List.Elements.{All-append, All-nil, All-contains, All-tail, All-weaker, Contains-append_left, Contains-append_right}
 use Rattle.std.proofs.Math.Nat.{mul-le-mul_left}
 use Rattle.heesch_grid.specs.Geometry.{Geometry, IsGrid}
@@ -12,8 +12,8 @@ use Rattle.heesch_grid.proofs.ListFacts.{member_here, member_there, All-from_mem
 use Rattle.heesch_lattice.specs.Listed.{AreTriples, IsTripleOfArea}
 use Rattle.heesch_cert.specs.TrueEntry.{area_before}
 use Rattle.heesch_tiling.proofs.Searching.{exact_quotient}
-use Rattle.heesch_verdict.specs.Domains.{AreUpTo, IsAreaOf, NoAreaOf}
-use Rattle.heesch_verdict.specs.Earliest.{IsTripleUpTo}
+use Rattle.heesch_tiling.specs.Search.{IsAreaOf, NoAreaOf}
+use Rattle.heesch_torus.specs.Domains.{AreUpTo, IsTripleUpTo}
 
 -- ---- the order of triples, by area first
 less_area : (t u : Triple) → t.p * t.q < u.p * u.q → area_before t u ≡ true
@@ -85,8 +85,23 @@ not_both a b c d e f h k =
       ]
     ]
 
+-- of two triples one comes first at most
 pub not_before_both : (t u : Triple) → area_before t u ≡ true → area_before u t ≡ true → ⊥
 not_before_both t u h k = not_both (t.p * t.q) (u.p * u.q) t.p u.p t.s u.s (before_parts t u h) (before_parts u t k)
+
+pub area_before-asymmetric : (t u : Triple) → area_before t u ≡ true → area_before u t ≡ false
+area_before-asymmetric t u h =
+    elim (cases_Bool (area_before u t)) [
+      | inl k ↦ absurd (not_before_both t u h k)
+      | inr k ↦ k
+    ]
+
+pub area_before-irreflexive : (t : Triple) → area_before t t ≡ false
+area_before-irreflexive t =
+    elim (cases_Bool (area_before t t)) [
+      | inl k ↦ absurd (not_before_both t t k k)
+      | inr k ↦ k
+    ]
 
 -- no triple is of a domain below 2
 pub none_yet : (g : Geometry) (n most : ℕ) → most ≤ 1 → AreUpTo g n most []

@@ -1,7 +1,7 @@
 use Rattle.std.proofs.Common.{◌-◌, ◌*◌, ◌≤◌, rules, arith}
-use Rattle.heesch_audit.specs.Domains.{IsAreaOf, NoAreaOf}
-use Rattle.heesch_audit.proofs.Listed.{begun, skipped}
-use Rattle.heesch_audit.proofs.triples.add_domain.Goals as goal
+use Rattle.heesch_tiling.specs.Search.{IsAreaOf, NoAreaOf}
+use Rattle.heesch_torus.proofs.Listed.{begun, skipped}
+use Rattle.heesch_torus.proofs.domains.add_domain.Goals as goal
 
 pub loop-triple-init : goal.loop-triple-init
 loop-triple-init g c =

@@ -1,6 +1,6 @@
 use Rattle.std.proofs.Common.{◌≡◌, ◌-◌, ℕ, subst, arith}
-use Rattle.heesch_verdict.specs.Domains.{AreUpTo}
-use Rattle.heesch_verdict.proofs.triples.triples_up_to.Goals as goal
+use Rattle.heesch_torus.specs.Domains.{AreUpTo}
+use Rattle.heesch_torus.proofs.domains.triples_up_to.Goals as goal
 
 pub returns : goal.returns
 returns g c =
