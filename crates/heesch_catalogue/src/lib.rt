@@ -7,5 +7,5 @@ mod rounds;
 mod tests;
 mod texts;
 
-pub use entries::entries_of;
+pub use entries::entries_between;
 pub use rounds::{WriteStop, write_catalogue, write_catalogue_of_size};
