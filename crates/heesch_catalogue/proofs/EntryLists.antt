@@ -1,8 +1,8 @@
 -- The answers of a job on each shape, as the entries of a list of shapes.
-use Rattle.std.proofs.Common.{◌≡◌, ℕ, suc, ◌+◌, ◌-◌, ◌<◌, ◌≤◌, List, [], ◌∷◌, length, map, get_or, take, drop, Result, Ok, Err, IfOk, refl, sym, subst, ◌∙◌, arith, inl, inr}
+use Rattle.std.proofs.Common.{◌≡◌, ℕ, suc, ◌+◌, ◌-◌, ◌<◌, ◌≤◌, List, [], ◌∷◌, ◌++◌, length, map, get_or, take, drop, Result, Ok, Err, IfOk, refl, sym, ap, subst, ◌∙◌, arith, inl, inr}
 use Rattle.std.specs.Prelude.{Some, slice_get, All}
-use Rattle.std.proofs.lemmas.List.{get_or-drop, get_or-take, length-drop, length-take}
-use Rattle.std.proofs.lemmas.List.Elements.{All-drop, All-take}
+use Rattle.std.proofs.lemmas.List.{get_or-drop, get_or-take, length-drop, length-take, map-append}
+use Rattle.std.proofs.lemmas.List.Elements.{All-append, All-drop, All-take}
 use Rattle.std.proofs.lemmas.Option.{slice_get_cases, slice_get_within, get_or_from_slice_get}
 use Rattle.heesch_grid.specs.declared.Cell.{Cell}
 use Rattle.heesch_grid.specs.Geometry.{Geometry, IsGrid}
@@ -11,6 +11,9 @@ use Rattle.heesch_grid.proofs.GrowthOfLists.{canonical_of_image}
 use Rattle.heesch_grid.proofs.Pinned.{one_canonical_list}
 use Rattle.heesch_cert.specs.declared.entry.Entry.{Entry}
 use Rattle.heesch_cert.specs.declared.limits.Limits.{Limits}
+use Rattle.heesch_cert.specs.Reduced.{HasReducedCover}
+use Rattle.heesch_cert.specs.RightVerdict.{HasRightVerdict}
+use Rattle.heesch_cert.specs.TrueEntry.{IsTrueEntry}
 use Rattle.heesch_catalogue.specs.Catalogues.{AreEntries}
 use Rattle.heesch_catalogue.specs.Entries.{IsEntryOf}
 
@@ -69,3 +72,22 @@ free_are_canonical g law n shapes free i d lt =
     let f = free i d lt in
     let s = get_or shapes i d in
     canonical_of_image g law f.cells s s f.polyform.is_set.rising f.canonical.is_image f.canonical
+
+-- no shape has no entry
+pub no_entries : (g : Geometry) (limits : Limits) → AreEntries g limits [] []
+no_entries g limits = record {
+  of_shapes = refl;
+  are_true = λ i d lt. absurd (omega (arith, lt));
+  are_reduced = λ i d lt. absurd (omega (arith, lt));
+  are_right = λ i d lt. absurd (omega (arith, lt));
+}
+
+-- the entries of some shapes, and those of others behind them
+pub entries_both : (g : Geometry) (limits : Limits) (xs ys : List (List Cell)) (es fs : List Entry) → AreEntries g limits xs es → AreEntries g limits ys fs
+    → AreEntries g limits (xs ++ ys) (es ++ fs)
+entries_both g limits xs ys es fs are are_too = record {
+  of_shapes = map-append (λ (e : Entry). e.cells) es fs ∙ ap (λ ss. ss ++ map (λ (e : Entry). e.cells) fs) are.of_shapes ∙ ap (λ ss. xs ++ ss) are_too.of_shapes;
+  are_true = All-append (IsTrueEntry g limits) es fs are.are_true are_too.are_true;
+  are_reduced = All-append (λ (e : Entry). HasReducedCover g e.evidence) es fs are.are_reduced are_too.are_reduced;
+  are_right = All-append (HasRightVerdict g limits) es fs are.are_right are_too.are_right;
+}

@@ -1,11 +1,10 @@
 -- How the texts of rounds follow one another, and the text of a catalogue.
-use Rattle.std.proofs.Common.{◌≡◌, ℕ, ◌+◌, ◌-◌, ◌≤◌, List, [], ◌∷◌, ◌++◌, length, take, drop, map, refl, sym, ap, ◌∙◌, subst, arith, inl, inr, append_assoc, append-nil}
+use Rattle.std.proofs.Common.{◌≡◌, ℕ, ◌+◌, ◌-◌, ◌≤◌, List, [], ◌∷◌, ◌++◌, length, take, drop, refl, sym, ap, ◌∙◌, subst, arith, inl, inr, append_assoc, append-nil}
 use Rattle.std.specs.Prelude.{Option, Result, Ok, Err, OnErr, ◌==◌, if◌then◌else◌}
 use Rattle.std.specs.Io.KnownBytes.{Appends}
 use Rattle.std.proofs.lemmas.Bool.{eq-eqb}
 use Rattle.std.proofs.lemmas.Grind.{flat_map-append}
-use Rattle.std.proofs.lemmas.List.{take_all, length-map, map-append}
-use Rattle.std.proofs.lemmas.List.Elements.{All-append}
+use Rattle.std.proofs.lemmas.List.{take_all, length-map}
 use Rattle.std.proofs.Math.Seq.{take-add}
 use Rattle.heesch_io.specs.Contents.{AppendsPrefix}
 use Rattle.heesch_io.proofs.Appending.{appends_nothing, appends_both, appends_then_keeps, appends_then_prefix}
@@ -14,12 +13,10 @@ use Rattle.heesch_grid.specs.Geometry.{Geometry, IsGrid}
 use Rattle.heesch_cert.specs.declared.entry.Entry.{Entry}
 use Rattle.heesch_cert.specs.declared.header.Header.{Header}
 use Rattle.heesch_cert.specs.Limits.{AreLimits}
-use Rattle.heesch_cert.specs.Reduced.{HasReducedCover}
-use Rattle.heesch_cert.specs.RightVerdict.{HasRightVerdict}
-use Rattle.heesch_cert.specs.TrueEntry.{IsTrueEntry}
 use Rattle.heesch_text.specs.Catalogue.{begun_text, catalogue_text, end_text, entries_text, header_text, text_under}
 use Rattle.heesch_catalogue.specs.Catalogues.{AreEntries, HaveNaturals, IsBegunCatalogue, IsCatalogue}
 use Rattle.heesch_catalogue.specs.Rounds.{AreBegunTextsOf, AreTextsOf, BeginsOne, WritesOne}
+use Rattle.heesch_catalogue.proofs.EntryLists.{entries_both, no_entries}
 use Rattle.heesch_catalogue.proofs.Readable.{readable}
 
 -- what holds anyway holds at an error
@@ -29,14 +26,6 @@ at_error (Err e) p = p
 
 -- ---- the texts of entries
 
-no_entries : (g : Geometry) (header : Header) → AreEntries g header.limits [] []
-no_entries g header = record {
-  of_shapes = refl;
-  are_true = λ i d lt. absurd (omega (arith, lt));
-  are_reduced = λ i d lt. absurd (omega (arith, lt));
-  are_right = λ i d lt. absurd (omega (arith, lt));
-}
-
 more_naturals : (header : Header) (es fs : List Entry) → HaveNaturals header es → HaveNaturals header fs → HaveNaturals header (es ++ fs)
 more_naturals header [] fs first next = next
 more_naturals header (e ∷ es) fs first next = (first.0, more_naturals header es fs first.1 next)
@@ -45,18 +34,14 @@ more_texts : (g : Geometry) (header : Header) (xs ys : List (List Cell)) (a b : 
     → AreTextsOf g header (xs ++ ys) (a ++ b)
 more_texts g header xs ys a b (es, are, naturals, is) (fs, are_too, naturals_too, is_too) = (
   es ++ fs,
-  record {
-    of_shapes = map-append (λ (e : Entry). e.cells) es fs ∙ ap (λ ss. ss ++ map (λ (e : Entry). e.cells) fs) are.of_shapes ∙ ap (λ ss. xs ++ ss) are_too.of_shapes;
-    are_true = All-append (IsTrueEntry g header.limits) es fs are.are_true are_too.are_true;
-    are_reduced = All-append (λ (e : Entry). HasReducedCover g e.evidence) es fs are.are_reduced are_too.are_reduced;
-    are_right = All-append (HasRightVerdict g header.limits) es fs are.are_right are_too.are_right;
-  },
+  entries_both g header.limits xs ys es fs are are_too,
   more_naturals header es fs naturals naturals_too,
   ap (λ l. l ++ b) is ∙ ap (λ l. entries_text header es ++ l) is_too ∙ sym (flat_map-append (text_under header) es fs),
 )
 
 -- ---- rounds
 
+-- the shapes before a round, and those of the round
 pub rounds_meet : (shapes : List (List Cell)) (from until : ℕ) → from ≤ until → take from shapes ++ take (until - from) (drop from shapes) ≡ take until shapes
 rounds_meet shapes from until le =
     let sum : from + (until - from) ≡ until = omega arith in
@@ -64,7 +49,7 @@ rounds_meet shapes from until le =
 
 -- before the first round nothing is written
 pub no_round : (g : Geometry) (header : Header) (shapes : List (List Cell)) (a : Option (List ℕ)) → WritesOne (AreTextsOf g header (take 0 shapes)) a a
-no_round g header shapes a = ([], ([], no_entries g header, tt, refl), appends_nothing a)
+no_round g header shapes a = ([], ([], no_entries g header.limits, tt, refl), appends_nothing a)
 
 -- a round is written behind those before it
 pub round_written : (g : Geometry) (header : Header) (shapes : List (List Cell)) (from until : ℕ) (a b c : Option (List ℕ)) → from ≤ until
@@ -104,7 +89,7 @@ end_if_all shapes entries = if length entries == length shapes then end_text (le
 pub header_begun : (g : Geometry) (header : Header) (shapes : List (List Cell)) (a b : Option (List ℕ)) → AppendsPrefix a b (header_text header)
     → BeginsOne (IsBegunCatalogue g header shapes) a b
 header_begun g header shapes a b prefix =
-    inr (begun_text header (length shapes) [], (0, [], no_entries g header, refl), longer a b (header_text header ++ []) (end_if_all shapes []) (longer a b (header_text header) [] prefix))
+    inr (begun_text header (length shapes) [], (0, [], no_entries g header.limits, refl), longer a b (header_text header ++ []) (end_if_all shapes []) (longer a b (header_text header) [] prefix))
 
 -- behind the header some rounds are written, and one is begun
 pub rounds_begun : (g : Geometry) (header : Header) (shapes : List (List Cell)) (a b c : Option (List ℕ)) → Appends a b (header_text header)

@@ -46,26 +46,6 @@ pub fn canonical_of<G: Grid>(shape: &Shape<G>) -> Shape<G>
     shape.canonical()
 }
 
-/// The entries of canonical shapes under the limits, in their order: `entries_between` the first and the end.
-pub fn entries_of<G: Grid + Send + Sync, T: Threads + Sync, H: Gate + Sync>(
-    rt: &T,
-    alloc: Global,
-    shapes: &[Shape<G>],
-    limits: Limits,
-    workers: u32,
-    gate: &H,
-) -> Result<Vec<Entry>, NoMemory>
-    requires canonical { All (λ s. IsCanonicalListOf G.geometry s s) shapes.now }
-    requires limits { AreLimits limits }
-    requires workers { (1 ≤ workers) × (workers ≤ 64) }
-    ensures { IfOk result (λ entries. AreEntries G.geometry limits shapes.now entries.items) }
-{
-    let Ok(count) = u32::try_from(shapes.len()) else {
-        return Err(NoMemory);
-    };
-    entries_between(rt, alloc, shapes, 0, count, limits, workers, gate)
-}
-
 /// The entries, under the limits, of those canonical shapes that stand from the place `from` to before `until`, in
 /// their order. One ticket of the pool is one shape, the gate is told its place, and what a shape's searches took is
 /// freed as soon as its entry is made.

@@ -7,5 +7,5 @@ mod rounds;
 mod tests;
 mod texts;
 
-pub use entries::{canonical_of, entries_of};
+pub use entries::{canonical_of, entries_between};
 pub use rounds::{ROUND, WriteStop, put_end, write_catalogue, write_catalogue_of_size};

@@ -1,15 +1,18 @@
 -- Tallies of entries.
-use Rattle.std.proofs.Common.{◌≡◌, ℕ, ◌<◌, Bool, List, [], ◌∷◌, ◌++◌, length, map, get_or, sym, ap, ◌∙◌, subst, refl}
+use Rattle.std.proofs.Common.{◌≡◌, ℕ, ◌<◌, ◌≤◌, ◌-◌, Bool, List, [], ◌∷◌, ◌++◌, length, map, take, drop, get_or, sym, ap, ◌∙◌, subst, refl}
 use Rattle.std.specs.List.{AllZip}
 use Rattle.std.proofs.lemmas.List.{get_or-map}
 use Rattle.heesch_grid.specs.declared.Cell.{Cell}
 use Rattle.heesch_grid.specs.Geometry.{Geometry}
 use Rattle.heesch_cert.specs.declared.entry.Entry.{Entry}
+use Rattle.heesch_cert.specs.declared.limits.Limits.{Limits}
 use Rattle.heesch_cert.specs.declared.verdict.Verdict.{Verdict}
 use Rattle.heesch_table.specs.Counts.{Counts, counts_of}
 use Rattle.heesch_table.specs.Holed.{IsHoled}
 use Rattle.heesch_table.specs.Texts.{counts_text}
-use Rattle.heesch_sample.specs.Samples.{IsFound, IsTallyOf}
+use Rattle.heesch_catalogue.proofs.EntryLists.{no_entries}
+use Rattle.heesch_catalogue.proofs.RoundTexts.{rounds_meet}
+use Rattle.heesch_sample.specs.Samples.{AreCountsOf, HaveCounts, IsFound, IsTallyOf}
 
 -- what is found of one more entry
 found_more : (g : Geometry) (entries : List Entry) (found : List (Bool × Verdict)) (entry : Entry) (one : Bool × Verdict) → AllZip (IsFound g) entries found → IsFound g entry one → AllZip (IsFound g) (entries ++ entry ∷ []) (found ++ one ∷ [])
@@ -18,23 +21,17 @@ found_more g [] (f ∷ fs) entry one all is = absurd all
 found_more g (e ∷ es) [] entry one all is = absurd all
 found_more g (e ∷ es) (f ∷ fs) entry one (first, all) is = (first, found_more g es fs entry one all is)
 
--- the tally of some first entries
-pub record IsTalliedSoFar (g : Geometry) (entries : List Entry) (tally : Counts) : Type 0 where
-  pub found : List (Bool × Verdict)
-  pub are_found : AllZip (IsFound g) entries found
-  pub counts : tally ≡ counts_of found
-
 -- one more, added by the cells of its shape
-pub tallied_more : (g : Geometry) (before after : List Entry) (entry : Entry) (cells : List Cell) (old new : Counts) (so_far : IsTalliedSoFar g before old)
+pub tallied_more : (g : Geometry) (before after : List Entry) (entry : Entry) (cells : List Cell) (old new : Counts) (so_far : AreCountsOf g before old)
     → after ≡ before ++ entry ∷ [] → entry.cells ≡ cells
     → (holed : Bool) × IsHoled g cells holed × (new ≡ counts_of (so_far.found ++ (holed, entry.verdict) ∷ []))
-    → IsTalliedSoFar g after new
+    → AreCountsOf g after new
 tallied_more g before after entry cells old new so_far more same (holed, is_holed, counts) =
     let one : IsFound g entry (holed, entry.verdict) = record { holed = subst (λ cs. IsHoled g cs holed) (sym same) is_holed; verdict = refl } in
     record {
       found = so_far.found ++ (holed, entry.verdict) ∷ [];
       are_found = subst (λ es. AllZip (IsFound g) es (so_far.found ++ (holed, entry.verdict) ∷ [])) (sym more) (found_more g before so_far.found entry (holed, entry.verdict) so_far.are_found one);
-      counts = counts;
+      counts_are = counts;
     }
 
 -- the entry at a place is of the shape at that place
@@ -46,7 +43,16 @@ cells_at entries shapes i entry cells of_shapes less low is_entry is_cells =
     ∙ ap (λ ss. get_or ss i cells) of_shapes
     ∙ sym is_cells
 
+-- the entries of a round behind those before it
+pub round_counted : (g : Geometry) (limits : Limits) (shapes : List (List Cell)) (from until : ℕ) (new : Counts) → from ≤ until
+    → HaveCounts g limits (take from shapes ++ take (until - from) (drop from shapes)) new → HaveCounts g limits (take until shapes) new
+round_counted g limits shapes from until new le have = subst (λ ss. HaveCounts g limits ss new) (rounds_meet shapes from until le) have
+
+-- the tally of no entry
+pub none_counted : (g : Geometry) (limits : Limits) (counts : Counts) → counts ≡ counts_of [] → HaveCounts g limits [] counts
+none_counted g limits counts is = ([], no_entries g limits, record { found = []; are_found = tt; counts_are = is })
+
 -- the tally of all entries, written
-pub tally_written : (g : Geometry) (before entries : List Entry) (tally : Counts) (old new : List ℕ) → IsTalliedSoFar g before tally → before ≡ entries → old ≡ [] → new ≡ old ++ counts_text tally → IsTallyOf g entries new
-tally_written g before entries tally old new so_far all empty written =
-    (so_far.found, subst (λ es. AllZip (IsFound g) es so_far.found) all so_far.are_found, written ∙ ap (λ o. o ++ counts_text tally) empty ∙ ap counts_text so_far.counts)
+pub tally_written : (g : Geometry) (entries : List Entry) (tally : Counts) (old new : List ℕ) → AreCountsOf g entries tally → old ≡ [] → new ≡ old ++ counts_text tally → IsTallyOf g entries new
+tally_written g entries tally old new are empty written =
+    (are.found, are.are_found, written ∙ ap (λ o. o ++ counts_text tally) empty ∙ ap counts_text are.counts_are)

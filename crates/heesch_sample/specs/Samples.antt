@@ -9,6 +9,7 @@ use Rattle.heesch_cert.specs.declared.entry.Entry.{Entry}
 use Rattle.heesch_cert.specs.declared.limits.Limits.{Limits}
 use Rattle.heesch_cert.specs.declared.verdict.Verdict.{Verdict}
 use Rattle.heesch_catalogue.specs.Catalogues.{AreEntries}
+use Rattle.heesch_table.specs.Counts.{Counts, counts_of}
 use Rattle.heesch_table.specs.Holed.{IsHoled}
 use Rattle.heesch_table.specs.Texts.{tally_text}
 
@@ -31,6 +32,16 @@ pub record IsFound (g : Geometry) (entry : Entry) (found : Bool × Verdict) : Ty
 -- the output is the tally of the entries
 abbrev pub IsTallyOf : Geometry → List Entry → List ℕ → Type 0
 IsTallyOf g entries output = (found : List (Bool × Verdict)) × AllZip (IsFound g) entries found × (output ≡ tally_text found)
+
+-- the counts are those of what is found of the entries
+pub record AreCountsOf (g : Geometry) (entries : List Entry) (counts : Counts) : Type 0 where
+  pub found : List (Bool × Verdict)
+  pub are_found : AllZip (IsFound g) entries found
+  pub counts_are : counts ≡ counts_of found
+
+-- the counts are those of entries of these shapes, true under the grid and the limits
+abbrev pub HaveCounts : Geometry → Limits → List (List Cell) → Counts → Type 0
+HaveCounts g limits shapes counts = (entries : List Entry) × AreEntries g limits shapes entries × AreCountsOf g entries counts
 
 -- the output is the tally of the entries, true under the grid and the limits, of so many polyforms of n cells that are grown from the seed
 pub record IsSample (g : Geometry) (n count seed : ℕ) (limits : Limits) (output : List ℕ) : Type 0 where

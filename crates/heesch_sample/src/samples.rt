@@ -1,10 +1,12 @@
 //! A sample of the polyforms of a size.
-ghost use Rattle.std.specs.Prelude.{◌≡◌, ◌≤◌, length, map, IfOk};
+ghost use Rattle.std.specs.Prelude.{◌≡◌, ◌≤◌, ◌+◌, ◌-◌, ◌^◌, ◌++◌, All, List, length, map, slice_range, IfOk, OnOk};
 ghost use Rattle.heesch_cert.specs.Limits.{AreLimits};
+ghost use Rattle.heesch_grid.specs.declared.Cell.{Cell};
 ghost use Rattle.heesch_grid.specs.Names.{geometry_of};
-ghost use Rattle.heesch_sample.specs.Samples.{AreGrown, IsSample, IsTallyOf};
+ghost use Rattle.heesch_grid.specs.Polyform.{IsCanonicalListOf};
+ghost use Rattle.heesch_sample.specs.Samples.{AreCountsOf, AreGrown, HaveCounts, IsSample};
 
-use heesch_catalogue::entries_of;
+use heesch_catalogue::entries_between;
 use heesch_cert::{Entry, Limits};
 use heesch_grid::{Grid, GridName, Hex, Iamond, Square};
 use heesch_grow::{Draws, grown};
@@ -16,13 +18,16 @@ use heesch_table::Tally;
 use std::alloc::Global;
 use std::thread::Threads;
 
+/// How many shapes are classified before their entries are counted.
+const ROUND: u32 = 256;
+
 /// The text of the tally of `count` polyforms of n cells, classified under the limits. They are grown
 /// one after the other, from one state that starts at the seed, and stand by their canonical lists.
 /// n is 1 to 32, `count` at most 1,000, and there are 1 to 64 workers.
 ///
 /// Errors: `NoMemory` alone. Nearly all of its time goes to the classification of the shapes, each by
-/// one worker. The shapes and their entries are kept to the end, and the memory of the searches for a
-/// shape until its entry is made.
+/// one worker. The shapes are kept to the end, their entries until their round of at most 256 is
+/// counted, and the memory of the searches for a shape until its entry is made.
 pub fn sample<T: Threads + Sync, H: Gate + Sync>(
     rt: &T,
     alloc: Global,
@@ -71,8 +76,10 @@ fn sample_of<G: Grid + Send + Sync, T: Threads + Sync, H: Gate + Sync>(
     ensures { IfOk result (λ text. IsSample G.geometry n count seed limits text.items) }
 {
     let shapes = grown_shapes::<G>(alloc, n, count, seed)?;
-    let entries = entries_of(rt, alloc, &shapes, limits, workers, gate)?;
-    tally_of(alloc, &shapes, &entries)
+    let tally = tally_of(rt, alloc, &shapes, count, limits, workers, gate)?;
+    let mut text = Vec::new(alloc);
+    tally.write(&mut text)?;
+    Ok(text)
 }
 
 /// The canonical shapes of the polyforms that are grown one after the other.
@@ -94,21 +101,80 @@ fn grown_shapes<G: Grid>(
     Ok(shapes)
 }
 
-/// The text of the tally of the entries, which are of these shapes.
-fn tally_of<G: Grid>(
+/// The tally of the entries of canonical shapes, of which there are `count`, one round after the other.
+fn tally_of<G: Grid + Send + Sync, T: Threads + Sync, H: Gate + Sync>(
+    rt: &T,
+    alloc: Global,
+    shapes: &[Shape<G>],
+    count: u32,
+    limits: Limits,
+    workers: u32,
+    gate: &H,
+) -> Result<Tally, NoMemory>
+    requires canonical { All (λ s. IsCanonicalListOf G.geometry s s) shapes.now }
+    requires count { count ≡ length shapes.now }
+    requires few { count ≤ 1000 }
+    requires limits { AreLimits limits }
+    requires workers { (1 ≤ workers) × (workers ≤ 64) }
+    ensures { IfOk result (HaveCounts G.geometry limits shapes.now) }
+{
+    let mut tally = Tally::new(alloc);
+    let mut from = 0;
+    while from < count {
+        let until = from + ROUND.min(count - from);
+        add_round(
+            rt, alloc, shapes, from, until, limits, workers, gate, &mut tally,
+        )?;
+        from = until;
+    }
+    Ok(tally)
+}
+
+/// Adds the entries of the shapes from the place `from` to before `until` to the tally.
+fn add_round<G: Grid + Send + Sync, T: Threads + Sync, H: Gate + Sync>(
+    rt: &T,
+    alloc: Global,
+    shapes: &[Shape<G>],
+    from: u32,
+    until: u32,
+    limits: Limits,
+    workers: u32,
+    gate: &H,
+    tally: &mut Tally,
+) -> Result<(), NoMemory>
+    requires canonical { All (λ s. IsCanonicalListOf G.geometry s s) shapes.now }
+    requires span { (from ≤ until) × (until ≤ length shapes.now) }
+    requires few { tally.old.shapes + (until - from) ≤ 2 ^ 32 }
+    requires limits { AreLimits limits }
+    requires workers { (1 ≤ workers) × (workers ≤ 64) }
+    ensures ok { (earlier : List (List Cell)) → HaveCounts G.geometry limits earlier tally.old
+        → OnOk result (HaveCounts G.geometry limits (earlier ++ slice_range shapes.now from until) tally.new) }
+    ensures shapes { OnOk result (tally.new.shapes ≡ tally.old.shapes + (until - from)) }
+{
+    let entries = entries_between(rt, alloc, shapes, from, until, limits, workers, gate)?;
+    add_entries(
+        alloc,
+        &shapes[from as usize..until as usize],
+        &entries,
+        tally,
+    )
+}
+
+/// Adds the entries, which are of these shapes, to the tally.
+fn add_entries<G: Grid>(
     alloc: Global,
     shapes: &[Shape<G>],
     entries: &[Entry],
-) -> Result<Vec<u8>, NoMemory>
-    requires few { length entries.now ≤ 1000 }
+    tally: &mut Tally,
+) -> Result<(), NoMemory>
     requires of_shapes { map (λ e. e.cells) entries.now ≡ shapes.now }
-    ensures { IfOk result (λ text. IsTallyOf G.geometry entries.now text.items) }
+    requires few { tally.old.shapes + length entries.now ≤ 2 ^ 32 }
+    ensures ok { (before : List Entry) → AreCountsOf G.geometry before tally.old
+        → OnOk result (AreCountsOf G.geometry (before ++ entries.now) tally.new) }
+    ensures shapes { OnOk result (tally.new.shapes ≡ tally.old.shapes + length entries.now) }
 {
-    let mut tally = Tally::new(alloc);
     for (at, entry) in entries.iter().enumerate() {
         tally.add_shape(alloc, &shapes[at], &entry.verdict)?;
     }
-    let mut text = Vec::new(alloc);
-    tally.write(&mut text)?;
-    Ok(text)
+    Ok(())
 }
