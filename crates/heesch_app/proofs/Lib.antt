@@ -1,5 +1,6 @@
 mod Beginnings
 mod CatalogueEndings
+mod Consumed
 mod Endings
 mod GivenLists
 mod Headline

@@ -2,6 +2,7 @@
 ghost use Rattle.std.specs.Prelude.{◌≡◌, ◌≤◌, Err, IfErr, IfOk};
 ghost use Rattle.heesch_io.specs.Causes.{Rose};
 ghost use Rattle.heesch_app.specs.Checks.{check_status, check_text};
+ghost use Rattle.heesch_app.specs.Inputs.{ConsumesSome};
 ghost use Rattle.heesch_app.specs.Outputs.{OfInput, IsCheckAnswer};
 
 use crate::Status;
@@ -18,6 +19,7 @@ use std::thread::Threads;
 const TOO_LONG: u32 = 8;
 
 /// Whether the source's bytes are a valid catalogue, else its first invalid part, or that they are too many.
+#[tactic(auto, using(crate::proofs::Consumed::check_consumes))]
 pub fn checked_reply<T: Threads + Sync, R: Source, H: Gate + Sync>(
     rt: &T,
     alloc: Global,
@@ -27,6 +29,7 @@ pub fn checked_reply<T: Threads + Sync, R: Source, H: Gate + Sync>(
 ) -> Result<Reply, ReadStop>
     requires workers { (1 ≤ workers) × (workers ≤ 64) }
     ensures ok { IfOk result (λ r. OfInput (R.left source.old) (IsCheckAnswer r.status r.text.items)) }
+    ensures consumed { ConsumesSome (R.left source.old) (R.left source.new) }
     ensures failed { result ≡ Err ReadStop.Failed → Rose (R.faults source.old) (R.faults source.new) }
 {
     let checked = match check(rt, alloc, source, workers, gate) {

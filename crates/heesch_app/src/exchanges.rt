@@ -3,6 +3,7 @@ ghost use Rattle.std.specs.Prelude.{◌≡◌, ◌≢◌, ◌≤◌, Err, IfOk, 
 ghost use Rattle.std.specs.Io.KnownBytes.{IsAtEnd};
 ghost use Rattle.heesch_grid.specs.Names.{geometry_of};
 ghost use Rattle.heesch_io.specs.Causes.{Rose};
+ghost use Rattle.heesch_app.specs.Inputs.{ConsumesSome};
 ghost use Rattle.heesch_app.specs.Outputs.{OfInput};
 ghost use Rattle.heesch_app.specs.Exchanges.{IsFormulaAnswer, IsModelAnswer, IsFaultTold};
 
@@ -29,6 +30,7 @@ pub fn formula_reply<R: Source>(
     requires size { (1 ≤ size) × (size ≤ 60000000) }
     ensures ok { IfOk result (λ r. OfInput (R.left source.old) (IsFormulaAnswer version (geometry_of grid) level size r.status r.text.items)) }
     ensures ended { OnOk result (IsAtEnd (R.left source.new)) }
+    ensures consumed { ConsumesSome (R.left source.old) (R.left source.new) }
     ensures failed { result ≡ Err ReadStop.Failed → Rose (R.faults source.old) (R.faults source.new) }
 {
     let input = read_all(alloc, source)?;
@@ -49,6 +51,7 @@ pub fn model_reply<R: Source>(
     requires size { (1 ≤ size) × (size ≤ 60000000) }
     ensures ok { IfOk result (λ r. OfInput (R.left source.old) (IsModelAnswer version (geometry_of grid) level size r.status r.text.items)) }
     ensures ended { OnOk result (IsAtEnd (R.left source.new)) }
+    ensures consumed { ConsumesSome (R.left source.old) (R.left source.new) }
     ensures failed { result ≡ Err ReadStop.Failed → Rose (R.faults source.old) (R.faults source.new) }
 {
     let input = read_all(alloc, source)?;

@@ -5,6 +5,7 @@ ghost use Rattle.heesch_cert.specs.Limits.{AreLimits};
 ghost use Rattle.heesch_grid.specs.Names.{geometry_of};
 ghost use Rattle.heesch_io.specs.Causes.{Rose};
 ghost use Rattle.heesch_app.specs.Endings.{EndsAs};
+ghost use Rattle.heesch_app.specs.Inputs.{ConsumesSome};
 ghost use Rattle.heesch_app.specs.Outputs.{OfInput, IsBegunGivenAnswer, IsGivenAnswer};
 
 use crate::Status;
@@ -41,6 +42,7 @@ pub fn write_given_catalogue<T: Threads + Sync, R: Source, W: Sink, H: Gate + Sy
         (λ output. OfInput (R.left source.old) (IsBegunGivenAnswer (geometry_of header.now.grid) header.now output))
         (W.held sink.old) (W.held sink.new) result }
     ensures ended { result ≡ Status.Done → IsAtEnd (R.left source.new) }
+    ensures consumed { ConsumesSome (R.left source.old) (R.left source.new) }
     ensures read_fault { result ≡ Status.ReadFault → Rose (R.faults source.old) (R.faults source.new) }
     ensures unwritten { result ≡ Status.ReadFault → sink.new ≡ sink.old }
     ensures write_fault { result ≡ Status.WriteFault → Rose (W.faults sink.old) (W.faults sink.new) }
@@ -77,6 +79,7 @@ fn write_given<G: Grid + Send + Sync, T: Threads + Sync, R: Source, W: Sink, H: 
         (λ output. OfInput (R.left source.old) (IsBegunGivenAnswer G.geometry header.now output))
         (W.held sink.old) (W.held sink.new) result }
     ensures ended { result ≡ Status.Done → IsAtEnd (R.left source.new) }
+    ensures consumed { ConsumesSome (R.left source.old) (R.left source.new) }
     ensures read_fault { result ≡ Status.ReadFault → Rose (R.faults source.old) (R.faults source.new) }
     ensures unwritten { result ≡ Status.ReadFault → sink.new ≡ sink.old }
     ensures write_fault { result ≡ Status.WriteFault → Rose (W.faults sink.old) (W.faults sink.new) }

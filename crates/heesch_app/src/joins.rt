@@ -2,6 +2,7 @@
 ghost use Rattle.std.specs.Prelude.{◌≡◌, Err, IfOk};
 ghost use Rattle.std.specs.Io.KnownBytes.{IsAtEnd};
 ghost use Rattle.heesch_io.specs.Causes.{Rose};
+ghost use Rattle.heesch_app.specs.Inputs.{ConsumesSome};
 ghost use Rattle.heesch_app.specs.Outputs.{OfInput, IsJoinAnswer};
 
 use crate::Status;
@@ -15,9 +16,11 @@ use heesch_stream::INPUT_MAX;
 use std::alloc::Global;
 
 /// The catalogue text that the share texts are joined to which the source has left, or their first fault.
+#[tactic(auto, using(crate::proofs::Consumed::join_consumes))]
 pub fn join_reply<R: Source>(alloc: Global, source: &mut R) -> Result<Reply, ReadStop>
     ensures ok { IfOk result (λ r. OfInput (R.left source.old) (IsJoinAnswer r.status r.text.items)) }
     ensures ended { IfOk result (λ r. r.status ≡ Status.Done → IsAtEnd (R.left source.new)) }
+    ensures consumed { ConsumesSome (R.left source.old) (R.left source.new) }
     ensures failed { result ≡ Err ReadStop.Failed → Rose (R.faults source.old) (R.faults source.new) }
 {
     match joined_text::<R, INPUT_MAX>(alloc, source) {

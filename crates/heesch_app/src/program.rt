@@ -13,6 +13,7 @@ ghost use Rattle.heesch_tabulate.specs.Tabulating.{IsTallied};
 ghost use Rattle.heesch_words.specs.Requests.{Asks};
 ghost use Rattle.heesch_app.specs.Outputs.{IsAccepted, IsOutput, IsBegunOutput, HasOneText, Reads, ReadsToEnd, AreReading, Writes, WritesPrefix, AsksForCatalogue, IsCatalogued, WritesValid};
 ghost use Rattle.heesch_app.specs.Endings.{EndsAs};
+ghost use Rattle.heesch_app.specs.Inputs.{ConsumesSome};
 ghost use Rattle.heesch_app.specs.Exchanges.{WritesFormula, WritesAnswer};
 ghost use Rattle.heesch_app.specs.Ranges.{IsInRange};
 
@@ -39,6 +40,7 @@ use std::thread::Threads;
 /// Does what the words ask for. The words are the arguments without the program's name; the gate is
 /// told of each piece of work that a worker takes, and the program's own is open. `classify` and `share`
 /// write after each 256 shapes, and each other form its one text at once.
+#[tactic(auto, using(crate::proofs::Consumed::none_consumed))]
 pub fn run<T: Threads + Sync, R: Source, W: Sink, H: Gate + Sync>(
     rt: &T,
     alloc: Global,
@@ -54,6 +56,9 @@ pub fn run<T: Threads + Sync, R: Source, W: Sink, H: Gate + Sync>(
 
     // Nothing is read by a form that reads nothing.
     ensures unread { ¬ AreReading (map string_bytes words.now) → source.new ≡ source.old }
+
+    // Whatever the status, the source gave some bytes, from the first on, or none.
+    ensures consumed { ConsumesSome (R.left source.old) (R.left source.new) }
 
     // A form that reads shapes or a model reads them to the end of the source before it ends Done.
     ensures read_to_end { result ≡ Status.Done → (request : RequestOf) → Asks (map string_bytes words.now) request
@@ -111,6 +116,7 @@ pub fn run<T: Threads + Sync, R: Source, W: Sink, H: Gate + Sync>(
 }
 
 /// Does what a request asks for.
+#[tactic(auto, using(crate::proofs::Consumed::none_consumed))]
 fn answer<T: Threads + Sync, R: Source, W: Sink, H: Gate + Sync>(
     rt: &T,
     alloc: Global,
@@ -123,6 +129,7 @@ fn answer<T: Threads + Sync, R: Source, W: Sink, H: Gate + Sync>(
     ensures ends { EndsAs (IsOutput request (R.left source.old)) (IsBegunOutput request (R.left source.old))
         (W.held sink.old) (W.held sink.new) result }
     ensures ended { result ≡ Status.Done → ReadsToEnd request → IsAtEnd (R.left source.new) }
+    ensures consumed { ConsumesSome (R.left source.old) (R.left source.new) }
     ensures read_fault { result ≡ Status.ReadFault → Reads request × Rose (R.faults source.old) (R.faults source.new) }
     ensures unwritten { result ≡ Status.ReadFault → sink.new ≡ sink.old }
     ensures write_fault { result ≡ Status.WriteFault → Rose (W.faults sink.old) (W.faults sink.new) }
@@ -177,6 +184,7 @@ fn answer<T: Threads + Sync, R: Source, W: Sink, H: Gate + Sync>(
 
 /// The status and the one text that a request asks for; a catalogue and a share of one have none, since they are written as
 /// they are made.
+#[tactic(auto, using(crate::proofs::Consumed::none_consumed))]
 fn reply<T: Threads + Sync, R: Source, H: Gate + Sync>(
     rt: &T,
     alloc: Global,
@@ -188,6 +196,7 @@ fn reply<T: Threads + Sync, R: Source, H: Gate + Sync>(
     requires text { HasOneText request }
     ensures ok { IfOk result (λ r. IsOutput request (R.left source.old) r.status r.text.items) }
     ensures ended { IfOk result (λ r. r.status ≡ Status.Done → ReadsToEnd request → IsAtEnd (R.left source.new)) }
+    ensures consumed { ConsumesSome (R.left source.old) (R.left source.new) }
     ensures failed { result ≡ Err ReadStop.Failed → Reads request × Rose (R.faults source.old) (R.faults source.new) }
     ensures unread { ¬ Reads request → source.new ≡ source.old }
 {

@@ -3,6 +3,7 @@ ghost use Rattle.std.specs.Prelude.{◌≡◌, ◌≤◌, Err, IfOk, OnOk};
 ghost use Rattle.std.specs.Io.KnownBytes.{IsAtEnd};
 ghost use Rattle.heesch_io.specs.Causes.{Rose};
 ghost use Rattle.heesch_io.specs.Input.{IsAllOf};
+ghost use Rattle.heesch_app.specs.Inputs.{ConsumesSome};
 
 use heesch_io::{NoMemory, Source};
 use std::alloc::Global;
@@ -30,10 +31,13 @@ impl From<NoMemory> for ReadStop {
     }
 }
 
-/// All bytes that the source has left. The cost is linear in their number.
+/// All bytes that the source has left. At an error some of them were read, from the first on. The cost is linear in their
+/// number.
+#[tactic(auto, using(crate::proofs::Consumed::kept_consumed, crate::proofs::Consumed::more_consumed))]
 pub fn read_all<R: Source>(alloc: Global, source: &mut R) -> Result<Vec<u8>, ReadStop>
     ensures ok { IfOk result (λ bytes. IsAllOf (R.left source.old) bytes.items) }
     ensures ended { OnOk result (IsAtEnd (R.left source.new)) }
+    ensures consumed { ConsumesSome (R.left source.old) (R.left source.new) }
     ensures failed { result ≡ Err ReadStop.Failed → Rose (R.faults source.old) (R.faults source.new) }
     ensures later { R.faults source.old ≤ R.faults source.new }
 {

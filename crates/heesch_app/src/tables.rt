@@ -1,6 +1,7 @@
 //! The answer to `table`.
 ghost use Rattle.std.specs.Prelude.{◌≡◌, Err, IfOk};
 ghost use Rattle.heesch_io.specs.Causes.{Rose};
+ghost use Rattle.heesch_app.specs.Inputs.{ConsumesSome};
 ghost use Rattle.heesch_app.specs.Outputs.{IsTableAnswer};
 
 use crate::Status;
@@ -12,8 +13,10 @@ use heesch_tabulate::{TableStop, Tabulated, tabulate};
 use std::alloc::Global;
 
 /// The tally of the catalogue that the source's bytes are, or their first fault.
+#[tactic(auto, using(crate::proofs::Consumed::tabulate_consumes))]
 pub fn table_reply<R: Source>(alloc: Global, source: &mut R) -> Result<Reply, ReadStop>
     ensures ok { IfOk result (λ r. IsTableAnswer (R.left source.old) r.status r.text.items) }
+    ensures consumed { ConsumesSome (R.left source.old) (R.left source.new) }
     ensures failed { result ≡ Err ReadStop.Failed → Rose (R.faults source.old) (R.faults source.new) }
 {
     match tabulate(alloc, source) {
