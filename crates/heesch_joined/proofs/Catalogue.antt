@@ -11,6 +11,6 @@ outputs_are_shares g header n outputs law all = let w = whole_of g header n outp
 
 pub joined_are_catalogues : JoinedSharesAreCatalogues
 joined_are_catalogues g header n outputs joined law all is =
-    let w : Whole g header all.shapes (together outputs) = whole_of g header n outputs all in
+    let w : Whole g header n (together outputs) = whole_of g header n outputs all in
     let (same_header, same_shares) = one_join (together outputs) header is.header w.shares is.shares w.are is.are in
-    (all.shapes, all.free, (entries_of w.shares, w.entries, w.read, is.output_is ∙ sym (λ i. catalogue_text (same_header i) (entries_of (same_shares i)))))
+    (w.shapes, w.free, (entries_of w.shares, w.entries, w.read, is.output_is ∙ sym (λ i. catalogue_text (same_header i) (entries_of (same_shares i)))))

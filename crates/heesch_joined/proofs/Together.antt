@@ -1,32 +1,27 @@
 -- Outputs of shares, one behind the other, are share texts, and their entries are those of the whole list.
-use Rattle.std.proofs.Common.{◌≡◌, refl, sym, ap, subst, ◌∙◌, ℕ, suc, ◌+◌, List, [], ◌∷◌, ◌++◌, map, length, All, Bool, false, arith}
+use Rattle.std.proofs.Common.{◌≡◌, refl, sym, ap, subst, ◌∙◌, ℕ, suc, ◌+◌, ◌<◌, ◌≤◌, ◌^◌, List, [], ◌∷◌, ◌++◌, map, length, All, Bool, false, arith}
 use Rattle.std.specs.Prelude.{if◌then◌else◌}
 use Rattle.std.specs.List.{AllByRecursion, flat_map, range_with_len}
 use Rattle.std.proofs.ByRecursion.{All-from_get_or}
-use Rattle.std.proofs.lemmas.List.{length-map, map-append}
-use Rattle.std.proofs.lemmas.List.Elements.{All-append, All-nil}
+use Rattle.std.proofs.lemmas.List.{length-map}
 use Rattle.heesch_grid.specs.declared.Cell.{Cell}
 use Rattle.heesch_grid.specs.Geometry.{Geometry}
 use Rattle.heesch_grid.specs.Polyform.{IsFreeList}
 use Rattle.heesch_grid.proofs.FromDefinitions.{free_lists_are_unique}
 use Rattle.heesch_cert.specs.declared.entry.Entry.{Entry}
 use Rattle.heesch_cert.specs.declared.header.Header.{Header}
-use Rattle.heesch_cert.specs.Reduced.{HasReducedCover}
-use Rattle.heesch_cert.specs.RightVerdict.{HasRightVerdict}
 use Rattle.heesch_cert.specs.TrueEntry.{IsTrueEntry}
 use Rattle.heesch_text.specs.Catalogue.{brief_lines, entry_lines}
 use Rattle.heesch_line.specs.Forms.{IsLine}
 use Rattle.heesch_grammar.specs.Statements.{MayStand, start}
 use Rattle.heesch_grammar.proofs.Truth.{may_stand}
 use Rattle.heesch_catalogue.specs.Catalogues.{AreEntries, AreReadable}
+use Rattle.heesch_catalogue.proofs.EntryLists.{entries_both, no_entries}
 use Rattle.heesch_parts.specs.Shares.{IsEntry, AreShares, entries_of, share_line, share_text, shares_from}
 use Rattle.heesch_parts.specs.Spans.{items_at, span_of}
 use Rattle.heesch_parts.proofs.Spans.{shares_are_the_list}
 use Rattle.heesch_share.specs.Written.{shapes_of_share}
 use Rattle.heesch_joined.specs.Joined.{AreShareOutputs, AreAllShares, together}
-
-abbrev cells_in : List Entry → List (List Cell)
-cells_in es = map (λ (e : Entry). e.cells) es
 
 readable_both : (header : Header) (es fs : List Entry) → AreReadable header es → AreReadable header fs → AreReadable header (es ++ fs)
 readable_both header [] fs first next = next
@@ -70,14 +65,14 @@ module _ (g : Geometry) (header : Header) (full : header.brief ≡ false) where
       text = refl;
       long = refl;
       each = tt;
-      entries = record { of_shapes = refl; are_true = All-nil (IsTrueEntry g header.limits); are_reduced = All-nil (λ (e : Entry). HasReducedCover g e.evidence); are_right = All-nil (HasRightVerdict g header.limits) };
+      entries = no_entries g header.limits;
       read = tt;
     }
-    parts i (output ∷ outputs) ((listed, free_too, (catalogue, (es, first, read, is), same)), are) =
+    parts i (output ∷ outputs) ((listed, free_too, few, (catalogue, (es, first, read, is), same)), are) =
         let rest : Parts (i + 1) outputs = parts (i + 1) outputs are in
         let one_list : listed ≡ shapes = free_lists_are_unique g n listed shapes free_too free in
         let others : List Entry = entries_of rest.shares in
-        let cells : cells_in es ≡ items_at (span_of (length shapes) i k) shapes = first.of_shapes ∙ ap (shapes_of_share i k) one_list in
+        let here : AreEntries g header.limits (items_at (span_of (length shapes) i k) shapes) es = subst (λ (ss : List (List Cell)). AreEntries g header.limits (shapes_of_share i k ss) es) one_list first in
         let head : output ≡ share_text i k header es = same ∙ ap (λ (text : List ℕ). share_line i k ++ text) is in
         let true_ones : AllByRecursion (IsTrueEntry g header.limits) es = by_recursion (IsTrueEntry g header.limits) es first.are_true in
         record {
@@ -85,34 +80,39 @@ module _ (g : Geometry) (header : Header) (full : header.brief ≡ false) where
           text = λ j. head j ++ rest.text j;
           long = ap suc rest.long;
           each = (are_entries es true_ones read, rest.each);
-          entries = record {
-            of_shapes = map-append (λ (e : Entry). e.cells) es others ∙ (λ j. cells j ++ rest.entries.of_shapes j);
-            are_true = All-append (IsTrueEntry g header.limits) es others first.are_true rest.entries.are_true;
-            are_reduced = All-append (λ (e : Entry). HasReducedCover g e.evidence) es others first.are_reduced rest.entries.are_reduced;
-            are_right = All-append (HasRightVerdict g header.limits) es others first.are_right rest.entries.are_right;
-          };
+          entries = entries_both g header.limits (items_at (span_of (length shapes) i k) shapes) (shapes_from (i + 1) (length outputs)) es others here rest.entries;
           read = readable_both header es others read rest.read;
         }
 
 -- what all shares have together
-pub record Whole (g : Geometry) (header : Header) (shapes : List (List Cell)) (text : List ℕ) : Type 0 where
+pub record Whole (g : Geometry) (header : Header) (n : ℕ) (text : List ℕ) : Type 0 where
+  pub shapes : List (List Cell)
+  pub free : IsFreeList g n shapes
   pub shares : List (List Entry)
   pub are : AreShares text header shares
   pub entries : AreEntries g header.limits shapes (entries_of shares)
   pub read : AreReadable header (entries_of shares)
 
-pub whole_of : (g : Geometry) (header : Header) (n : ℕ) (outputs : List (List ℕ)) (all : AreAllShares g header n outputs) → Whole g header all.shapes (together outputs)
+-- the list of the size, as the first output has it
+list_of : (g : Geometry) (header : Header) (n k : ℕ) (outputs : List (List ℕ)) → 1 ≤ length outputs → AreShareOutputs g header n 1 k outputs
+    → (shapes : List (List Cell)) × IsFreeList g n shapes × (length shapes < 2 ^ 32)
+list_of g header n k [] some are = absurd (omega (arith, some))
+list_of g header n k (output ∷ outputs) some ((listed, free, few, is), are) = (listed, free, few)
+
+pub whole_of : (g : Geometry) (header : Header) (n : ℕ) (outputs : List (List ℕ)) → AreAllShares g header n outputs → Whole g header n (together outputs)
 whole_of g header n outputs all =
     let k : ℕ = length outputs in
-    let p : Parts g header all.full n k all.shapes all.free 1 outputs = parts g header all.full n k all.shapes all.free 1 outputs all.are in
-    let list : shapes_from g header all.full n k all.shapes all.free 1 k ≡ all.shapes = shares_are_the_list k all.shapes all.some in
-    let entries : AreEntries g header.limits all.shapes (entries_of p.shares) = subst (λ (ss : List (List Cell)). AreEntries g header.limits ss (entries_of p.shares)) list p.entries in
-    let many : length (entries_of p.shares) ≡ length all.shapes = sym (length-map (entries_of p.shares) (λ (e : Entry). e.cells)) ∙ ap length entries.of_shapes in
+    let (shapes, free, few) = list_of g header n k outputs all.some all.are in
+    let p : Parts g header all.full n k shapes free 1 outputs = parts g header all.full n k shapes free 1 outputs all.are in
+    let list : shapes_from g header all.full n k shapes free 1 k ≡ shapes = shares_are_the_list k shapes all.some in
+    let entries : AreEntries g header.limits shapes (entries_of p.shares) = subst (λ (ss : List (List Cell)). AreEntries g header.limits ss (entries_of p.shares)) list p.entries in
+    let many : length (entries_of p.shares) ≡ length shapes = sym (length-map (entries_of p.shares) (λ (e : Entry). e.cells)) ∙ ap length entries.of_shapes in
     let long = p.long in
     let some = all.some in
     let most = all.most in
-    let few = all.few in
     record {
+      shapes = shapes;
+      free = free;
       shares = p.shares;
       are = record {
         text_is = subst (λ (m : ℕ). together outputs ≡ shares_from 1 m header p.shares) (sym long) p.text;

@@ -1,9 +1,7 @@
 -- What the outputs of shares are joined to, as statements.
 use Rattle.std.specs.Prelude.{◌≡◌, ℕ, ◌+◌, ◌≤◌, List, [], ◌∷◌, length, false, ⊤}
 use Rattle.std.specs.List.{flat_map}
-use Rattle.heesch_grid.specs.declared.Cell.{Cell}
 use Rattle.heesch_grid.specs.Geometry.{Geometry, IsGrid}
-use Rattle.heesch_grid.specs.Polyform.{IsFreeList}
 use Rattle.heesch_cert.specs.declared.entry.Entry.{Entry}
 use Rattle.heesch_cert.specs.declared.header.Header.{Header}
 use Rattle.heesch_catalogue.specs.Catalogues.{IsCatalogueOfSize}
@@ -20,15 +18,12 @@ AreShareOutputs g header n i k (output ∷ outputs) = IsShareOfSize g header n i
 abbrev pub together : List (List ℕ) → List ℕ
 together outputs = flat_map (λ (output : List ℕ). output) outputs
 
--- the outputs of shares 1 to k of the polyforms of n cells, of which there are fewer than 2^32, under a full catalogue's header
+-- the outputs of shares 1 to k of the polyforms of n cells, under a full catalogue's header
 pub record AreAllShares (g : Geometry) (header : Header) (n : ℕ) (outputs : List (List ℕ)) : Type 0 where
   pub some : 1 ≤ length outputs
   pub most : length outputs ≤ 1000
   pub is_header : IsShareHeader header
   pub full : header.brief ≡ false
-  pub shapes : List (List Cell)
-  pub free : IsFreeList g n shapes
-  pub few : length shapes ≤ 4294967295
   pub are : AreShareOutputs g header n 1 (length outputs) outputs
 
 -- such outputs, one behind the other, are share texts

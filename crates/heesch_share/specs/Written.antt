@@ -1,5 +1,5 @@
 -- What the writer of a share writes.
-use Rattle.std.specs.Prelude.{◌≡◌, ℕ, List, ◌++◌, length, slice_range}
+use Rattle.std.specs.Prelude.{◌≡◌, ◌<◌, ◌^◌, ℕ, List, ◌++◌, length, slice_range}
 use Rattle.heesch_grid.specs.declared.Cell.{Cell}
 use Rattle.heesch_grid.specs.Geometry.{Geometry}
 use Rattle.heesch_grid.specs.Polyform.{IsFreeList}
@@ -20,9 +20,10 @@ IsShare g header i k shapes output = (catalogue : List ℕ) × IsCatalogue g hea
 abbrev pub IsBegunShare : Geometry → Header → (i k : ℕ) → List (List Cell) → List ℕ → Type 0
 IsBegunShare g header i k shapes output = (begun : List ℕ) × IsBegunCatalogue g header (shapes_of_share i k shapes) begun × (output ≡ share_line i k ++ begun)
 
--- the same of the free list of the grid's polyforms of n cells
+-- the same of the free list of the grid's polyforms of n cells, of which there are fewer than 2^32
 abbrev pub IsShareOfSize : Geometry → Header → (n i k : ℕ) → List ℕ → Type 0
-IsShareOfSize g header n i k output = (shapes : List (List Cell)) × IsFreeList g n shapes × IsShare g header i k shapes output
+IsShareOfSize g header n i k output = (shapes : List (List Cell)) × IsFreeList g n shapes × (length shapes < 2 ^ 32) × IsShare g header i k shapes output
 
+-- a beginning of it
 abbrev pub IsBegunShareOfSize : Geometry → Header → (n i k : ℕ) → List ℕ → Type 0
 IsBegunShareOfSize g header n i k output = (shapes : List (List Cell)) × IsFreeList g n shapes × IsBegunShare g header i k shapes output
