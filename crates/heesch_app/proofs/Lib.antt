@@ -3,6 +3,7 @@ mod CatalogueEndings
 mod Endings
 mod GivenLists
 mod Headline
+mod OuterOutputs
 mod PlainAnswers
 mod PlainLines
 mod Ranges

@@ -3,9 +3,9 @@ ghost use Rattle.std.specs.Prelude.{◌≡◌, ◌++◌, codes, length, take, On
 ghost use Rattle.std.specs.Fmt.{signed_decimal};
 ghost use Rattle.heesch_app.specs.Plains.{plain_text, plain_line};
 
-use heesch_text::fields::{append_byte, append_bytes, append_cells, append_integer, append_triple};
 use heesch_grid::Cell;
 use heesch_io::NoMemory;
+use heesch_text::fields::{append_byte, append_bytes, append_cells, append_integer, append_triple};
 use heesch_tiling::Plain;
 
 /// Appends the cells, a space, the shape's plain tiling as `translation P Q S` or
