@@ -12,7 +12,7 @@ use Rattle.heesch_check.specs.declared.answers.Checked.TheVariants as answers
 use Rattle.heesch_tabulate.specs.declared.answers.Tabulated.{Tabulated}
 use Rattle.heesch_tabulate.specs.declared.answers.Tabulated.TheVariants as tables
 use Rattle.heesch_words.specs.declared.requests.Request.{Request}
-use Rattle.heesch_words.specs.declared.requests.Request.TheVariants.{List as ListRequest, Plain as PlainRequest, Classify as ClassifyRequest, Check as CheckRequest, Table as TableRequest, Sample as SampleRequest, Formula as FormulaRequest, Answer as AnswerRequest, Share as ShareRequest, Join as JoinRequest}
+use Rattle.heesch_words.specs.declared.requests.Request.TheVariants.{List as ListRequest, Plain as PlainRequest, Classify as ClassifyRequest, Check as CheckRequest, Table as TableRequest, Sample as SampleRequest, Formula as FormulaRequest, Answer as AnswerRequest, Share as ShareRequest, Join as JoinRequest, Outer as OuterRequest}
 use Rattle.heesch_words.specs.Requests.{Asks}
 use Rattle.heesch_app.specs.declared.reading.ReadStop.{ReadStop}
 use Rattle.heesch_app.specs.declared.reading.ReadStop.TheVariants as read_stops
@@ -69,6 +69,9 @@ output_is_whole (AnswerRequest grid level size version) left status output (inpu
 output_is_whole (ShareRequest grid n i k limits workers) left status output (done, is) = whole_if status Done done tt
 output_is_whole JoinRequest left status output (input, all, inl (done, few, is)) = whole_if status Done done tt
 output_is_whole JoinRequest left status output (input, all, inr (bad, is)) = whole_if status BadInput bad tt
+output_is_whole (OuterRequest grid (Size n) limits workers) left status output (done, is) = whole_if status Done done tt
+output_is_whole (OuterRequest grid Given limits workers) left status output (input, all, inl (done, is)) = whole_if status Done done tt
+output_is_whole (OuterRequest grid Given limits workers) left status output (input, all, inr (bad, is)) = whole_if status BadInput bad tt
 
 -- a reply that is what a request asks for comes with such a status
 pub reply_is_whole : (request : Request) (left : Option (List ℕ)) (reply : Result Reply ReadStop) → IfOk reply (λ r. IsOutput request left r.status r.text.items) → IfOk reply (λ r. IsWhole r.status)

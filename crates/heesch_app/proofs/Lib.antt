@@ -4,6 +4,7 @@ mod Consumed
 mod Endings
 mod GivenLists
 mod Headline
+mod OuterOutputs
 mod PlainAnswers
 mod PlainLines
 mod Ranges

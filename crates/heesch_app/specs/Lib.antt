@@ -1,7 +1,9 @@
 pub mod Checks
 pub mod Endings
 pub mod Exchanges
+pub mod GivenTexts
 pub mod Inputs
+pub mod OuterNumbers
 pub mod Outputs
 pub mod Plains
 pub mod Ranges

@@ -19,7 +19,7 @@ use Rattle.heesch_app.specs.Plains.{plain_list_text}
 use Rattle.heesch_text.specs.Shapes.{list_text}
 use Rattle.heesch_tiling.specs.declared.found.Plain.{Plain}
 use Rattle.heesch_words.specs.declared.requests.Request.{Request}
-use Rattle.heesch_words.specs.declared.requests.Request.TheVariants.{List as ListRequest, Plain as PlainRequest, Classify as ClassifyRequest, Check as CheckRequest, Table as TableRequest, Sample as SampleRequest, Formula as FormulaRequest, Answer as AnswerRequest, Share as ShareRequest, Join as JoinRequest}
+use Rattle.heesch_words.specs.declared.requests.Request.TheVariants.{List as ListRequest, Plain as PlainRequest, Classify as ClassifyRequest, Check as CheckRequest, Table as TableRequest, Sample as SampleRequest, Formula as FormulaRequest, Answer as AnswerRequest, Share as ShareRequest, Join as JoinRequest, Outer as OuterRequest}
 use Rattle.heesch_words.specs.Requests.{Asks}
 use Rattle.heesch_app.specs.declared.status.Status.{Status}
 use Rattle.heesch_app.specs.declared.status.Status.TheVariants.{Done, BadInput}
@@ -32,6 +32,7 @@ use Rattle.heesch_app.specs.Tables.{table_status, table_text}
 use Rattle.heesch_app.specs.Tilings.{ArePlain}
 use Rattle.heesch_check.specs.Answers.{IsChecked, IsValid}
 use Rattle.heesch_check.specs.declared.answers.Checked.{Checked}
+use Rattle.heesch_outers.specs.Outers.{IsOuters, IsBegunOuters, IsOutersOfSize, IsBegunOutersOfSize}
 use Rattle.heesch_sample.specs.Samples.{IsSample}
 use Rattle.heesch_share.specs.Written.{IsShareOfSize, IsBegunShareOfSize}
 use Rattle.heesch_share.specs.Joined.{IsJoined}
@@ -57,6 +58,10 @@ IsPlainListing g n output = (shapes : List (List Cell)) × (tilings : List (Opti
 abbrev pub header_of : GridName → Subject → Limits → Bool → Header
 header_of grid subject limits brief = record { brief = brief; grid = grid; subject = subject; limits = limits }
 
+-- the request for the catalogue with this header
+abbrev pub classify_of : Header → ℕ → Request
+classify_of header workers = ClassifyRequest header.grid header.subject header.limits workers header.brief
+
 -- the request reads what the source has left
 abbrev pub Reads : Request → Type 0
 Reads (ClassifyRequest grid Given limits workers brief) = ⊤
@@ -65,6 +70,7 @@ Reads TableRequest = ⊤
 Reads (FormulaRequest grid level size version) = ⊤
 Reads (AnswerRequest grid level size version) = ⊤
 Reads JoinRequest = ⊤
+Reads (OuterRequest grid Given limits workers) = ⊤
 Reads _ = ⊥
 
 -- the request reads to the end what the source has left
@@ -73,28 +79,30 @@ ReadsToEnd (ClassifyRequest grid Given limits workers brief) = ⊤
 ReadsToEnd (FormulaRequest grid level size version) = ⊤
 ReadsToEnd (AnswerRequest grid level size version) = ⊤
 ReadsToEnd JoinRequest = ⊤
+ReadsToEnd (OuterRequest grid Given limits workers) = ⊤
 ReadsToEnd _ = ⊥
 
--- what the request asks for is one text, which is put at once; a catalogue and a share of one are written as they are made
+-- what the request asks for is one text, which is put at once; a catalogue, a share of one and an outer text are written as they are made
 abbrev pub HasOneText : Request → Type 0
 HasOneText (ClassifyRequest grid subject limits workers brief) = ⊥
 HasOneText (ShareRequest grid n i k limits workers) = ⊥
+HasOneText (OuterRequest grid subject limits workers) = ⊥
 HasOneText _ = ⊤
 
 -- this holds of the bytes that the source had left, or of some bytes where it doesn't tell them
 abbrev pub OfInput : Option (List ℕ) → (List ℕ → Type 0) → Type 0
 OfInput left P = (input : List ℕ) × IsAllOf left input × P input
 
--- what is answered of a list text: the catalogue text of its shapes, or its first fault
-abbrev pub IsGivenAnswer : Geometry → Header → Status → List ℕ → List ℕ → Type 0
-IsGivenAnswer g header status output input =
-    ((status ≡ Done) × ((shapes : List (List Cell)) × AreGiven input_max g input shapes × IsCatalogue g header shapes output))
+-- what is answered of a list text: a text of its shapes, which is a catalogue or an outer text, or its first fault
+abbrev pub IsGivenAnswer : Geometry → (List (List Cell) → List ℕ → Type 0) → Status → List ℕ → List ℕ → Type 0
+IsGivenAnswer g IsTextOf status output input =
+    ((status ≡ Done) × ((shapes : List (List Cell)) × AreGiven input_max g input shapes × IsTextOf shapes output))
     ⊎ ((status ≡ BadInput) × ((line : ℕ) × (number : ℕ) × HasFault input_max g input line number × (output ≡ bad_input_text line number)))
 
--- the same of a beginning: of a catalogue as much as some first entries decide
-abbrev pub IsBegunGivenAnswer : Geometry → Header → List ℕ → List ℕ → Type 0
-IsBegunGivenAnswer g header output input =
-    ((shapes : List (List Cell)) × AreGiven input_max g input shapes × IsBegunCatalogue g header shapes output)
+-- the same of a beginning: of the text of the shapes as much as some first entries decide
+abbrev pub IsBegunGivenAnswer : Geometry → (List (List Cell) → List ℕ → Type 0) → List ℕ → List ℕ → Type 0
+IsBegunGivenAnswer g IsBegunTextOf output input =
+    ((shapes : List (List Cell)) × AreGiven input_max g input shapes × IsBegunTextOf shapes output)
     ⊎ ((line : ℕ) × (number : ℕ) × HasFault input_max g input line number × (output ≡ bad_input_text line number))
 
 -- what is answered to `check` of the bytes: that they are a valid catalogue, or their first invalid part
@@ -117,7 +125,7 @@ IsOutput (ListRequest grid n workers) left status output = (status ≡ Done) × 
 IsOutput (PlainRequest grid n workers) left status output = (status ≡ Done) × IsPlainListing (geometry_of grid) n output
 IsOutput (ClassifyRequest grid (Size n) limits workers brief) left status output =
     (status ≡ Done) × IsCatalogueOfSize (geometry_of grid) (header_of grid (Size n) limits brief) n output
-IsOutput (ClassifyRequest grid Given limits workers brief) left status output = OfInput left (IsGivenAnswer (geometry_of grid) (header_of grid Given limits brief) status output)
+IsOutput (ClassifyRequest grid Given limits workers brief) left status output = OfInput left (IsGivenAnswer (geometry_of grid) (IsCatalogue (geometry_of grid) (header_of grid Given limits brief)) status output)
 IsOutput (CheckRequest workers) left status output = OfInput left (IsCheckAnswer status output)
 IsOutput TableRequest left status output = IsTableAnswer left status output
 IsOutput (SampleRequest grid n count seed limits workers) left status output = (status ≡ Done) × IsSample (geometry_of grid) n count seed limits output
@@ -126,12 +134,16 @@ IsOutput (AnswerRequest grid level size version) left status output = OfInput le
 IsOutput (ShareRequest grid n i k limits workers) left status output =
     (status ≡ Done) × IsShareOfSize (geometry_of grid) (header_of grid (Size n) limits false) n i k output
 IsOutput JoinRequest left status output = OfInput left (IsJoinAnswer status output)
+IsOutput (OuterRequest grid (Size n) limits workers) left status output = (status ≡ Done) × IsOutersOfSize (geometry_of grid) limits n output
+IsOutput (OuterRequest grid Given limits workers) left status output = OfInput left (IsGivenAnswer (geometry_of grid) (IsOuters (geometry_of grid) limits) status output)
 
--- the output is what the request asks to be written, or for a catalogue as much of it as some first entries decide
+-- the output is what the request asks to be written, or for a catalogue or an outer text as much of it as some first entries decide
 abbrev pub IsBegunOutput : Request → Option (List ℕ) → List ℕ → Type 0
 IsBegunOutput (ClassifyRequest grid (Size n) limits workers brief) left output = IsBegunCatalogueOfSize (geometry_of grid) (header_of grid (Size n) limits brief) n output
-IsBegunOutput (ClassifyRequest grid Given limits workers brief) left output = OfInput left (IsBegunGivenAnswer (geometry_of grid) (header_of grid Given limits brief) output)
+IsBegunOutput (ClassifyRequest grid Given limits workers brief) left output = OfInput left (IsBegunGivenAnswer (geometry_of grid) (IsBegunCatalogue (geometry_of grid) (header_of grid Given limits brief)) output)
 IsBegunOutput (ShareRequest grid n i k limits workers) left output = IsBegunShareOfSize (geometry_of grid) (header_of grid (Size n) limits false) n i k output
+IsBegunOutput (OuterRequest grid (Size n) limits workers) left output = IsBegunOutersOfSize (geometry_of grid) limits n output
+IsBegunOutput (OuterRequest grid Given limits workers) left output = OfInput left (IsBegunGivenAnswer (geometry_of grid) (IsBegunOuters (geometry_of grid) limits) output)
 IsBegunOutput request left output = (status : Status) × IsOutput request left status output
 
 -- the words ask for something that reads

@@ -2,11 +2,13 @@
 #![tactic(auto)]
 
 mod bad_input;
+mod catalogues;
 mod checks;
 mod exchanges;
-mod given_catalogue;
+mod given;
 mod joins;
 mod listing;
+mod outers;
 mod plains;
 mod program;
 mod reading;

@@ -8,26 +8,27 @@ ghost use Rattle.heesch_grid.specs.Names.{geometry_of};
 ghost use Rattle.std.specs.Io.KnownBytes.{IsAtEnd};
 ghost use Rattle.heesch_io.specs.Causes.{Rose};
 ghost use Rattle.heesch_words.specs.declared.requests.Request.{Request as RequestOf};
-ghost use Rattle.heesch_words.specs.declared.requests.Request.TheVariants.{Classify as ClassifyRequest, Check as CheckRequest, Table as TableRequest, Formula as FormulaRequest, Answer as AnswerRequest};
+ghost use Rattle.heesch_words.specs.declared.requests.Request.TheVariants.{Classify as ClassifyRequest, Check as CheckRequest, Table as TableRequest, Formula as FormulaRequest, Answer as AnswerRequest, Outer as OuterRequest};
 ghost use Rattle.heesch_tabulate.specs.Tabulating.{IsTallied};
 ghost use Rattle.heesch_words.specs.Requests.{Asks};
 ghost use Rattle.heesch_app.specs.Outputs.{IsAccepted, IsOutput, IsBegunOutput, HasOneText, Reads, ReadsToEnd, AreReading, Writes, WritesPrefix, AsksForCatalogue, IsCatalogued, WritesValid};
 ghost use Rattle.heesch_app.specs.Endings.{EndsAs};
 ghost use Rattle.heesch_app.specs.Inputs.{ConsumesSome};
 ghost use Rattle.heesch_app.specs.Exchanges.{WritesFormula, WritesAnswer};
+ghost use Rattle.heesch_app.specs.OuterNumbers.{WritesOuters};
 ghost use Rattle.heesch_app.specs.Ranges.{IsInRange};
 
 use crate::Status;
+use crate::catalogues::write_asked_catalogue;
 use crate::checks::checked_reply;
 use crate::exchanges::{formula_reply, model_reply};
-use crate::given_catalogue::write_given_catalogue;
 use crate::joins::join_reply;
 use crate::listing::listing;
+use crate::outers::write_outer_numbers;
 use crate::reading::ReadStop;
 use crate::reply::{Reply, put_reply};
 use crate::tables::table_reply;
 use crate::tilings::plain_listing;
-use heesch_catalogue::write_catalogue_of_size;
 use heesch_cert::{Header, Subject};
 use heesch_io::{Sink, Source};
 use heesch_pool::Gate;
@@ -38,8 +39,8 @@ use std::alloc::Global;
 use std::thread::Threads;
 
 /// Does what the words ask for. The words are the arguments without the program's name; the gate is
-/// told of each piece of work that a worker takes, and the program's own is open. `classify` and `share`
-/// write after each 256 shapes, and each other form its one text at once.
+/// told of each piece of work that a worker takes, and the program's own is open. `classify`, `share` and
+/// `outer` write after each 256 shapes, and each other form its one text at once.
 #[tactic(auto, using(crate::proofs::Consumed::none_consumed))]
 pub fn run<T: Threads + Sync, R: Source, W: Sink, H: Gate + Sync>(
     rt: &T,
@@ -92,6 +93,12 @@ pub fn run<T: Threads + Sync, R: Source, W: Sink, H: Gate + Sync>(
     ensures answers { result ≡ Status.Done → (grid : GridName) (level size : ℕ) (version : Version)
         → Asks (map string_bytes words.now) (AnswerRequest grid level size version)
         → WritesAnswer version (geometry_of grid) level size (R.left source.old) (W.held sink.old) (W.held sink.new) }
+    // What was written of outer numbers: for each of these shapes in order (those of the free list of the size, or the canonical
+    // lists of the lines of the list text) the text of a true entry with a right verdict under the limits, and then the record
+    // of an answer that `check_outer` accepts for this entry; it tells the outer number. At last comes `end COUNT`.
+    ensures outer_numbers { result ≡ Status.Done → (grid : GridName) (subject : Subject) (limits : Limits) (workers : ℕ)
+        → Asks (map string_bytes words.now) (OuterRequest grid subject limits workers)
+        → WritesOuters grid subject limits (R.left source.old) (W.held sink.old) (W.held sink.new) }
     ensures bad_input { result ≡ Status.BadInput →
         Writes (map string_bytes words.now) (R.left source.old) Status.BadInput (W.held sink.old) (W.held sink.new) }
     ensures invalid { result ≡ Status.Invalid →
@@ -149,17 +156,7 @@ fn answer<T: Threads + Sync, R: Source, W: Sink, H: Gate + Sync>(
                 subject,
                 limits,
             };
-            match subject {
-                Subject::Size { n } => {
-                    let written = write_catalogue_of_size(
-                        rt, alloc, &header, n, workers, gate, sink,
-                    );
-                    Status::of_writing(written)
-                }
-                Subject::Given => {
-                    write_given_catalogue(rt, alloc, &header, workers, source, sink, gate)
-                }
-            }
+            write_asked_catalogue(rt, alloc, &header, workers, source, sink, gate)
         }
         Request::Share {
             grid,
@@ -178,12 +175,20 @@ fn answer<T: Threads + Sync, R: Source, W: Sink, H: Gate + Sync>(
             let written = write_share(rt, alloc, &header, n, i, k, workers, gate, sink);
             Status::of_writing(written)
         }
+        Request::Outer {
+            grid,
+            subject,
+            limits,
+            workers,
+        } => write_outer_numbers(
+            rt, alloc, grid, subject, limits, workers, source, sink, gate,
+        ),
         _ => put_reply(reply(rt, alloc, request, source, gate), sink),
     }
 }
 
-/// The status and the one text that a request asks for; a catalogue and a share of one have none, since they are written as
-/// they are made.
+/// The status and the one text that a request asks for; a catalogue, a share of one and an outer text have none, since
+/// they are written as they are made.
 #[tactic(auto, using(crate::proofs::Consumed::none_consumed))]
 fn reply<T: Threads + Sync, R: Source, H: Gate + Sync>(
     rt: &T,
@@ -230,6 +235,8 @@ fn reply<T: Threads + Sync, R: Source, H: Gate + Sync>(
             workers,
         } => Reply::done(sample(rt, alloc, grid, n, count, seed, limits, workers, gate)),
         Request::Join => join_reply(alloc, source),
-        Request::Classify { .. } | Request::Share { .. } => unreachable!(),
+        Request::Classify { .. } | Request::Share { .. } | Request::Outer { .. } => {
+            unreachable!()
+        }
     }
 }

@@ -14,6 +14,8 @@ mod hostile;
 #[cfg(test)]
 mod lists;
 #[cfg(test)]
+mod outers;
+#[cfg(test)]
 mod plains;
 #[cfg(test)]
 mod running;

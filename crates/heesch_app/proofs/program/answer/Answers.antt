@@ -1,29 +1,29 @@
-use Rattle.heesch_app.proofs.CatalogueEndings.{given_ends, share_ends, size_ends}
+use Rattle.heesch_words.specs.declared.requests.Request.TheVariants.{Classify as ClassifyRequest, Outer as OuterRequest}
+use Rattle.heesch_app.proofs.CatalogueEndings.{asked_ends, share_ends}
 use Rattle.heesch_app.proofs.Endings.{put_done, put_read_fault, put_write_fault, reply_is_whole, request_ends}
 use Rattle.heesch_app.proofs.program.answer.Goals as goal
 
-pub returns-in-Size-clause-ends : goal.returns-in-Size-clause-ends
-returns-in-Size-clause-ends g c =
+pub returns-in-Classify-clause-ends : goal.returns-in-Classify-clause-ends
+returns-in-Classify-clause-ends g c =
     let held = g.W.Sink.held in
     let asked = c.in-Classify in
-    size_ends c.args.request asked.grid asked.subject asked.limits asked.workers asked.brief c.in-Size.n (g.R.Source.left c.args.source.now)
-    (held c.args.sink.now) (held c.write_catalogue_of_size-written.new.sink) c.write_catalogue_of_size-written.result c.of_writing.result asked.is c.in-Size.is
-    c.write_catalogue_of_size-written.ensures.ok c.write_catalogue_of_size-written.ensures.err c.of_writing.ensures
-
-pub returns-in-Given-clause-ends : goal.returns-in-Given-clause-ends
-returns-in-Given-clause-ends g c =
-    let held = g.W.Sink.held in
-    let asked = c.in-Classify in
-    given_ends c.args.request asked.grid asked.subject asked.limits asked.workers asked.brief (g.R.Source.left c.args.source.now)
-    (held c.args.sink.now) (held c.write_given_catalogue.new.sink) c.write_given_catalogue.result asked.is c.in-Given.is c.write_given_catalogue.ensures.ends
+    asked_ends c.args.request (ClassifyRequest asked.grid asked.subject asked.limits asked.workers asked.brief) (g.R.Source.left c.args.source.now)
+    (held c.args.sink.now) (held c.write_asked_catalogue.new.sink) c.write_asked_catalogue.result asked.is c.write_asked_catalogue.ensures.ends
 
 pub returns-in-Share-clause-ends : goal.returns-in-Share-clause-ends
 returns-in-Share-clause-ends g c =
     let held = g.W.Sink.held in
     let asked = c.in-Share in
     share_ends c.args.request asked.grid asked.n asked.i asked.k asked.limits asked.workers (g.R.Source.left c.args.source.now)
-    (held c.args.sink.now) (held c.write_share-written.new.sink) c.write_share-written.result c.of_writing-in-Share.result asked.is
-    c.write_share-written.ensures.ok c.write_share-written.ensures.err c.of_writing-in-Share.ensures
+    (held c.args.sink.now) (held c.write_share-written.new.sink) c.write_share-written.result c.of_writing.result asked.is
+    c.write_share-written.ensures.ok c.write_share-written.ensures.err c.of_writing.ensures
+
+pub returns-in-Outer-clause-ends : goal.returns-in-Outer-clause-ends
+returns-in-Outer-clause-ends g c =
+    let held = g.W.Sink.held in
+    let asked = c.in-Outer in
+    asked_ends c.args.request (OuterRequest asked.grid asked.subject asked.limits asked.workers) (g.R.Source.left c.args.source.now)
+    (held c.args.sink.now) (held c.write_outer_numbers.new.sink) c.write_outer_numbers.result asked.is c.write_outer_numbers.ensures.ends
 
 pub returns-in_default-clause-ends : goal.returns-in_default-clause-ends
 returns-in_default-clause-ends g c =

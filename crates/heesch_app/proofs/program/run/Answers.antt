@@ -6,6 +6,7 @@ use Rattle.heesch_words.proofs.Forms.{one_request}
 use Rattle.heesch_app.specs.Outputs.{IsAnswer, ReadsToEnd}
 use Rattle.heesch_app.proofs.Endings.{IsWhole, fault_prefix, memory_prefix, not_usage, run_completes, run_writes}
 use Rattle.heesch_app.proofs.Headline.{catalogued}
+use Rattle.heesch_app.proofs.OuterOutputs.{writes_outers}
 use Rattle.heesch_app.proofs.Ranges.{asked_in_range}
 use Rattle.heesch_app.proofs.ToldExchanges.{writes_formula, writes_answer}
 use Rattle.heesch_app.proofs.ValidOutputs.{valid_is_done, writes_valid, tallied_is_done, bad_is_long}
@@ -130,6 +131,15 @@ returns-in-Ok-clause-answers g c = λ done grid level size version asks.
     let new = g.W.Sink.held c.answer.new.sink in
     let (text, is, appends) = run_writes words c.in-Ok.request left old new c.answer.result Done c.in-Ok.ensures.ok c.answer.ensures.ends tt done in
     writes_answer words left Done text old new grid level size version refl is appends asks
+
+pub returns-in-Ok-clause-outer_numbers : goal.returns-in-Ok-clause-outer_numbers
+returns-in-Ok-clause-outer_numbers g c = λ done grid subject limits workers asks.
+    let words = map string_bytes c.args.words.now in
+    let left = g.R.Source.left c.args.source.now in
+    let old = g.W.Sink.held c.args.sink.now in
+    let new = g.W.Sink.held c.answer.new.sink in
+    let (text, is, appends) = run_writes words c.in-Ok.request left old new c.answer.result Done c.in-Ok.ensures.ok c.answer.ensures.ends tt done in
+    writes_outers words left Done text old new grid subject limits workers refl is appends asks
 
 pub returns-in-Ok-clause-write_fault : goal.returns-in-Ok-clause-write_fault
 returns-in-Ok-clause-write_fault g c = λ fault.
