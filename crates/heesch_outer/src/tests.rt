@@ -20,7 +20,6 @@ use heesch_levels::{LevelAnswer, WallAnswer, level, wall};
 use heesch_shape::{Shape, ShapeFault};
 use std::alloc::{AllocError, Global};
 use std::test::Fail;
-use std::thread::Threads;
 
 /// The limits under which nothing but one corona is sought.
 const LEAST: Limits = Limits {
@@ -89,8 +88,7 @@ fn canonical_of<G: Grid>(cells: &[Cell]) -> Result<Shape<G>, ShapeFault>
 }
 
 /// The answer for the entry, which has to be true, and whether the check accepts it and refuses the other one.
-fn checked_answer<G: Grid, T: Threads + Sync>(
-    rt: &T,
+fn checked_answer<G: Grid>(
     alloc: Global,
     entry: &Entry,
     other: &OuterAnswer,
@@ -101,12 +99,12 @@ fn checked_answer<G: Grid, T: Threads + Sync>(
     if !limits.valid() || !is_near(entry) {
         return Err(Fail::new("not near"));
     }
-    if audit::<G, T>(rt, alloc, entry, limits)? != EntryAnswer::Valid {
+    if audit::<G>(alloc, entry, limits)? != EntryAnswer::Valid {
         return Err(Fail::new("not true"));
     }
     let answer = outer::<G>(alloc, entry, limits)?;
-    let accepted = check_outer::<G, T>(rt, alloc, entry, &answer, limits)?;
-    let refused = !check_outer::<G, T>(rt, alloc, entry, other, limits)?;
+    let accepted = check_outer::<G>(alloc, entry, &answer, limits)?;
+    let refused = !check_outer::<G>(alloc, entry, other, limits)?;
     Ok((answer, accepted && refused))
 }
 
@@ -177,13 +175,7 @@ fn enclosed_cell(rt: HostRuntime) -> Result<(), Fail> {
         Bare::Same,
         None,
     )?;
-    let (answer, checked) = checked_answer::<Square, _>(
-        &rt,
-        alloc,
-        &entry,
-        &with_cut(alloc, 9)?,
-        LEAST,
-    )?;
+    let (answer, checked) = checked_answer::<Square>(alloc, &entry, &with_cut(alloc, 9)?, LEAST)?;
     assert!(rt; checked);
     let text = text_of(alloc, &entry, &answer)?;
     assert_eq!(rt; text.as_slice(), b"hc 0\nhh 0\nempty 9\n".as_slice());
@@ -213,12 +205,7 @@ fn free_layers<G: Grid>(alloc: Global, shape: &Shape<G>, h: u32) -> Result<Layer
 }
 
 /// How many outer coronas are found of a shape with Heesch number h that has h + 1 coronas with holes; fewer aren't accepted.
-fn count_outer<G: Grid, T: Threads + Sync>(
-    rt: &T,
-    alloc: Global,
-    shape: &Shape<G>,
-    h: u32,
-) -> Result<usize, Fail>
+fn count_outer<G: Grid>(alloc: Global, shape: &Shape<G>, h: u32) -> Result<usize, Fail>
     requires level { h ≤ 5 }
     requires canonical { IsCanonicalListOf G.geometry shape.now shape.now }
 {
@@ -249,7 +236,7 @@ fn count_outer<G: Grid, T: Threads + Sync>(
     let none = OuterAnswer::More {
         layers: no_layers(alloc),
     };
-    let (answer, checked) = checked_answer::<G, T>(rt, alloc, &entry, &none, limits)?;
+    let (answer, checked) = checked_answer::<G>(alloc, &entry, &none, limits)?;
     match answer {
         OuterAnswer::More { layers } if checked => Ok(layers.layers.len()),
         _ => Err(Fail::new("no outer coronas")),
@@ -260,7 +247,7 @@ fn count_outer<G: Grid, T: Threads + Sync>(
 #[test]
 fn surrounded_with_holes(rt: HostRuntime) -> Result<(), Fail> {
     let shape: Shape<Square> = canonical_of(&CROSSING)?;
-    assert_eq!(rt; count_outer(&rt, rt.alloc(), &shape, 0)?, 1);
+    assert_eq!(rt; count_outer(rt.alloc(), &shape, 0)?, 1);
     Ok(())
 }
 
@@ -268,7 +255,7 @@ fn surrounded_with_holes(rt: HostRuntime) -> Result<(), Fail> {
 #[test]
 fn surrounded_twice(rt: HostRuntime) -> Result<(), Fail> {
     let shape: Shape<Square> = canonical_of(&HOOKED)?;
-    assert_eq!(rt; count_outer(&rt, rt.alloc(), &shape, 1)?, 2);
+    assert_eq!(rt; count_outer(rt.alloc(), &shape, 1)?, 2);
     Ok(())
 }
 
@@ -292,13 +279,7 @@ fn unknown_number(rt: HostRuntime) -> Result<(), Fail> {
         Bare::Absent,
         None,
     )?;
-    let (answer, checked) = checked_answer::<Iamond, _>(
-        &rt,
-        alloc,
-        &entry,
-        &OuterAnswer::Tiles,
-        limits,
-    )?;
+    let (answer, checked) = checked_answer::<Iamond>(alloc, &entry, &OuterAnswer::Tiles, limits)?;
     assert!(rt; checked);
     let text = text_of(alloc, &entry, &answer)?;
     assert_eq!(rt; text.as_slice(), b"hh undecided\n".as_slice());
@@ -335,13 +316,7 @@ fn square_that_tiles(rt: HostRuntime) -> Result<(), Fail> {
         },
         evidence: Evidence::Cover { tiling, classes },
     };
-    let (answer, checked) = checked_answer::<Square, _>(
-        &rt,
-        alloc,
-        &entry,
-        &OuterAnswer::Unknown,
-        LEAST,
-    )?;
+    let (answer, checked) = checked_answer::<Square>(alloc, &entry, &OuterAnswer::Unknown, LEAST)?;
     assert!(rt; checked);
     let text = text_of(alloc, &entry, &answer)?;
     assert_eq!(rt; text.as_slice(), b"hh tiles\n".as_slice());
