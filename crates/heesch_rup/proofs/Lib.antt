@@ -6,4 +6,3 @@ pub mod Answering
 pub mod Rarest
 pub mod Chains
 pub mod Containing
-pub mod Chunked

@@ -4,7 +4,6 @@
 mod added;
 mod assignment;
 mod check;
-mod chunks;
 mod hints;
 mod newness;
 mod numbers;
