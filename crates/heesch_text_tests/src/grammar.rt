@@ -150,7 +150,13 @@ fn entries_are_made_of_their_lines(rt: HostRuntime) -> Result<(), Fail> {
     let alloc = rt.alloc();
     let holed = holed(alloc, 1, 1)?;
     let all_parts = all_parts(alloc, 3)?;
-    for text in [TILING, ONE_CORONA, TOO_LARGE, holed.as_str(), all_parts.as_str()] {
+    for text in [
+        TILING,
+        ONE_CORONA,
+        TOO_LARGE,
+        holed.as_str(),
+        all_parts.as_str(),
+    ] {
         let out = rewritten(alloc, text)?;
         assert_eq!(rt; out.as_slice(), text.as_bytes());
     }
