@@ -62,7 +62,7 @@ struct PlainOf<'a, G: Grid> {
 }
 
 impl<'a, G: Grid> Answer<Option<Plain>> for PlainOf<'a, G> {
-    ghost use Rattle.std.specs.Prelude.{IfOk, List, length, nat_lt, slice_index_or, ◌&&◌};
+    ghost use Rattle.std.specs.Prelude.{⊤, IfOk, List, length, nat_lt, slice_index_or, ◌&&◌};
     ghost use Rattle.heesch_grid.specs.declared.Cell.{Cell};
     ghost use Rattle.heesch_grid.specs.Tiling.{IsPlain};
     ghost use Rattle.heesch_listing.specs.Parts.{are_small};
@@ -71,6 +71,8 @@ impl<'a, G: Grid> Answer<Option<Plain>> for PlainOf<'a, G> {
     ghost accepts = { λ s number. nat_lt number (length s.shapes.now) && are_small s.shapes.now };
 
     ghost gives = { λ s number tiling. IfOk tiling (λ t. (d : List Cell) → IsPlain G.geometry (slice_index_or s.shapes.now number d) (answered t)) };
+
+    ghost ready = { λ _. ⊤ };
 
     fn answer(&self, number: u32) -> Result<Option<Plain>, NoMemory> {
         Ok(plain(&self.shapes[number as usize]))

@@ -22,12 +22,14 @@ struct EntryOf<'a, G: Grid> {
 }
 
 impl<'a, G: Grid> Answer<Entry> for EntryOf<'a, G> {
-    ghost use Rattle.std.specs.Prelude.{IfOk, [], length, nat_lt, slice_index_or, ◌&&◌};
+    ghost use Rattle.std.specs.Prelude.{⊤, IfOk, [], length, nat_lt, slice_index_or, ◌&&◌};
     ghost use Rattle.heesch_catalogue.specs.Entries.{are_limits, IsEntryOf};
 
     ghost accepts = { λ s number. nat_lt number (length s.shapes.now) && are_limits s.limits };
 
     ghost gives = { λ s number entry. IfOk entry (IsEntryOf G.geometry s.limits (slice_index_or s.shapes.now number [])) };
+
+    ghost ready = { λ _. ⊤ };
 
     fn answer(&self, number: u32) -> Result<Entry, NoMemory> {
         let shape = canonical_of(&self.shapes[number as usize]);

@@ -28,12 +28,14 @@ struct AuditOf<'a, G: Grid> {
 }
 
 impl<'a, G: Grid> Answer<bool> for AuditOf<'a, G> {
-    ghost use Rattle.std.specs.Prelude.{true, IfOk, ◌-◌};
+    ghost use Rattle.std.specs.Prelude.{⊤, true, IfOk, ◌-◌};
     ghost use Rattle.heesch_check.specs.Judging.{IsAuditOf};
 
     ghost accepts = { λ _ _. true };
 
     ghost gives = { λ s number holds. IfOk holds (IsAuditOf G.geometry s.limits s.items.now (number - s.first)) };
+
+    ghost ready = { λ _. ⊤ };
 
     fn answer(&self, number: u32) -> Result<bool, NoMemory> {
         match self.items.get(number.saturating_sub(self.first) as usize) {

@@ -20,7 +20,7 @@ pub struct ChildrenOf<'a, G: Grid> {
 }
 
 impl<'a, G: Grid> Answer<Vec<Shape<G>>> for ChildrenOf<'a, G> {
-    ghost use Rattle.std.specs.Prelude.{IfOk};
+    ghost use Rattle.std.specs.Prelude.{⊤, IfOk};
     ghost use Rattle.heesch_grid.specs.Cells.{cells_before};
     ghost use Rattle.heesch_grid.specs.Listing.{ListsExactly};
     ghost use Rattle.heesch_grow.specs.Adds.{IsGrownFromSome};
@@ -29,6 +29,8 @@ impl<'a, G: Grid> Answer<Vec<Shape<G>>> for ChildrenOf<'a, G> {
     ghost accepts = { λ s _. are_small s.parents.now };
 
     ghost gives = { λ s number made. IfOk made (λ list. ListsExactly cells_before (IsGrownFromSome G.geometry (part_of number s.parents.now)) list.items) };
+
+    ghost ready = { λ _. ⊤ };
 
     fn answer(&self, number: u32) -> Result<Vec<Shape<G>>, NoMemory> {
         children(self.alloc, part(self.parents, number))

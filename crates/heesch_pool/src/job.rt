@@ -14,9 +14,14 @@ pub trait Answer<T> {
     // What may be answered on a number.
     ghost gives: { Self → ℕ → Result T Refusal → Type 0 };
 
-    /// The answer on a number that it accepts, or want of memory.
+    // What else has to hold of it wherever it is asked. It may be a fact that no test decides, such as that threads
+    // may share what it borrows.
+    ghost ready: { Self → Type 0 };
+
+    /// The answer on a number that it accepts, where it is ready, or want of memory.
     fn answer(&self, number: u32) -> Result<T, NoMemory>
-        requires { IsTrue (accepts self.now number) }
+        requires number { IsTrue (accepts self.now number) }
+        requires ready { ready self.now }
         ensures { gives self.now number result };
 }
 

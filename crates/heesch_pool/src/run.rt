@@ -29,6 +29,7 @@ pub fn run_span<R: Threads + Sync, T: Send + Sync + Drop, W: Answer<T> + Sync, H
     gate: &H,
 ) -> Result<Vec<T>, NoMemory>
     requires span { (from ≤ until) × (until ≤ job.now.count) }
+    requires work { W.ready job.now.work }
     requires workers { (0 < workers) × (workers ≤ 64) }
     ensures len { IfOk result (λ items. from + vec_len items ≡ until) }
     ensures answers { IfOk result (λ items. AnswersFrom (W.gives job.now.work) from items.items) }
@@ -52,6 +53,7 @@ pub fn run_all<R: Threads + Sync, T: Send + Sync + Drop, W: Answer<T> + Sync, H:
     workers: u32,
     gate: &H,
 ) -> Result<Vec<T>, NoMemory>
+    requires work { W.ready job.now.work }
     requires workers { (0 < workers) × (workers ≤ 64) }
     ensures len { IfOk result (λ items. vec_len items ≡ job.now.count) }
     ensures answers { IfOk result (λ items. AnswersFrom (W.gives job.now.work) 0 items.items) }

@@ -13,11 +13,13 @@ struct Halves {
 }
 
 impl Answer<u32> for Halves {
-    ghost use Rattle.std.specs.Prelude.{true, IfOk, ◌≡◌, ◌/◌};
+    ghost use Rattle.std.specs.Prelude.{⊤, true, IfOk, ◌≡◌, ◌/◌};
 
     ghost accepts = { λ _ _. true };
 
     ghost gives = { λ _ i r. IfOk r (λ x. x ≡ i / 2) };
+
+    ghost ready = { λ _. ⊤ };
 
     fn answer(&self, number: u32) -> Result<u32, NoMemory> {
         if self.refused == Some(number) {

@@ -26,6 +26,7 @@ pub fn work<T: Send + Sync + Drop, W: Answer<T> + Sync, H: Gate + Sync>(
 ) -> Result<Vec<(u32, T)>, NoMemory>
     requires seat { BelongsTo seat.old board.now }
     requires span { from + board.now.count ≤ job.now.count }
+    requires work { W.ready job.now.work }
     ensures place { IsSamePlace seat.old seat.new × (seat.new.shares ≡ seat.old.shares) }
     ensures ended { OnOk result (seat.new.ended ≡ true) }
     ensures gained { IfOk result (λ pairs. seat.new.tickets ≡ seat.old.tickets ++ tickets_of pairs.items) }

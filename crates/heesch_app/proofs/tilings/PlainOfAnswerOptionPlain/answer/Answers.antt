@@ -8,6 +8,6 @@ pub plain-requires : goal.plain-requires
 plain-requires g c =
     let shapes = c.args.self.now.shapes.now in
     let number = c.args.number in
-    let accepted = and_parts (nat_lt number (length shapes)) (are_small shapes) c.requires in
+    let accepted = and_parts (nat_lt number (length shapes)) (are_small shapes) c.requires.number in
     let cells = slice_index_or shapes number c.index-self-number.result in
     record { near = near_cell cells (small_at g.G.Grid.geometry shapes number cells c.index-self-number.result (small_by_test shapes accepted.1) (ltb-true number (length shapes) accepted.0) refl) }

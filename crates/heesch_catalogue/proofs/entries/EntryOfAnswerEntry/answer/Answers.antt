@@ -6,4 +6,4 @@ use Rattle.heesch_catalogue.proofs.entries.EntryOfAnswerEntry.answer.Goals as go
 
 pub classify-requires-clause-limits : goal.classify-requires-clause-limits
 classify-requires-clause-limits g c =
-    limits_by_test c.args.self.now.limits (and_parts (nat_lt c.args.number (length c.args.self.now.shapes.now)) (are_limits c.args.self.now.limits) c.requires).1
+    limits_by_test c.args.self.now.limits (and_parts (nat_lt c.args.number (length c.args.self.now.shapes.now)) (are_limits c.args.self.now.limits) c.requires.number).1

@@ -8,4 +8,4 @@ pub children-requires : goal.children-requires
 children-requires g c =
     let parents = c.args.self.now.parents.now in
     let first = c.args.number * 64 in
-    subst (All IsSmall) (sym c.part.ensures) (All-take IsSmall 64 (drop first parents) (All-drop IsSmall first parents (small_by_test parents c.requires)))
+    subst (All IsSmall) (sym c.part.ensures) (All-take IsSmall 64 (drop first parents) (All-drop IsSmall first parents (small_by_test parents c.requires.number)))
