@@ -16,7 +16,7 @@ use Rattle.heesch_grid.specs.declared.GridName.TheVariants.{Square, Hex, Iamond,
 use Rattle.heesch_grid.specs.Names.{grid_word}
 use Rattle.heesch_words.specs.declared.options.Options.{Options}
 use Rattle.heesch_words.specs.declared.requests.Request.{Request}
-use Rattle.heesch_words.specs.declared.requests.Request.TheVariants.{List as ListRequest, Plain as PlainRequest, Classify as ClassifyRequest, Check as CheckRequest, Table as TableRequest, Sample as SampleRequest, Formula as FormulaRequest, Answer as AnswerRequest, Share as ShareRequest, Join as JoinRequest}
+use Rattle.heesch_words.specs.declared.requests.Request.TheVariants.{List as ListRequest, Plain as PlainRequest, Classify as ClassifyRequest, Check as CheckRequest, Table as TableRequest, Sample as SampleRequest, Formula as FormulaRequest, Answer as AnswerRequest, Share as ShareRequest, Join as JoinRequest, Outer as OuterRequest}
 use Rattle.heesch_words.specs.Options.{AreOptions, HasWorkersAlone, HasSizeAndVersionAlone, workers_of, limits_of}
 use Rattle.heesch_words.specs.Requests.{Asks, HasForm, HaveOptions, HasCheckForm, HasListForm, HasSampleForm, HasClassifyForm, HasFormulaForm, HasShareForm, form_word, subject_word}
 use Rattle.heesch_words.proofs.Settings.{one_reading}
@@ -251,6 +251,28 @@ one_list words grid grid' n n' workers workers' first second =
     let sizes : decimal n ≡ decimal n' = cc in
     (same_grid grid grid' grids, one_size Two Two grid grid' n n' first.size.1 second.size.1 sizes, first.workers_is ∙ ap workers_of same ∙ sym second.workers_is)
 
+-- words have one form of a catalogue
+one_classify : (words : List (List ℕ)) (grid grid' : GridName) (subject subject' : Subject) (limits limits' : Limits) (workers workers' : ℕ) (brief brief' : Bool)
+    → HasClassifyForm words grid subject limits workers brief → HasClassifyForm words grid' subject' limits' workers' brief'
+    → (grid ≡ grid') × (subject ≡ subject') × (limits ≡ limits') × (workers ≡ workers') × (brief ≡ brief')
+one_classify words grid grid' subject subject' limits limits' workers workers' brief brief' first second =
+    let (parts, same) = one_choice words _ _ first.options second.options refl first.have second.have in
+    let grids : grid_word grid ≡ grid_word grid' = cc in
+    let subjects : subject_word subject ≡ subject_word subject' = cc in (
+      same_grid grid grid' grids,
+      one_subject limits.version limits'.version grid grid' subject subject' first.in_range second.in_range subjects,
+      first.limits_is ∙ ap limits_of same ∙ sym second.limits_is,
+      first.workers_is ∙ ap workers_of same ∙ sym second.workers_is,
+      first.brief_is ∙ ap (λ (o : Options). o.brief) same ∙ sym second.brief_is,
+    )
+
+-- words with the form of a brief catalogue have that of no full one
+pub brief_not_full : (words : List (List ℕ)) (grid grid' : GridName) (subject subject' : Subject) (limits limits' : Limits) (workers workers' : ℕ) (brief : Bool)
+    → HasClassifyForm words grid subject limits workers brief → brief ≡ true → ¬ HasClassifyForm words grid' subject' limits' workers' false
+brief_not_full words grid grid' subject subject' limits limits' workers workers' brief first is second =
+    let (grids, subjects, limits_are, counts, briefs) = one_classify words grid grid' subject subject' limits limits' workers workers' brief false first second in
+    cc
+
 -- words have one form of a formula
 one_formula : (words : List (List ℕ)) (grid grid' : GridName) (level level' size size' : ℕ) (version version' : Version)
     → HasFormulaForm words grid level size version → HasFormulaForm words grid' level' size' version'
@@ -274,14 +296,7 @@ one_of_form words (PlainRequest grid n workers) (PlainRequest grid' n' workers')
     let (grids, sizes, counts) = one_list words grid grid' n n' workers workers' first second in
     cc
 one_of_form words (ClassifyRequest grid subject limits workers brief) (ClassifyRequest grid' subject' limits' workers' brief') is first second =
-    let (parts, same) = one_choice words _ _ first.options second.options refl first.have second.have in
-    let grids : grid_word grid ≡ grid_word grid' = cc in
-    let subjects : subject_word subject ≡ subject_word subject' = cc in
-    let same_grids : grid ≡ grid' = same_grid grid grid' grids in
-    let same_subjects : subject ≡ subject' = one_subject limits.version limits'.version grid grid' subject subject' first.in_range second.in_range subjects in
-    let same_limits : limits ≡ limits' = first.limits_is ∙ ap limits_of same ∙ sym second.limits_is in
-    let same_workers : workers ≡ workers' = first.workers_is ∙ ap workers_of same ∙ sym second.workers_is in
-    let same_brief : brief ≡ brief' = first.brief_is ∙ ap (λ (o : Options). o.brief) same ∙ sym second.brief_is in
+    let (grids, subjects, limits_are, counts, briefs) = one_classify words grid grid' subject subject' limits limits' workers workers' brief brief' first second in
     cc
 one_of_form words (CheckRequest workers) (CheckRequest workers') is first second =
     let same = one_reading words first.options second.options first.given second.given in
@@ -321,6 +336,9 @@ one_of_form words (ShareRequest grid n i k limits workers) (ShareRequest grid' n
     let same_workers : workers ≡ workers' = first.workers_is ∙ ap workers_of same ∙ sym second.workers_is in
     cc
 one_of_form words JoinRequest JoinRequest is first second = refl
+one_of_form words (OuterRequest grid subject limits workers) (OuterRequest grid' subject' limits' workers') is first second =
+    let (grids, subjects, limits_are, counts, briefs) = one_classify words grid grid' subject subject' limits limits' workers workers' false false first second in
+    cc
 one_of_form words x y is first second = absurd (grind arith)
 
 -- words ask for one thing at most

@@ -1,17 +1,19 @@
 -- What is asked for lies in its ranges.
-use Rattle.std.proofs.Common.{◌≡◌, ◌≤◌, ℕ, List, [], ◌∷◌, unwrap_or, sym, subst, arith}
+use Rattle.std.proofs.Common.{◌≡◌, ◌≤◌, ℕ, Bool, false, List, [], ◌∷◌, unwrap_or, sym, subst, arith}
 use Rattle.std.specs.Prelude.{Option, Some, None}
 use Rattle.std.specs.List.{filter_map, AllByRecursion}
 use Rattle.std.specs.Option.{option_to_list}
+use Rattle.heesch_cert.specs.declared.header.Subject.{Subject}
+use Rattle.heesch_cert.specs.declared.limits.Limits.{Limits}
 use Rattle.heesch_cert.specs.Limits.{AreLimits}
 use Rattle.heesch_grid.specs.declared.GridName.{GridName}
 use Rattle.heesch_words.specs.declared.options.Options.{Options}
 use Rattle.heesch_words.specs.declared.requests.Request.{Request}
-use Rattle.heesch_words.specs.declared.requests.Request.TheVariants.{List as ListRequest, Plain as PlainRequest, Classify as ClassifyRequest, Check as CheckRequest, Table as TableRequest, Sample as SampleRequest, Formula as FormulaRequest, Answer as AnswerRequest, Share as ShareRequest, Join as JoinRequest}
+use Rattle.heesch_words.specs.declared.requests.Request.TheVariants.{List as ListRequest, Plain as PlainRequest, Classify as ClassifyRequest, Check as CheckRequest, Table as TableRequest, Sample as SampleRequest, Formula as FormulaRequest, Answer as AnswerRequest, Share as ShareRequest, Join as JoinRequest, Outer as OuterRequest}
 use Rattle.heesch_words.specs.Options.{Name, Workers, Turns, Levels, Domain, Size, Version, Setting, Number, Brief, IsNumberInRange, IsInRange as IsSettingInRange, number_of, held, default_limits, AreOptions, workers_of, limits_of}
-use Rattle.heesch_cert.specs.Sizes.{HasGrid}
+use Rattle.heesch_cert.specs.Sizes.{HasGrid, IsSubject}
 use Rattle.heesch_cnf.specs.declared.version.Version.{Version as FormulaVersion}
-use Rattle.heesch_words.specs.Requests.{Asks, HasForm, HasListForm, HasFormulaForm, IsFormulaInRange, IsInRange, IsSize}
+use Rattle.heesch_words.specs.Requests.{Asks, HasForm, HasListForm, HasClassifyForm, HasFormulaForm, IsFormulaInRange, IsInRange, IsSize}
 use Rattle.heesch_words.proofs.InRange.{bounds_of, in_bounds}
 
 -- the first number that settings in their ranges have of an option is in its range
@@ -55,6 +57,13 @@ list_in_range words grid n workers has =
     let (low, high) = workers_in_range has.have.others has.options has.have.given in
     (has.size, omega (arith, has.workers_is, low), omega (arith, has.workers_is, high))
 
+classify_in_range : (words : List (List ℕ)) (grid : GridName) (subject : Subject) (limits : Limits) (workers : ℕ) (brief : Bool)
+    → HasClassifyForm words grid subject limits workers brief → IsSubject limits.version grid subject × AreLimits limits × (1 ≤ workers) × (workers ≤ 64)
+classify_in_range words grid subject limits workers brief has =
+    let (low, high) = workers_in_range has.have.others has.options has.have.given in
+    let in_range : AreLimits limits = subst AreLimits (sym has.limits_is) (limits_in_range has.have.others has.options has.have.given) in
+    (has.in_range, in_range, omega (arith, has.workers_is, low), omega (arith, has.workers_is, high))
+
 formula_in_range : (words : List (List ℕ)) (grid : GridName) (level size : ℕ) (version : FormulaVersion) → HasFormulaForm words grid level size version
     → IsFormulaInRange level size × HasGrid version grid
 formula_in_range words grid level size version has =
@@ -66,10 +75,7 @@ formula_in_range words grid level size version has =
 form_in_range : (words : List (List ℕ)) (request : Request) → HasForm words request → IsInRange request
 form_in_range words (ListRequest grid n workers) has = list_in_range words grid n workers has
 form_in_range words (PlainRequest grid n workers) has = list_in_range words grid n workers has
-form_in_range words (ClassifyRequest grid subject limits workers brief) has =
-    let (low, high) = workers_in_range has.have.others has.options has.have.given in
-    let in_range : AreLimits limits = subst AreLimits (sym has.limits_is) (limits_in_range has.have.others has.options has.have.given) in
-    (has.in_range, in_range, omega (arith, has.workers_is, low), omega (arith, has.workers_is, high))
+form_in_range words (ClassifyRequest grid subject limits workers brief) has = classify_in_range words grid subject limits workers brief has
 form_in_range words (CheckRequest workers) has =
     let (low, high) = workers_in_range words has.options has.given in
     (omega (arith, has.workers_is, low), omega (arith, has.workers_is, high))
@@ -85,6 +91,7 @@ form_in_range words (ShareRequest grid n i k limits workers) has =
     let in_range : AreLimits limits = subst AreLimits (sym has.limits_is) (limits_in_range has.have.others has.options has.have.given) in
     (has.in_range, has.share, in_range, omega (arith, has.workers_is, low), omega (arith, has.workers_is, high))
 form_in_range words JoinRequest has = tt
+form_in_range words (OuterRequest grid subject limits workers) has = classify_in_range words grid subject limits workers false has
 
 -- what words ask for is in range
 pub asked_in_range : (words : List (List ℕ)) (request : Request) → Asks words request → IsInRange request

@@ -11,7 +11,7 @@ use Rattle.heesch_grid.specs.declared.GridName.{GridName}
 use Rattle.heesch_grid.specs.Names.{grid_word}
 use Rattle.heesch_words.specs.declared.options.Options.{Options}
 use Rattle.heesch_words.specs.declared.requests.Request.{Request}
-use Rattle.heesch_words.specs.declared.requests.Request.TheVariants.{List as ListRequest, Plain as PlainRequest, Classify as ClassifyRequest, Check as CheckRequest, Table as TableRequest, Sample as SampleRequest, Formula as FormulaRequest, Answer as AnswerRequest, Share as ShareRequest, Join as JoinRequest}
+use Rattle.heesch_words.specs.declared.requests.Request.TheVariants.{List as ListRequest, Plain as PlainRequest, Classify as ClassifyRequest, Check as CheckRequest, Table as TableRequest, Sample as SampleRequest, Formula as FormulaRequest, Answer as AnswerRequest, Share as ShareRequest, Join as JoinRequest, Outer as OuterRequest}
 use Rattle.heesch_words.specs.Options.{AreOptions, HasWorkersAlone, HasSizeAndVersionAlone, workers_of, limits_of}
 
 -- the shapes of so many cells are listed: version 2 has the larger ranges
@@ -111,6 +111,7 @@ form_word (FormulaRequest grid level size version) = codes "formula"
 form_word (AnswerRequest grid level size version) = codes "answer"
 form_word (ShareRequest grid n i k limits workers) = codes "share"
 form_word JoinRequest = codes "join"
+form_word (OuterRequest grid subject limits workers) = codes "outer"
 
 -- The words after the first one have the form of the request, with its values.
 abbrev pub HasForm : List (List ℕ) → Request → Type 0
@@ -124,6 +125,7 @@ HasForm words (FormulaRequest grid level size version) = HasFormulaForm words gr
 HasForm words (AnswerRequest grid level size version) = HasFormulaForm words grid level size version
 HasForm words (ShareRequest grid n i k limits workers) = HasShareForm words grid n i k limits workers
 HasForm words JoinRequest = words ≡ []
+HasForm words (OuterRequest grid subject limits workers) = HasClassifyForm words grid subject limits workers false
 
 -- The words ask for this: they have the request's form, with its values.
 pub record Asks (words : List (List ℕ)) (request : Request) : Type 0 where
@@ -143,3 +145,4 @@ IsInRange (FormulaRequest grid level size version) = IsFormulaInRange level size
 IsInRange (AnswerRequest grid level size version) = IsFormulaInRange level size × HasGrid version grid
 IsInRange (ShareRequest grid n i k limits workers) = IsSubject limits.version grid (Size n) × IsShare i k × AreLimits limits × (1 ≤ workers) × (workers ≤ 64)
 IsInRange JoinRequest = ⊤
+IsInRange (OuterRequest grid subject limits workers) = IsSubject limits.version grid subject × AreLimits limits × (1 ≤ workers) × (workers ≤ 64)

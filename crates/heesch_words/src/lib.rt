@@ -5,6 +5,7 @@ pub mod laws;
 mod numbers;
 mod options;
 mod requests;
+mod shared_forms;
 mod subjects;
 #[cfg(test)]
 mod tests;

@@ -1,4 +1,4 @@
-ghost use Rattle.std.specs.Prelude.{◌∷◌, ℕ, Bool, map, string_bytes, codes, IfOk, OnErr, ◌≢◌, []};
+ghost use Rattle.std.specs.Prelude.{◌∷◌, ℕ, Bool, false, map, string_bytes, codes, IfOk, OnErr, ◌≢◌, []};
 ghost use Rattle.heesch_cert.specs.declared.header.Subject.{Subject};
 ghost use Rattle.heesch_cert.specs.declared.limits.Limits.{Limits};
 ghost use Rattle.heesch_grid.specs.declared.GridName.{GridName};
@@ -6,8 +6,11 @@ ghost use Rattle.heesch_cnf.specs.declared.version.Version.{Version as FormulaVe
 ghost use Rattle.heesch_words.specs.Requests.{Asks, HasListForm, HasClassifyForm, HasCheckForm, HasSampleForm, HasFormulaForm, HasShareForm};
 
 use crate::numbers::number;
-use crate::options::{MOST_LEVELS, Options};
-use crate::subjects::{grid_named, subject_named};
+use crate::options::Options;
+use crate::shared_forms::{
+    ClassifyForm, FormulaForm, ListForm, classify_form, formula_form, list_form,
+};
+use crate::subjects::grid_named;
 use heesch_cert::{Limits, Subject, has_grid, most_cells};
 use heesch_cnf::Version;
 use heesch_grid::GridName;
@@ -83,6 +86,14 @@ pub enum Request {
     },
     /// The catalogue whose shares, in order, are given.
     Join,
+    /// The entries of a subject's shapes under these limits, each with the shape's outer number, found
+    /// by so many workers.
+    Outer {
+        grid: GridName,
+        subject: Subject,
+        limits: Limits,
+        workers: u32,
+    },
 }
 
 /// The greatest number of cells of a sample's shapes.
@@ -107,7 +118,8 @@ const MOST_SHARES: u64 = 1_000;
 ///   `--version`;
 /// - `formula GRID J` and `answer GRID J`: `--size` and `--version`;
 /// - `share GRID N I K`: the options of `classify`, but for `--brief`;
-/// - `join`: none.
+/// - `join`: none;
+/// - `outer GRID N` and `outer GRID given`: the options of `classify`, but for `--brief`.
 ///
 /// GRID is `square`, `hex`, `iamond` or `kite`, and `kite` doesn't go with `--version 1`. N is 1 to 14
 /// for `square`, 1 to 12 for `hex`, 1 to 18 for `iamond` and 1 to 10 for `kite`, but with `--version 1`
@@ -141,6 +153,7 @@ pub fn parse(words: &[String]) -> Result<Request, Usage>
         "answer" => answer(rest),
         "share" => share(rest),
         "join" => join(rest),
+        "outer" => outer(rest),
         _ => Err(Usage),
     }
 }
@@ -167,30 +180,6 @@ fn plain(words: &[String]) -> Result<Request, Usage>
     Ok(Request::Plain { grid, n, workers })
 }
 
-/// What the words GRID N give, with the option `--workers`.
-struct ListForm {
-    grid: GridName,
-    n: u32,
-    workers: u32,
-}
-
-/// What these words give after `list` or `plain`.
-fn list_form(words: &[String]) -> Result<ListForm, Usage>
-    ensures ok { IfOk result
-        (λ form. HasListForm (map string_bytes words.now) form.grid form.n form.workers) }
-    ensures usage { OnErr result ((grid : GridName) (n workers : ℕ)
-        → ¬ HasListForm (map string_bytes words.now) grid n workers) }
-{
-    let [grid, n, options @ ..] = words else {
-        return Err(Usage);
-    };
-    let grid = grid_named(grid.as_str())?;
-    let n = number(n.as_str(), 1, u64::from(most_cells(Version::Two, grid)))? as u32;
-    let options = Options::read(options)?;
-    let workers = options.workers_alone()?;
-    Ok(ListForm { grid, n, workers })
-}
-
 /// The request whose words are `classify` and these.
 fn classify(words: &[String]) -> Result<Request, Usage>
     ensures ok { IfOk result
@@ -199,19 +188,19 @@ fn classify(words: &[String]) -> Result<Request, Usage>
         ((grid : GridName) (subject : Subject) (limits : Limits) (workers : ℕ) (brief : Bool)
         → ¬ HasClassifyForm (map string_bytes words.now) grid subject limits workers brief) }
 {
-    let [grid, subject, options @ ..] = words else {
-        return Err(Usage);
-    };
-    let grid = grid_named(grid.as_str())?;
-    let options = Options::read(options)?;
-    let limits = options.limits();
-    let subject = subject_named(limits.version, grid, subject.as_str())?;
+    let ClassifyForm {
+        grid,
+        subject,
+        limits,
+        workers,
+        brief,
+    } = classify_form(words)?;
     Ok(Request::Classify {
         grid,
         subject,
         limits,
-        workers: options.workers(),
-        brief: options.brief,
+        workers,
+        brief,
     })
 }
 
@@ -357,35 +346,22 @@ fn join(words: &[String]) -> Result<Request, Usage>
     }
 }
 
-/// What the words GRID J give, with the options `--size` and `--version`.
-struct FormulaForm {
-    grid: GridName,
-    level: u32,
-    size: u32,
-    version: Version,
-}
-
-/// What these words give after `formula` or `answer`.
-fn formula_form(words: &[String]) -> Result<FormulaForm, Usage>
+/// The request whose words are `outer` and these.
+fn outer(words: &[String]) -> Result<Request, Usage>
     ensures ok { IfOk result
-        (λ form. HasFormulaForm (map string_bytes words.now) form.grid form.level form.size form.version) }
-    ensures usage { OnErr result ((grid : GridName) (level size : ℕ) (version : FormulaVersion)
-        → ¬ HasFormulaForm (map string_bytes words.now) grid level size version) }
+        (λ request. Asks (codes "outer" ∷ map string_bytes words.now) request) }
+    ensures usage { OnErr result
+        ((grid : GridName) (subject : Subject) (limits : Limits) (workers : ℕ)
+        → ¬ HasClassifyForm (map string_bytes words.now) grid subject limits workers false) }
 {
-    let [grid, level, options @ ..] = words else {
-        return Err(Usage);
-    };
-    let grid = grid_named(grid.as_str())?;
-    let level = number(level.as_str(), 1, MOST_LEVELS)? as u32;
-    let options = Options::read(options)?;
-    let limits = options.size_and_version_alone()?;
-    if !has_grid(limits.version, grid) {
+    let form = classify_form(words)?;
+    if form.brief {
         return Err(Usage);
     }
-    Ok(FormulaForm {
-        grid,
-        level,
-        size: limits.size,
-        version: limits.version,
+    Ok(Request::Outer {
+        grid: form.grid,
+        subject: form.subject,
+        limits: form.limits,
+        workers: form.workers,
     })
 }

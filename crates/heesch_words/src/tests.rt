@@ -112,6 +112,12 @@ fn other_forms_are_asked_for(rt: HostRuntime) -> Result<(), Fail> {
         limits,
         workers,
     };
+    let outer = |subject, workers| Request::Outer {
+        grid,
+        subject,
+        limits,
+        workers,
+    };
     for (line, request) in [
         ("check", Request::Check { workers: 1 }),
         ("check --workers 64", Request::Check { workers: 64 }),
@@ -150,6 +156,14 @@ fn other_forms_are_asked_for(rt: HostRuntime) -> Result<(), Fail> {
             },
         ),
         ("join", Request::Join),
+        (
+            "outer square given --turns 200 --levels 1 --domain 2 --version 1",
+            outer(Subject::Given, 1),
+        ),
+        (
+            "outer square 12 --workers 64 --turns 200 --levels 1 --domain 2 --version 1",
+            outer(Subject::Size { n: 12 }, 64),
+        ),
     ] {
         let words = words_of(alloc, line)?;
         assert_eq!(rt; parse(&words), Ok(request), "at {line}");
@@ -291,6 +305,17 @@ fn other_words_are_refused(rt: HostRuntime) -> Result<(), Fail> {
         "share square given 1 2",
         "join 2",
         "join --workers 2",
+        "outer",
+        "outer square",
+        "outer square 4 --brief",
+        "outer square given --brief",
+        "outer square 0",
+        "outer square 15",
+        "outer square 13 --version 1",
+        "outer kite given --version 1",
+        "outer given",
+        "outer square 4 5",
+        "outer square 4 --turns 0",
     ] {
         let words = words_of(alloc, line)?;
         assert_eq!(rt; parse(&words), Err(Usage), "at {line}");

@@ -2,7 +2,7 @@ use Rattle.std.proofs.Common.{ℕ, map, string_bytes, refl, rules}
 use Rattle.heesch_grid.specs.declared.GridName.{GridName}
 use Rattle.heesch_words.specs.Requests.{HasListForm}
 use Rattle.heesch_words.proofs.Forms.{no_options, list_not_alone}
-use Rattle.heesch_words.proofs.requests.list_form.Goals as goal
+use Rattle.heesch_words.proofs.shared_forms.list_form.Goals as goal
 
 pub returns-in_err-options-clause-usage : goal.returns-in_err-options-clause-usage
 returns-in_err-options-clause-usage c =

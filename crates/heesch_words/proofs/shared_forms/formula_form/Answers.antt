@@ -7,7 +7,7 @@ use Rattle.heesch_grid.specs.Names.{grid_word}
 use Rattle.heesch_words.specs.Options.{limits_of}
 use Rattle.heesch_words.specs.Requests.{HasFormulaForm}
 use Rattle.heesch_words.proofs.Forms.{no_options, formula_not_alone, formula_no_grid}
-use Rattle.heesch_words.proofs.requests.formula_form.Goals as goal
+use Rattle.heesch_words.proofs.shared_forms.formula_form.Goals as goal
 
 pub returns-in_err-options-clause-usage : goal.returns-in_err-options-clause-usage
 returns-in_err-options-clause-usage c =

@@ -7,7 +7,7 @@ use Rattle.heesch_cert.specs.Sizes.{IsSubject}
 use Rattle.heesch_words.specs.Options.{limits_of}
 use Rattle.heesch_words.specs.Requests.{HasClassifyForm, subject_word}
 use Rattle.heesch_words.proofs.Forms.{no_options, subject_refused}
-use Rattle.heesch_words.proofs.requests.classify.Goals as goal
+use Rattle.heesch_words.proofs.shared_forms.classify_form.Goals as goal
 
 pub returns-in_err-options-clause-usage : goal.returns-in_err-options-clause-usage
 returns-in_err-options-clause-usage c =
