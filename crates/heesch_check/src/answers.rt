@@ -1,9 +1,10 @@
 //! What a check answers, and its line.
-ghost use Rattle.std.specs.Prelude.{◌≡◌, ◌++◌, codes, decimal, OnOk};
+ghost use Rattle.std.specs.Prelude.{◌≡◌, ◌++◌, codes, decimal, length, take, OnOk, OnErr};
 ghost use Rattle.heesch_check.specs.declared.answers.CheckStop.TheVariants as stops;
 ghost use Rattle.heesch_check.specs.Answers.{checked_text};
 
 use heesch_io::NoMemory;
+use heesch_text::fields::{append_byte, append_bytes};
 use itoa::Buffer;
 use thiserror::Error;
 
@@ -42,33 +43,40 @@ impl From<NoMemory> for CheckStop {
 }
 
 /// Appends the line of an answer: `valid COUNT`, `invalid header`, `invalid entry I` or `invalid end`, and nothing for an
-/// input that is too long, which has a fault's line. At want of memory the text may have a part of it.
+/// input that is too long, which has a fault's line.
+///
+/// Errors: at `NoMemory` the text is as it was before.
 pub fn write_checked(checked: Checked, text: &mut Vec<u8>) -> Result<(), NoMemory>
-    ensures { OnOk result (text.new.items ≡ text.old.items ++ checked_text checked) }
+    ensures ok { OnOk result (text.new.items ≡ text.old.items ++ checked_text checked) }
+    ensures err { OnErr result (text.new.items ≡ text.old.items) }
+{
+    let before = text.len();
+    let written = append_checked(checked, text);
+    if written.is_err() {
+        text.truncate(before);
+    }
+    written
+}
+
+fn append_checked(checked: Checked, text: &mut Vec<u8>) -> Result<(), NoMemory>
+    ensures ok { OnOk result (text.new.items ≡ text.old.items ++ checked_text checked) }
+    ensures kept { take (length text.old.items) text.new.items ≡ text.old.items }
 {
     match checked {
-        Checked::Valid { count } => numbered(b"valid ", u64::from(count), text),
-        Checked::InvalidHeader => plain(b"invalid header\n", text),
-        Checked::InvalidEntry { number } => numbered(b"invalid entry ", number, text),
-        Checked::InvalidEnd => plain(b"invalid end\n", text),
+        Checked::Valid { count } => append_numbered(b"valid ", u64::from(count), text),
+        Checked::InvalidHeader => append_bytes(b"invalid header\n", text),
+        Checked::InvalidEntry { number } => append_numbered(b"invalid entry ", number, text),
+        Checked::InvalidEnd => append_bytes(b"invalid end\n", text),
         Checked::TooLong { line: _ } => Ok(()),
     }
 }
 
-/// Appends a line that is given with its newline.
-fn plain(line: &[u8], text: &mut Vec<u8>) -> Result<(), NoMemory>
-    ensures { OnOk result (text.new.items ≡ text.old.items ++ line.now) }
-{
-    text.extend_from_slice(line)?;
-    Ok(())
-}
-
 /// Appends words, and a number behind them, as a line.
-fn numbered(words: &[u8], number: u64, text: &mut Vec<u8>) -> Result<(), NoMemory>
-    ensures { OnOk result (text.new.items ≡ text.old.items ++ (words.now ++ decimal number ++ codes "\n")) }
+fn append_numbered(words: &[u8], number: u64, text: &mut Vec<u8>) -> Result<(), NoMemory>
+    ensures ok { OnOk result (text.new.items ≡ text.old.items ++ (words.now ++ decimal number ++ codes "\n")) }
+    ensures kept { take (length text.old.items) text.new.items ≡ text.old.items }
 {
-    text.extend_from_slice(words)?;
-    text.extend_from_slice(Buffer::new().format(number).as_bytes())?;
-    text.push(b'\n')?;
-    Ok(())
+    append_bytes(words, text)?;
+    append_bytes(Buffer::new().format(number).as_bytes(), text)?;
+    append_byte(b'\n', text)
 }

@@ -46,7 +46,8 @@ const ROUND: usize = 256;
 /// list of a size is made once, by the workers, before the first round, but where the input is at fault with nothing whole
 /// behind its header, or with a brief entry.
 ///
-/// Errors: `Failed` only where the source's count of faults rose; `NoMemory` where memory was refused.
+/// Errors: `Failed` only where the source's count of faults rose; `NoMemory` where memory was refused. At an error too the
+/// source has given the bytes of some pieces, front first, and no piece beyond the round at hand.
 pub fn check<T: Threads + Sync, R: Source, H: Gate + Sync>(
     rt: &T,
     alloc: Global,
@@ -56,7 +57,7 @@ pub fn check<T: Threads + Sync, R: Source, H: Gate + Sync>(
 ) -> Result<Checked, CheckStop>
     requires { (1 ≤ workers) × (workers ≤ 64) }
     ensures ok { IfOk result (λ c. (input : List ℕ) × IsAllOf (R.left source.old) input × IsChecked input c) }
-    ensures no_further { IfOk result (λ _. ReadsNoFurther (R.left source.old) (R.left source.new)) }
+    ensures no_further { ReadsNoFurther (R.left source.old) (R.left source.new) }
     ensures failed { result ≡ Err CheckStop.Failed → Rose (R.faults source.old) (R.faults source.new) }
     ensures later { R.faults source.old ≤ R.faults source.new }
 {
@@ -129,7 +130,7 @@ fn check_named<T: Threads + Sync, R: Source, H: Gate + Sync>(
     requires opened { IsOpened (R.left source.old) opening.header opening.items opening.stream opening.reading }
     requires workers { (1 ≤ workers) × (workers ≤ 64) }
     ensures ok { (first : Option (List ℕ)) → IsReading first (R.left source.old) opening.items opening.stream opening.reading → IsAnswered first result }
-    ensures no_further { (first : Option (List ℕ)) → IsReading first (R.left source.old) opening.items opening.stream opening.reading → ReadsNoFurther first (R.left source.old) → IfOk result (λ _. ReadsNoFurther first (R.left source.new)) }
+    ensures no_further { (first : Option (List ℕ)) → IsReading first (R.left source.old) opening.items opening.stream opening.reading → ReadsNoFurther first (R.left source.old) → ReadsNoFurther first (R.left source.new) }
     ensures failed { result ≡ Err CheckStop.Failed → Rose (R.faults source.old) (R.faults source.new) }
     ensures later { R.faults source.old ≤ R.faults source.new }
 {
@@ -160,7 +161,7 @@ fn check_under<G: Grid + Send + Sync, T: Threads + Sync, R: Source, H: Gate + Sy
     requires opened { IsOpened (R.left source.old) opening.header opening.items opening.stream opening.reading }
     requires workers { (1 ≤ workers) × (workers ≤ 64) }
     ensures ok { (first : Option (List ℕ)) → IsReading first (R.left source.old) opening.items opening.stream opening.reading → IsAnswered first result }
-    ensures no_further { (first : Option (List ℕ)) → IsReading first (R.left source.old) opening.items opening.stream opening.reading → ReadsNoFurther first (R.left source.old) → IfOk result (λ _. ReadsNoFurther first (R.left source.new)) }
+    ensures no_further { (first : Option (List ℕ)) → IsReading first (R.left source.old) opening.items opening.stream opening.reading → ReadsNoFurther first (R.left source.old) → ReadsNoFurther first (R.left source.new) }
     ensures failed { result ≡ Err CheckStop.Failed → Rose (R.faults source.old) (R.faults source.new) }
     ensures later { R.faults source.old ≤ R.faults source.new }
 {
@@ -233,7 +234,7 @@ fn check_behind<G: Grid + Send + Sync, T: Threads + Sync, R: Source, H: Gate + S
     requires workers { (1 ≤ workers) × (workers ≤ 64) }
     requires underway { IsUnderway (R.left source.old) items stream.old reading }
     ensures ok { (first : Option (List ℕ)) → IsReading first (R.left source.old) items stream.old reading → IsAnswered first result }
-    ensures no_further { (first : Option (List ℕ)) → IsReading first (R.left source.old) items stream.old reading → ReadsNoFurther first (R.left source.old) → IfOk result (λ _. ReadsNoFurther first (R.left source.new)) }
+    ensures no_further { (first : Option (List ℕ)) → IsReading first (R.left source.old) items stream.old reading → ReadsNoFurther first (R.left source.old) → ReadsNoFurther first (R.left source.new) }
     ensures failed { result ≡ Err CheckStop.Failed → Rose (R.faults source.old) (R.faults source.new) }
     ensures later { R.faults source.old ≤ R.faults source.new }
 {

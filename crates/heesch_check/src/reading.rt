@@ -57,7 +57,7 @@ pub(crate) fn gather<R: Source>(
 ) -> Result<Reading, CheckStop>
     requires may { MayGather (R.left source.old) stream.old items.old came_to }
     ensures ok { IfOk result (Gathers (R.left source.old) (R.left source.new) stream.old stream.new items.old items.new enough came_to) }
-    ensures no_further { IfOk result (λ _. (first : Option (List ℕ)) (found : List ItemOf) → IsReading first (R.left source.old) (found ++ items.old) stream.old came_to → StopsGathering first (R.left source.old) (R.left source.new) found items.old enough) }
+    ensures no_further { (first : Option (List ℕ)) (found : List ItemOf) → IsReading first (R.left source.old) (found ++ items.old) stream.old came_to → StopsGathering first (R.left source.old) (R.left source.new) found items.old enough }
     ensures failed { result ≡ Err CheckStop.Failed → Rose (R.faults source.old) (R.faults source.new) }
     ensures later { R.faults source.old ≤ R.faults source.new }
 {
@@ -83,7 +83,7 @@ pub(crate) fn read_first<R: Source>(
     requires may { MayRead (R.left source.old) stream.old }
     ensures ok { IfOk result (FirstReads (R.left source.old) (R.left source.new) stream.old stream.new items.new) }
     ensures some { IfOk result (λ reading. reading ≡ Reading.More → items.new ≢ []) }
-    ensures no_further { IfOk result (λ _. (first : Option (List ℕ)) → HasRead first (R.left source.old) [] stream.old → ReadsNoFurther first (R.left source.new)) }
+    ensures no_further { (first : Option (List ℕ)) → HasRead first (R.left source.old) [] stream.old → ReadsNoFurther first (R.left source.new) }
     ensures failed { result ≡ Err CheckStop.Failed → Rose (R.faults source.old) (R.faults source.new) }
     ensures later { R.faults source.old ≤ R.faults source.new }
 {

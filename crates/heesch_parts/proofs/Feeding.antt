@@ -1,5 +1,5 @@
 -- What bytes make of what a joiner keeps, and the faults that they show.
-use Rattle.std.proofs.Common.{◌≡◌, ◌≢◌, inl, inr, ℕ, ◌+◌, ◌<◌, ◌≤◌, ◌^◌, Bool, true, false, List, [], ◌∷◌, ◌++◌, length, map, Option, Some, None, Result, Ok, Err, refl, sym, ap, subst, ◌∙◌, append_assoc, arith}
+use Rattle.std.proofs.Common.{◌≡◌, ◌≢◌, ◌⊎◌, inl, inr, ℕ, ◌+◌, ◌<◌, ◌≤◌, ◌^◌, Bool, true, false, List, [], ◌∷◌, ◌++◌, length, map, Option, Some, None, Result, Ok, Err, refl, sym, ap, subst, ◌∙◌, append_assoc, arith}
 use Rattle.std.specs.Prelude.{OnOk}
 use Rattle.std.specs.List.{flat_map}
 use Rattle.std.proofs.lemmas.List.{length-append, append-nil}
@@ -24,7 +24,7 @@ use Rattle.heesch_parts.specs.PartLines.{IsPartLine, part_words, part_text, part
 use Rattle.heesch_parts.specs.Stages.{start, Step, Walk, end_fault}
 use Rattle.heesch_parts.specs.Shares.{items_behind}
 use Rattle.heesch_parts.specs.Faults.{IsLineFault, EndFault}
-use Rattle.heesch_parts.specs.Joining.{AreBuilt, Gives, Settles, Holds, TakesLine, Kept, IsFed, GoesTo, IsFrontStop, StopsBefore, AppendsUntil, IsWholeStop, IsStopBeyond, FeedsTo, Advances, HasRoom, LeavesRoom, ends_entry, new_header, shares_of, header_line, whole_lines}
+use Rattle.heesch_parts.specs.Joining.{AreBuilt, Gives, Settles, Holds, TakesLine, Kept, IsFed, GoesTo, IsFrontStop, StopsBefore, StopsWithin, AppendsUntil, IsWholeStop, IsStopBeyond, FeedsTo, Advances, HasRoom, LeavesRoom, ends_entry, new_header, shares_of, header_line, whole_lines}
 use Rattle.heesch_parts.specs.declared.join_stop.JoinStop.{JoinStop}
 use Rattle.heesch_parts.specs.declared.join_stop.JoinStop.TheVariants as stops
 use Rattle.heesch_parts.proofs.Growing.{mapped_long}
@@ -153,6 +153,10 @@ line_more (c ∷ line) b h other = (h.0, line_more line b h.1 other)
 pub nothing_new : (bytes : List ℕ) (given items : List Item) (kept : Kept) → IsFed bytes given kept → GoesTo bytes given items items kept
 nothing_new bytes given items kept f = record { more = []; after_is = sym (append-nil items); fed = subst (λ (x : List Item). IsFed bytes x kept) (sym (append-nil given)) f }
 
+-- memory was refused before these bytes
+pub refused_before : (before more : List ℕ) (given items : List Item) (kept : Kept) → IsFed before given kept → StopsWithin (before ++ more) given items items
+refused_before before more given items kept f = record { seen = before; unseen = more; split = refl; kept = kept; goes = nothing_new before given items kept f }
+
 -- a byte of the line
 pub byte_fed : (before : List ℕ) (given items : List Item) (old new : Kept) (byte : ℕ) → IsFed before given old → byte ≢ 10 → new.stage ≡ old.stage → new.held ≡ old.held → new.lines ≡ old.lines → new.left ≡ old.left ++ byte ∷ []
     → GoesTo (before ++ byte ∷ []) given items items new
@@ -195,12 +199,29 @@ line_fed before given items after old new line reached f form words step t =
       };
     }
 
+-- memory was refused behind the entry at hand: where the line appends anything more, nothing was appended
+pub held_until : (line : PartLine) (old : Kept) (reached : Stage) (before : ℕ) (middle : List Line) (items between after : List Item) → before + length old.held ≡ old.lines → Settles (ends_entry line) before old.held middle items between → after ≡ between
+    → (after ≡ items) ⊎ ((taken : Kept) × TakesLine old taken line reached items after)
+held_until (parts.Share i k) old reached before middle items between after long settled same = inl (same ∙ settled.1)
+held_until (parts.Catalogue (lines.Shape cells)) old reached before middle items between after long settled same = inr (
+  record { stage = reached; held = middle ++ lines.Shape cells ∷ []; left = []; lines = old.lines + 1 },
+  record { middle = middle; between = between; before = before; before_is = long; settled = settled; holds = (refl, same); stage = refl; left = refl; lines = refl },
+)
+held_until (parts.Catalogue (lines.End count)) old reached before middle items between after long settled same = inr (
+  record { stage = reached; held = middle; left = []; lines = old.lines + 1 },
+  record { middle = middle; between = between; before = before; before_is = long; settled = settled; holds = (refl, same); stage = refl; left = refl; lines = refl },
+)
+held_until (parts.Catalogue line) old reached before middle items between after long settled same = inl (same ∙ settled.1)
+
 -- the answer to it
 pub advanced : (r : Result (Unit {0}) JoinStop) (before : List ℕ) (given items after : List Item) (old new : Kept) (line : PartLine) (reached : Stage) → IsFed before given old → IsPartLine line → part_words line ≡ old.left → Step old.stage line (Ok reached)
     → Advances old new line reached items after r → FeedsTo (before ++ 10 ∷ []) given items after new r
 advanced (Ok u) before given items after old new line reached f form words step a = line_fed before given items after old new line reached f form words step a
 advanced (Err (stops.Fault at fault)) before given items after old new line reached f form words step a = absurd a
-advanced (Err stops.NoMemory) before given items after old new line reached f form words step a = (tt, a)
+advanced (Err stops.NoMemory) before given items after old new line reached f form words step a = elim a [
+  | inl same ↦ (tt, subst (λ (x : List Item). StopsWithin (before ++ 10 ∷ []) given items x) (sym same) (refused_before before (10 ∷ []) given items old f))
+  | inr t ↦ (tt, record { seen = before ++ 10 ∷ []; unseen = []; split = sym (append-nil (before ++ 10 ∷ [])); kept = t.0; goes = line_fed before given items after old t.0 line reached f form words step t.1 })
+]
 
 -- a line has a byte
 has_words : (line : PartLine) → 0 < length (part_words line)

@@ -100,7 +100,13 @@ appends_later bytes more given before between after mid new (stops.Fault line fa
   split = ap (λ (x : List ℕ). x ++ back) h.split ∙ append_assoc h.seen (10 ∷ h.unseen) back;
   goes = goes_on bytes h.seen given before between after mid new g h.goes;
 }
-appends_later bytes more given before between after mid new stops.NoMemory g h back = (g.more ++ h.0, h.1 ∙ ap (λ (x : List Item). x ++ h.0) g.after_is ∙ append_assoc before g.more h.0)
+appends_later bytes more given before between after mid new stops.NoMemory g h back = record {
+  seen = h.seen;
+  unseen = h.unseen ++ back;
+  split = ap (λ (x : List ℕ). x ++ back) h.split ∙ append_assoc h.seen h.unseen back;
+  kept = h.kept;
+  goes = goes_on bytes h.seen given before between after mid h.kept g h.goes;
+}
 
 -- a byte stops the joiner, behind those before it
 pub byte_ends : (r : Result (Unit {0}) JoinStop) (before bytes : List ℕ) (i d : ℕ) (given items between after : List Item) (mid new : Kept) (e : JoinStop) → i < length bytes → (g : GoesTo (before ++ take i bytes) given items between mid)

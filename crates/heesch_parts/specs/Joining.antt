@@ -191,10 +191,18 @@ pub record StopsBefore (bytes : List ℕ) (given before after : List Item) (kept
   pub split : bytes ≡ seen ++ 10 ∷ unseen
   pub goes : GoesTo seen given before after kept
 
--- what was appended before the stop: where memory was refused, some items or none
+-- memory was refused behind some of the bytes, from the first on, and the items that are whole by then were appended
+pub record StopsWithin (bytes : List ℕ) (given before after : List Item) : Type 0 where
+  pub seen : List ℕ
+  pub unseen : List ℕ
+  pub split : bytes ≡ seen ++ unseen
+  pub kept : Kept
+  pub goes : GoesTo seen given before after kept
+
+-- what was appended before the stop
 abbrev pub AppendsUntil : List ℕ → (given before after : List Item) → Kept → JoinStop → Type 0
 AppendsUntil bytes given before after kept (stops.Fault line fault) = StopsBefore bytes given before after kept
-AppendsUntil bytes given before after kept stops.NoMemory = (more : List Item) × (after ≡ before ++ more)
+AppendsUntil bytes given before after kept stops.NoMemory = StopsWithin bytes given before after
 
 -- the answer to these bytes
 abbrev pub FeedsTo : List ℕ → (given before after : List Item) → Kept → Result (Unit {0}) JoinStop → Type 0
@@ -275,8 +283,8 @@ pub record TakesLine (old new : Kept) (line : PartLine) (reached : Stage) (items
   pub left : new.left ≡ []
   pub lines : new.lines ≡ old.lines + 1
 
--- it was, unless memory was refused, and then items were appended or none
+-- it was, unless memory was refused, and then nothing was appended, or all that the line appends
 abbrev pub Advances : (old new : Kept) → PartLine → Stage → (items after : List Item) → Result (Unit {0}) JoinStop → Type 0
 Advances old new line reached items after (Ok _) = TakesLine old new line reached items after
 Advances old new line reached items after (Err (stops.Fault at fault)) = ⊥
-Advances old new line reached items after (Err stops.NoMemory) = (more : List Item) × (after ≡ items ++ more)
+Advances old new line reached items after (Err stops.NoMemory) = (after ≡ items) ⊎ ((taken : Kept) × TakesLine old taken line reached items after)

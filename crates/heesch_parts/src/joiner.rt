@@ -55,8 +55,8 @@ impl Joiner {
     /// the next entry or ends the share. An item of an entry has the number of the line of its word `shape`.
     ///
     /// `Fault` comes exactly where a line whose newline was fed can't stand, with the first such line; the items that are
-    /// whole before it are appended. `NoMemory` may come whenever memory is refused, behind some items or none. After
-    /// either the joiner answers the same for good. Condition: the number of lines so far, the length of the line that
+    /// whole before it are appended. `NoMemory` may come whenever memory is refused; the first of the items that are
+    /// whole by now may be appended then. After either the joiner answers the same for good. Condition: the number of lines so far, the length of the line that
     /// didn't end and that of the piece sum to less than 2^64. Each byte is looked at a bounded number of times.
     pub fn feed(&mut self, piece: &[u8], items: &mut Seq<Item>) -> Result<(), JoinStop>
         requires room { self.old.kept.lines + length self.old.kept.left + length piece.now < 2 ^ 64 }

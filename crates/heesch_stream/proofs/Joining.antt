@@ -1,5 +1,5 @@
 -- What a reader makes of a piece, joined to what was read before.
-use Rattle.std.proofs.Common.{◌≡◌, ◌≢◌, ◌⊎◌, inl, inr, ℕ, ◌+◌, ◌&&◌, ◌||◌, nat_eq, codes, Bool, true, false, List, [], ◌∷◌, ◌++◌, length, None, refl, sym, ap, subst, ◌∙◌, append_assoc, arith}
+use Rattle.std.proofs.Common.{◌≡◌, ◌≢◌, ◌⊎◌, inl, inr, ℕ, ◌+◌, ◌&&◌, ◌||◌, nat_eq, codes, Bool, true, false, List, [], ◌∷◌, ◌++◌, length, None, refl, sym, ap, subst, ◌∙◌, arith}
 use Rattle.std.proofs.lemmas.Bool.{eqb-true}
 use Rattle.std.proofs.lemmas.List.{append-nil, length-append}
 use Rattle.heesch_text.specs.declared.line.Line.{Line}
@@ -14,7 +14,7 @@ use Rattle.heesch_reader.specs.declared.scan.Appended.{Appended}
 use Rattle.heesch_reader.specs.Progress.{Lead, next}
 use Rattle.heesch_reader.specs.Items.{Kept, lines_of, with_items, none_appended, progress_of}
 use Rattle.heesch_reader.specs.Faults.{begins, begins_next, part_of, MayNotStand, FaultsAt}
-use Rattle.heesch_reader.specs.Feeding.{IsBehindEntry, Stands, Takes, Refuses, Finishes, FallsShort, IsPrompt, IsPromptAtEnd, IsShown, IsShownAtEnd}
+use Rattle.heesch_reader.specs.Feeding.{IsBehindEntry, Stands, Takes, Refuses, Finishes, FallsShort, RunsOut, IsPrompt, IsPromptAtEnd, IsShown, IsShownAtEnd}
 use Rattle.heesch_reader.proofs.Walking.{same_next, same_part, outer_words}
 use Rattle.heesch_reader.proofs.Following.{with_items_append, lines_counted, lines_append}
 use Rattle.heesch_reader.proofs.Pieces.{joins}
@@ -153,6 +153,38 @@ refuses_on bytes piece found b old items after line part e t =
       line_is = number_on found t.found t.held line (subst (λ (k : Kept). line ≡ k.appended.lines + length (lines_of t.found ++ t.held) + 1) e t.line_is);
       after_is = refl;
     }
+
+-- ---- memory that was refused
+
+pub runs_out_on : (bytes piece : List ℕ) (found : List Item) (b : Begins bytes found) (old : Kept) (items after : List Item) → old ≡ kept_behind bytes found b
+    → (t : RunsOut old.appended items after (old.rest ++ piece)) → RunsOut none_appended [] (found ++ t.found) (bytes ++ piece)
+runs_out_on bytes piece found b old items after e t =
+    let j = joins none_appended bytes piece found t.found b.held [] b.left t.behind b.reached t.reached b.stands (subst (λ (k : Kept). Stands k.appended (k.rest ++ piece) t.found [] t.behind t.reached) e t.stands) in
+    let app = with_items_append none_appended found t.found in
+    let shown : IsShown (with_items (with_items none_appended found) t.found) t.behind = subst (λ (k : Kept). IsShown (with_items k.appended t.found) t.behind) e t.shown in
+    record {
+      found = found ++ t.found;
+      behind = t.behind;
+      reached = j.reached;
+      stands = j.stands;
+      shown = subst (λ (x : Appended). IsShown x t.behind) (sym app) shown;
+      after_is = refl;
+    }
+
+nothing_more : (bytes : List ℕ) (found : List Item) (b : Begins bytes found) (old : Kept) (items : List Item) → old ≡ kept_behind bytes found b → RunsOut old.appended items items (old.rest ++ [])
+nothing_more bytes found b old items e = record {
+  found = [];
+  behind = old.rest ++ [];
+  reached = progress_of old.appended;
+  stands = record { text = refl; lead = record { forms = tt; reached = refl }; numbered = tt; one_entry = tt; items_lead = record { behind = progress_of old.appended; walked = refl; alike = inl refl } };
+  shown = subst (λ (x : List ℕ). IsShown old.appended x) (sym (append-nil old.rest)) (subst (λ (k : Kept). IsShown k.appended k.rest) (sym e) b.shown);
+  after_is = sym (append-nil items);
+}
+
+-- where nothing was appended
+pub none_on : (bytes : List ℕ) (found : List Item) (b : Begins bytes found) (old : Kept) → old ≡ kept_behind bytes found b → RunsOut none_appended [] (found ++ []) (bytes ++ [])
+unfolding nothing_more
+none_on bytes found b old e = runs_out_on bytes [] found b old [] [] e (nothing_more bytes found b old [] e)
 
 -- ---- the end of the bytes
 

@@ -1,11 +1,11 @@
 -- What the reader's answers say of the whole input.
-use Rattle.std.proofs.Common.{◌≡◌, inl, inr, ℕ, ◌+◌, ◌<◌, ◌≤◌, ◌==◌, List, [], ◌∷◌, ◌++◌, length, take, Option, Some, None, Result, Ok, Err, refl, sym, ap, subst, ◌∙◌, append_assoc, arith}
+use Rattle.std.proofs.Common.{◌≡◌, inl, inr, ℕ, ◌+◌, ◌<◌, ◌≤◌, ◌==◌, List, [], ◌∷◌, ◌++◌, length, Option, Some, None, Result, Ok, Err, refl, sym, ap, subst, ◌∙◌, append_assoc, arith}
 use Rattle.std.specs.Prelude.{if◌then◌else◌}
 use Rattle.std.specs.Io.KnownBytes.{Consumes, IsAtEnd}
 use Rattle.heesch_io.proofs.KnownBytes.{consumes_both, consumes_none}
 use Rattle.heesch_io.specs.Input.{IsAllOf}
 use Rattle.std.proofs.lemmas.Bool.{false≢true}
-use Rattle.std.proofs.lemmas.List.{append-nil, length-append, take-append-le}
+use Rattle.std.proofs.lemmas.List.{append-nil, length-append}
 use Rattle.std.proofs.lemmas.List.Sums.{sum_by-append, count_by-le-length}
 use Rattle.heesch_reader.specs.declared.item.Item.{Item}
 use Rattle.heesch_reader.specs.declared.item.Part.{Part}
@@ -21,8 +21,8 @@ use Rattle.heesch_stream.specs.declared.answers.StreamStop.{StreamStop}
 use Rattle.heesch_stream.specs.declared.answers.StreamStop.TheVariants as stops
 use Rattle.heesch_stream.specs.Answers.{stop_of}
 use Rattle.heesch_stream.specs.Input.{newlines}
-use Rattle.heesch_stream.specs.Taking.{Streamed, Begins, HasRead, TakesPiece, TakesEnd, TellsFault, TellsTooLong, TakeResult, FeedsPiece, FinishesAll}
-use Rattle.heesch_stream.proofs.Joining.{takes_on, refuses_on, falls_short_on, finishes_on}
+use Rattle.heesch_stream.specs.Taking.{Streamed, Begins, HasRead, TakesPiece, TakesEnd, TellsFault, TellsTooLong, RunsOutOfMemory, TakeResult, FeedsPiece, FinishesAll}
+use Rattle.heesch_stream.proofs.Joining.{takes_on, refuses_on, falls_short_on, finishes_on, runs_out_on, none_on}
 
 -- ---- known bytes
 
@@ -120,6 +120,25 @@ refused_piece old new items after piece line part before now e f c few =
           };
     }
 
+pub starved_piece : (old : Streamed) (new : Kept) (items after : List Item) (piece : List ℕ) (before now : Option (List ℕ)) → old.kept.refusal ≡ None
+    → FeedResult old.kept new items after piece (Err reader_stops.NoMemory) → Consumes before now piece → old.count + length piece ≤ 1099511627776 → RunsOutOfMemory before old items after
+starved_piece old new items after piece before now e f c few =
+    let t = (none_again old.kept.refusal old.kept new items after (old.kept.rest ++ piece) (Err reader_stops.NoMemory) e f).0 in
+    record {
+      more = t.found;
+      after_is = t.after_is;
+      whole = λ first found h.
+          record {
+            input = (h.bytes ++ piece) ++ unread now;
+            all_of = all_of_both first before now h.bytes piece h.consumed c;
+            front = h.bytes ++ piece;
+            behind = unread now;
+            split = refl;
+            few = omega (arith, few, h.count_is, length-append h.bytes piece);
+            whole = runs_out_on h.bytes piece found h.begins old.kept items after h.kept_is t;
+          };
+    }
+
 -- ---- the end
 
 finish_again : (r : Option Stop) (old new : Kept) (items after : List Item) (bytes : List ℕ) (res : Result (Unit {0}) Stop) → r ≡ None → FinishFrom r old new items after bytes res → FinishFrom None old new items after bytes res
@@ -159,6 +178,25 @@ fell_short old new items after line part before e f end =
           };
     }
 
+pub starved_end : (old : Streamed) (new : Kept) (items after : List Item) (before : Option (List ℕ)) → old.kept.refusal ≡ None
+    → FinishResult old.kept new items after (Err reader_stops.NoMemory) → IsAtEnd before → RunsOutOfMemory before old items after
+starved_end old new items after before e f end =
+    let same = (finish_again old.kept.refusal old.kept new items after old.kept.rest (Err reader_stops.NoMemory) e f).0 in
+    record {
+      more = [];
+      after_is = same ∙ sym (append-nil items);
+      whole = λ first found h.
+          record {
+            input = h.bytes ++ [];
+            all_of = all_at_end first before h.bytes h.consumed end;
+            front = h.bytes ++ [];
+            behind = [];
+            split = sym (append-nil (h.bytes ++ []));
+            few = omega (arith, h.at_most, length-append h.bytes []);
+            whole = none_on h.bytes found h.begins old.kept h.kept_is;
+          };
+    }
+
 -- ---- the answers
 
 -- a stream that was refused said nothing of what was read
@@ -168,7 +206,11 @@ refused_again before now failed fails old new items (reader_stops.NotText line p
   after_is = sym (append-nil items);
   fault = λ first found h. let bad : Some (reader_stops.NotText line part) ≡ None = sym e ∙ ap (λ (k : Kept). k.refusal) h.kept_is in absurd cc;
 }
-refused_again before now failed fails old new items reader_stops.NoMemory e = tt
+refused_again before now failed fails old new items reader_stops.NoMemory e = record {
+  more = [];
+  after_is = sym (append-nil items);
+  whole = λ first found h. let bad : Some reader_stops.NoMemory ≡ None = sym e ∙ ap (λ (k : Kept). k.refusal) h.kept_is in absurd cc;
+}
 
 at_end_before : (before now : Option (List ℕ)) → Consumes before now [] → IsAtEnd now → IsAtEnd before
 at_end_before None now c e = tt
@@ -183,7 +225,7 @@ finish_takes before now failed fails old new items after (Ok takens.End) f c e =
 finish_takes before now failed fails old new items after (Err (stops.NotText line part)) f c e = f before (at_end_before before now c e)
 finish_takes before now failed fails old new items after (Err (stops.TooLong line)) f c e = absurd f
 finish_takes before now failed fails old new items after (Err stops.Failed) f c e = absurd f
-finish_takes before now failed fails old new items after (Err stops.NoMemory) f c e = tt
+finish_takes before now failed fails old new items after (Err stops.NoMemory) f c e = f before (at_end_before before now c e)
 
 -- a piece was refused
 pub feed_stops : (before now : Option (List ℕ)) (failed fails : ℕ) (old new : Streamed) (items after : List Item) (piece : List ℕ) (stop : StreamStop) → FeedsPiece old new items after piece (Err stop) → Consumes before now piece
@@ -191,17 +233,17 @@ pub feed_stops : (before now : Option (List ℕ)) (failed fails : ℕ) (old new 
 feed_stops before now failed fails old new items after piece (stops.NotText line part) f c = f before now c
 feed_stops before now failed fails old new items after piece (stops.TooLong line) f c = absurd f
 feed_stops before now failed fails old new items after piece stops.Failed f c = absurd f
-feed_stops before now failed fails old new items after piece stops.NoMemory f c = tt
+feed_stops before now failed fails old new items after piece stops.NoMemory f c = f before now c
 
 -- the reader's refusal of a piece, as the stream tells it
 pub feed_refuses : (old new : Streamed) (items after : List Item) (piece : List ℕ) (stop : Stop) → old.kept.refusal ≡ None → FeedResult old.kept new.kept items after piece (Err stop) → old.count + length piece ≤ 1099511627776 → FeedsPiece old new items after piece (Err (stop_of stop))
 feed_refuses old new items after piece (reader_stops.NotText line part) e f few = λ before now c. refused_piece old new.kept items after piece line part before now e f c few
-feed_refuses old new items after piece reader_stops.NoMemory e f few = tt
+feed_refuses old new items after piece reader_stops.NoMemory e f few = λ before now c. starved_piece old new.kept items after piece before now e f c few
 
 -- and of the end
 pub finish_refuses : (old : Streamed) (new : Kept) (items after : List Item) (stop : Stop) → old.kept.refusal ≡ None → FinishResult old.kept new items after (Err stop) → FinishesAll old items after (Err (stop_of stop))
 finish_refuses old new items after (reader_stops.NotText line part) e f = λ before end. fell_short old new items after line part before e f end
-finish_refuses old new items after reader_stops.NoMemory e f = tt
+finish_refuses old new items after reader_stops.NoMemory e f = λ before end. starved_end old new items after before e f end
 
 -- one byte more than may be read
 pub too_long : (before now : Option (List ℕ)) (old new : Streamed) (items : List Item) (byte : ℕ) → new.kept ≡ old.kept → Consumes before now (byte ∷ []) → old.count ≡ 1099511627776 → TellsTooLong before old new items items old.line
@@ -260,3 +302,25 @@ fed_refusal old new items after piece reader_stops.NoMemory e f = (none_again ol
 pub finished_refusal : (old new : Kept) (items after : List Item) (stop : Stop) → old.refusal ≡ None → FinishResult old new items after (Err stop) → new.refusal ≡ Some stop
 finished_refusal old new items after (reader_stops.NotText line part) e f = (finish_again old.refusal old new items after old.rest (Err (reader_stops.NotText line part)) e f).1
 finished_refusal old new items after reader_stops.NoMemory e f = (finish_again old.refusal old new items after old.rest (Err reader_stops.NoMemory) e f).1
+
+-- ---- refusals
+
+one_stop : (a b : Stop) → stop_of a ≡ stop_of b → a ≡ b
+one_stop (reader_stops.NotText line part) (reader_stops.NotText at other) e = cc
+one_stop (reader_stops.NotText line part) reader_stops.NoMemory e = absurd cc
+one_stop reader_stops.NoMemory (reader_stops.NotText at other) e = absurd cc
+one_stop reader_stops.NoMemory reader_stops.NoMemory e = refl
+
+-- the stream tells the refusal that it keeps
+pub told_refusal : {A : Type 0} (result : Result A StreamStop) (kept : Option Stop) (told stop : Stop) → kept ≡ Some told → result ≡ Err (stop_of told) → result ≡ Err (stop_of stop) → kept ≡ Some stop
+told_refusal result kept told stop k is same = let both : stop_of told ≡ stop_of stop = cc in k ∙ ap Some (one_stop told stop both)
+
+-- a failure of the source is no refusal
+pub no_refusal : {A : Type 0} (result : Result A StreamStop) (kept : Option Stop) (stop : Stop) → result ≡ Err stops.Failed → result ≡ Err (stop_of stop) → kept ≡ Some stop
+no_refusal result kept (reader_stops.NotText line part) is same = absurd cc
+no_refusal result kept reader_stops.NoMemory is same = absurd cc
+
+-- nor is an input that is too long
+pub too_long_keeps : {A : Type 0} (result : Result A StreamStop) (kept : Option Stop) (line : ℕ) (stop : Stop) → result ≡ Err (stops.TooLong line) → result ≡ Err (stop_of stop) → kept ≡ Some stop
+too_long_keeps result kept line (reader_stops.NotText at part) is same = absurd cc
+too_long_keeps result kept line reader_stops.NoMemory is same = absurd cc

@@ -1,6 +1,6 @@
 -- What a stream has read, and what one more step answers.
-use Rattle.std.specs.Prelude.{◌≡◌, ◌⊎◌, ℕ, ◌+◌, ◌<◌, ◌≤◌, List, [], ◌∷◌, ◌++◌, length, Option, None, Result, Ok, Err, ⊤}
-use Rattle.std.specs.Io.KnownBytes.{Consumes, IsAtEnd}
+use Rattle.std.specs.Prelude.{◌≡◌, ◌⊎◌, ℕ, ◌+◌, ◌<◌, ◌≤◌, List, [], ◌∷◌, ◌++◌, length, Option, None, Some, Result, Ok, Err}
+use Rattle.std.specs.Io.KnownBytes.{Consumes, IsAtEnd, Keeps}
 use Rattle.heesch_io.specs.Causes.{Rose}
 use Rattle.heesch_text.specs.declared.line.Line.{Line}
 use Rattle.heesch_text.specs.Lines.{text_of}
@@ -10,12 +10,13 @@ use Rattle.heesch_reader.specs.declared.item.Part.{Part}
 use Rattle.heesch_reader.specs.declared.item.Stop.{Stop}
 use Rattle.heesch_reader.specs.declared.progress.Progress.{Progress}
 use Rattle.heesch_reader.specs.Items.{Kept, with_items, none_appended}
-use Rattle.heesch_reader.specs.Feeding.{Stands, IsPrompt, IsShown, Refuses, FallsShort}
+use Rattle.heesch_reader.specs.Feeding.{Stands, IsPrompt, IsShown, Refuses, FallsShort, RunsOut}
 use Rattle.heesch_stream.specs.declared.answers.Taken.{Taken}
 use Rattle.heesch_stream.specs.declared.answers.Taken.TheVariants as takens
 use Rattle.heesch_stream.specs.declared.answers.StreamStop.{StreamStop}
 use Rattle.heesch_stream.specs.declared.answers.StreamStop.TheVariants as stops
 use Rattle.heesch_io.specs.Input.{IsAllOf}
+use Rattle.heesch_stream.specs.Answers.{stop_of}
 use Rattle.heesch_stream.specs.Input.{newlines, IsWholeCatalogue}
 
 -- the most bytes that are read
@@ -123,14 +124,45 @@ pub record TellsTooLong (before : Option (List ℕ)) (old new : Streamed) (items
   pub after_is : after ≡ items
   pub too_many : (first : Option (List ℕ)) (found : List Item) → HasRead first before found old → (t : HasTooMany first found line) × (new.kept ≡ kept_behind t.front found t.begins)
 
+-- the source failed: no byte was read, nothing was appended, and the stream keeps what it did
+pub record TellsFailed (before now : Option (List ℕ)) (failed fails : ℕ) (old new : Streamed) (items after : List Item) : Type 0 where
+  pub rose : Rose failed fails
+  pub unread : Keeps before now
+  pub same : new ≡ old
+  pub after_is : after ≡ items
+
+-- bytes at the front of the input, no more than are read, begin with the text of these items, and those behind it show that they are whole
+pub record HasWhole (first : Option (List ℕ)) (all : List Item) : Type 0 where
+  pub input : List ℕ
+  pub all_of : IsAllOf first input
+  pub front : List ℕ
+  pub behind : List ℕ
+  pub split : input ≡ front ++ behind
+  pub few : length front ≤ input_max
+  pub whole : RunsOut none_appended [] all front
+
+-- memory was refused, and the first of the items that are whole behind those read before were appended, or none
+pub record RunsOutOfMemory (before : Option (List ℕ)) (old : Streamed) (items after : List Item) : Type 0 where
+  pub more : List Item
+  pub after_is : after ≡ items ++ more
+  pub whole : (first : Option (List ℕ)) (found : List Item) → HasRead first before found old → HasWhole first (found ++ more)
+
 -- the answer to one step, by what the source had left and has, and how often it had failed and has
 abbrev pub TakeResult : (before now : Option (List ℕ)) (failed fails : ℕ) (old new : Streamed) (items after : List Item) → Result Taken StreamStop → Type 0
 TakeResult before now failed fails old new items after (Ok takens.Piece) = TakesPiece before now old new items after
 TakeResult before now failed fails old new items after (Ok takens.End) = TakesEnd before old items after
 TakeResult before now failed fails old new items after (Err (stops.NotText line part)) = TellsFault before old items after line part
 TakeResult before now failed fails old new items after (Err (stops.TooLong line)) = TellsTooLong before old new items after line
-TakeResult before now failed fails old new items after (Err stops.Failed) = Rose failed fails
-TakeResult before now failed fails old new items after (Err stops.NoMemory) = ⊤
+TakeResult before now failed fails old new items after (Err stops.Failed) = TellsFailed before now failed fails old new items after
+TakeResult before now failed fails old new items after (Err stops.NoMemory) = RunsOutOfMemory before old items after
+
+-- where the reader refuses, the stream keeps that refusal
+abbrev pub KeepsRefusal : {A : Type 0} → Result A StreamStop → Streamed → Type 0
+KeepsRefusal result new = (stop : Stop) → result ≡ Err (stop_of stop) → new.kept.refusal ≡ Some stop
+
+-- a stream that keeps a refusal answers it for good: no byte is read, nothing is appended, and it keeps what it did
+abbrev pub StaysRefused : (before now : Option (List ℕ)) (old new : Streamed) (items after : List Item) → Result Taken StreamStop → Type 0
+StaysRefused before now old new items after result = (stop : Stop) → old.kept.refusal ≡ Some stop → (result ≡ Err (stop_of stop)) × Keeps before now × (new ≡ old) × (after ≡ items)
 
 -- a step consumes one piece
 abbrev pub TakesOnePiece : (before now : Option (List ℕ)) → Type 0
@@ -144,7 +176,7 @@ FeedsPiece old new items after piece (Ok _) = (before now : Option (List ℕ)) �
 FeedsPiece old new items after piece (Err (stops.NotText line part)) = (before now : Option (List ℕ)) → Consumes before now piece → TellsFault before old items after line part
 FeedsPiece old new items after piece (Err (stops.TooLong line)) = ⊥
 FeedsPiece old new items after piece (Err stops.Failed) = ⊥
-FeedsPiece old new items after piece (Err stops.NoMemory) = ⊤
+FeedsPiece old new items after piece (Err stops.NoMemory) = (before now : Option (List ℕ)) → Consumes before now piece → RunsOutOfMemory before old items after
 
 -- the answer to the end of the bytes
 abbrev pub FinishesAll : (old : Streamed) (items after : List Item) → Result Taken StreamStop → Type 0
@@ -153,4 +185,4 @@ FinishesAll old items after (Ok takens.End) = (before : Option (List ℕ)) → I
 FinishesAll old items after (Err (stops.NotText line part)) = (before : Option (List ℕ)) → IsAtEnd before → TellsFault before old items after line part
 FinishesAll old items after (Err (stops.TooLong line)) = ⊥
 FinishesAll old items after (Err stops.Failed) = ⊥
-FinishesAll old items after (Err stops.NoMemory) = ⊤
+FinishesAll old items after (Err stops.NoMemory) = (before : Option (List ℕ)) → IsAtEnd before → RunsOutOfMemory before old items after

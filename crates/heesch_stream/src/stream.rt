@@ -2,7 +2,7 @@
 ghost use Rattle.std.specs.Prelude.{◌≡◌, ℕ, ◌+◌, ◌≤◌, List, [], length, None, Option, Ok};
 ghost use Rattle.std.specs.Io.KnownBytes.{IsAtEnd};
 ghost use Rattle.heesch_reader.specs.Endings.{TellsEnding};
-ghost use Rattle.heesch_stream.specs.Taking.{HasRead, TakeResult, TakesOnePiece, FeedsPiece, FinishesAll};
+ghost use Rattle.heesch_stream.specs.Taking.{HasRead, TakeResult, TakesOnePiece, KeepsRefusal, StaysRefused, FeedsPiece, FinishesAll};
 
 use crate::answers::{StreamStop, Taken};
 use crate::newlines::newlines;
@@ -55,15 +55,18 @@ impl Stream {
     ///
     /// `End` comes where the bytes ended and are a whole catalogue. Errors: `NotText` with the first line that can't stand in
     /// a catalogue; the items that are whole before it are appended. `TooLong` where the first `INPUT_MAX` bytes begin a
-    /// catalogue and one more byte follows. `Failed` only where the source's count of faults rose. `NoMemory` where memory was
-    /// refused. After an error nothing is promised of another call,
-    /// but that behind `TooLong` the stream keeps what it did. Each byte is looked at twice.
+    /// catalogue and one more byte follows; nothing is appended, and the stream keeps what it did. `Failed` only where the
+    /// source's count of faults rose; no byte is read, nothing is appended, and the stream keeps what it did, so that reading
+    /// may go on. `NoMemory` where memory was refused; the first of the items that are whole by now may be appended. After
+    /// `NotText` and `NoMemory` the stream answers the same for good, and reads nothing. Each byte is looked at twice.
     pub fn take<R: Source>(
         &mut self,
         source: &mut R,
         items: &mut Seq<Item>,
     ) -> Result<Taken, StreamStop>
         ensures taken { TakeResult (R.left source.old) (R.left source.new) (R.faults source.old) (R.faults source.new) self.old self.new items.old items.new result }
+        ensures keeps { KeepsRefusal result self.new }
+        ensures stays { StaysRefused (R.left source.old) (R.left source.new) self.old self.new items.old items.new result }
         ensures consumed { TakesOnePiece (R.left source.old) (R.left source.new) }
         ensures ended { result ≡ Ok Taken.End → IsAtEnd (R.left source.new) }
         ensures later { R.faults source.old ≤ R.faults source.new }
@@ -100,6 +103,7 @@ impl Stream {
         requires going { self.old.kept.refusal ≡ None }
         requires all { self.old.count ≡ INPUT_MAX }
         ensures taken { TakeResult (R.left source.old) (R.left source.new) (R.faults source.old) (R.faults source.new) self.old self.new items.old items.new result }
+        ensures keeps { KeepsRefusal result self.new }
         ensures consumed { TakesOnePiece (R.left source.old) (R.left source.new) }
         ensures ended { result ≡ Ok Taken.End → IsAtEnd (R.left source.new) }
         ensures later { R.faults source.old ≤ R.faults source.new }
@@ -115,7 +119,8 @@ impl Stream {
     fn feed(&mut self, piece: &[u8], items: &mut Seq<Item>) -> Result<(), StreamStop>
         requires going { self.old.kept.refusal ≡ None }
         requires room { self.old.count + length piece.now ≤ INPUT_MAX }
-        ensures { FeedsPiece self.old self.new items.old items.new piece.now result }
+        ensures fed { FeedsPiece self.old self.new items.old items.new piece.now result }
+        ensures keeps { KeepsRefusal result self.new }
     {
         let fed = self.reader.feed(piece, items);
         self.refusal = fed.err();
@@ -128,7 +133,8 @@ impl Stream {
     /// Tells the reader that the bytes ended.
     fn finish(&mut self, items: &mut Seq<Item>) -> Result<Taken, StreamStop>
         requires going { self.old.kept.refusal ≡ None }
-        ensures { FinishesAll self.old items.old items.new result }
+        ensures finished { FinishesAll self.old items.old items.new result }
+        ensures keeps { KeepsRefusal result self.new }
     {
         let finished = self.reader.finish(items);
         self.refusal = finished.err();

@@ -316,7 +316,6 @@ pub record Stepped (first now : Option (List ℕ)) (new : Streamed) (items : Lis
   pub taken : Result Taken StreamStop
   pub going : Going first before old table
   pub result : TakeResult before now failed fails old new [] items taken
-  pub one_piece : TakesOnePiece before now
   pub onward_is : IsOnward taken (Ok onward)
 
 pub items_ready : {first now : Option (List ℕ)} {new : Streamed} {items : List Item} {onward : Onward} {table : Table} (s : Stepped first now new items onward table) → AreReady s.going.found items
@@ -344,17 +343,17 @@ pub input_told : {first now : Option (List ℕ)} {new : Streamed} {items : List 
 input_told {first} {now} {new} {items} s after line number fault k =
     input_fault first s.before now s.failed s.fails s.old new items s.going.found s.taken after line number s.going.has_read s.result (subst (λ (o : Onward). IsOnward s.taken (Ok o)) fault s.onward_is) (k s.going.found s.going.table (items_ready s))
 
--- what was read before this step decides nothing
-pub reads_no_further : {first now : Option (List ℕ)} {new : Streamed} {items : List Item} {onward : Onward} {table : Table} → Stepped first now new items onward table → ReadsNoFurther first now
-reads_no_further {first} {now} s =
-    let h = s.going.has_read in
-    let t = s.going.table in
+-- what was read before one more piece decides nothing
+pub going_no_further : (first before now : Option (List ℕ)) (s : Streamed) (table : Table) → Going first before s table → TakesOnePiece before now → ReadsNoFurther first now
+going_no_further first before now s table going piece =
+    let h = going.has_read in
+    let t = going.table in
     record {
       bytes = h.bytes;
-      last = s.one_piece.0;
-      consumed = consumes_both first s.before now h.bytes s.one_piece.0 h.consumed s.one_piece.1;
-      one_piece = s.one_piece.2;
-      undecided = record { all = s.going.found; begins = h.begins; grid = t.grid; of_grid = t.of_grid; shapes = t.shapes };
+      last = piece.0;
+      consumed = consumes_both first before now h.bytes piece.0 h.consumed piece.1;
+      one_piece = piece.2;
+      undecided = record { all = going.found; begins = h.begins; grid = t.grid; of_grid = t.of_grid; shapes = t.shapes };
     }
 
 -- the end was read at the end of the input

@@ -37,7 +37,7 @@ returns-in-Some-first_fault-clause-no_further g c =
     let first = g.R.Source.left c.args.source.now in
     let h = c.in_ok-reading.ensures.ok first (c.new-stream.ensures first) in
     start_no_further first (g.R.Source.left c.read_first.new.source) (g.R.Source.left c.gather.new.source) c.in-Some.header c.read_first.new.items c.if-header.false (rw c.as_slice.ensures at c.in-Some.ensures.some)
-    (c.in_ok-reading-2.ensures.no_further first [] h) (c.in_ok-reading.ensures.no_further first (c.new-stream.ensures first))
+    (c.gather.ensures.no_further first [] h) (c.read_first.ensures.no_further first (c.new-stream.ensures first))
 
 pub check_named-requires-clause-opened : goal.check_named-requires-clause-opened
 check_named-requires-clause-opened g c κs within =
@@ -55,12 +55,12 @@ returns-clause-ok g c =
 pub returns-in_default-clause-no_further : goal.returns-in_default-clause-no_further
 returns-in_default-clause-no_further g c =
     let first = g.R.Source.left c.args.source.now in
-    c.in_ok-reading.ensures.no_further first (c.new-stream.ensures first)
+    c.read_first.ensures.no_further first (c.new-stream.ensures first)
 
 pub returns-then-header-clause-no_further : goal.returns-then-header-clause-no_further
 returns-then-header-clause-no_further g c =
     let first = g.R.Source.left c.args.source.now in
-    c.in_ok-reading.ensures.no_further first (c.new-stream.ensures first)
+    c.read_first.ensures.no_further first (c.new-stream.ensures first)
 
 pub returns-clause-no_further : goal.returns-clause-no_further
 returns-clause-no_further g c =
@@ -68,4 +68,16 @@ returns-clause-no_further g c =
     let h = c.in_ok-reading.ensures.ok first (c.new-stream.ensures first) in
     c.check_named.ensures.no_further first (c.in_ok-reading-2.ensures.ok.goes_on first [] h)
     (start_no_further first (g.R.Source.left c.read_first.new.source) (g.R.Source.left c.gather.new.source) c.in-Some.header c.read_first.new.items c.if-header.false (rw c.as_slice.ensures at c.in-Some.ensures.some)
-    (c.in_ok-reading-2.ensures.no_further first [] h) (c.in_ok-reading.ensures.no_further first (c.new-stream.ensures first)))
+    (c.gather.ensures.no_further first [] h) (c.read_first.ensures.no_further first (c.new-stream.ensures first)))
+
+pub returns-in_err-reading-clause-no_further : goal.returns-in_err-reading-clause-no_further
+returns-in_err-reading-clause-no_further g c =
+    let first = g.R.Source.left c.args.source.now in
+    c.read_first.ensures.no_further first (c.new-stream.ensures first)
+
+pub returns-in_err-reading-2-clause-no_further : goal.returns-in_err-reading-2-clause-no_further
+returns-in_err-reading-2-clause-no_further g c =
+    let first = g.R.Source.left c.args.source.now in
+    let h = c.in_ok-reading.ensures.ok first (c.new-stream.ensures first) in
+    start_no_further first (g.R.Source.left c.read_first.new.source) (g.R.Source.left c.gather.new.source) c.in-Some.header c.read_first.new.items c.if-header.false (rw c.as_slice.ensures at c.in-Some.ensures.some)
+    (c.gather.ensures.no_further first [] h) (c.read_first.ensures.no_further first (c.new-stream.ensures first))

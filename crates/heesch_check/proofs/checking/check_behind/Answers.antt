@@ -65,7 +65,7 @@ rounds-preserved g c = record {
   no_further = λ first h none.
       let u = c.rounds.invariant.goes_on first h in
       next_no_further first (g.R.Source.left c.rounds.source) (g.R.Source.left c.gather.new.source) c.args.judge.header c.rounds.stream c.rounds.judge.entries u c.requires.full
-      (next_stops first (g.R.Source.left c.rounds.source) (g.R.Source.left c.gather.new.source) c.args.judge.header c.rounds.stream c.rounds.judge.entries u _ c.new-round.ensures (c.in_ok-reading.ensures.no_further first u.all)) (c.rounds.invariant.no_further first h none);
+      (next_stops first (g.R.Source.left c.rounds.source) (g.R.Source.left c.gather.new.source) c.args.judge.header c.rounds.stream c.rounds.judge.entries u _ c.new-round.ensures (c.gather.ensures.no_further first u.all)) (c.rounds.invariant.no_further first h none);
   later = omega (arith, c.rounds.invariant.later, c.gather.ensures.later);
 }
 
@@ -76,4 +76,19 @@ pub returns-in-Some-answer-clause-no_further : goal.returns-in-Some-answer-claus
 returns-in-Some-answer-clause-no_further g c first h none =
     let u = c.rounds.invariant.goes_on first h in
     next_no_further first (g.R.Source.left c.rounds.source) (g.R.Source.left c.gather.new.source) c.args.judge.header c.rounds.stream c.rounds.judge.entries u c.requires.full
-    (next_stops first (g.R.Source.left c.rounds.source) (g.R.Source.left c.gather.new.source) c.args.judge.header c.rounds.stream c.rounds.judge.entries u _ c.new-round.ensures (c.in_ok-reading.ensures.no_further first u.all)) (c.rounds.invariant.no_further first h none)
+    (next_stops first (g.R.Source.left c.rounds.source) (g.R.Source.left c.gather.new.source) c.args.judge.header c.rounds.stream c.rounds.judge.entries u _ c.new-round.ensures (c.gather.ensures.no_further first u.all)) (c.rounds.invariant.no_further first h none)
+
+pub returns-in_err-told-clause-no_further : goal.returns-in_err-told-clause-no_further
+returns-in_err-told-clause-no_further g c first h none = none
+
+pub returns-in_err-reading-clause-no_further : goal.returns-in_err-reading-clause-no_further
+returns-in_err-reading-clause-no_further g c first h none =
+    let u = c.rounds.invariant.goes_on first h in
+    next_no_further first (g.R.Source.left c.rounds.source) (g.R.Source.left c.gather.new.source) c.args.judge.header c.rounds.stream c.rounds.judge.entries u c.requires.full
+    (next_stops first (g.R.Source.left c.rounds.source) (g.R.Source.left c.gather.new.source) c.args.judge.header c.rounds.stream c.rounds.judge.entries u _ c.new-round.ensures (c.gather.ensures.no_further first u.all)) (c.rounds.invariant.no_further first h none)
+
+pub returns-in_err-answer-clause-no_further : goal.returns-in_err-answer-clause-no_further
+returns-in_err-answer-clause-no_further g c first h none =
+    let u = c.rounds.invariant.goes_on first h in
+    next_no_further first (g.R.Source.left c.rounds.source) (g.R.Source.left c.gather.new.source) c.args.judge.header c.rounds.stream c.rounds.judge.entries u c.requires.full
+    (next_stops first (g.R.Source.left c.rounds.source) (g.R.Source.left c.gather.new.source) c.args.judge.header c.rounds.stream c.rounds.judge.entries u _ c.new-round.ensures (c.gather.ensures.no_further first u.all)) (c.rounds.invariant.no_further first h none)

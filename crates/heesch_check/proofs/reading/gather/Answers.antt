@@ -56,3 +56,7 @@ returns-in_default-reading g c =
       failed = λ e. absurd cc;
       later = omega (arith, c.pieces.invariant.later, c.read.ensures.later);
     }
+
+pub returns-in_err-reading-clause-no_further : goal.returns-in_err-reading-clause-no_further
+returns-in_err-reading-clause-no_further g c first found h =
+    inr (lacks_items first (g.R.Source.left c.pieces.source) (g.R.Source.left c.read.new.source) found c.args.items.now c.pieces.items c.pieces.stream c.args.enough (c.pieces.invariant.goes_on first found h) c.pieces.invariant.more (omega (arith, c.len.ensures, c.pieces-test.true)) c.read.ensures.one_piece)

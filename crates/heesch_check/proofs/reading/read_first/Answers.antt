@@ -11,3 +11,6 @@ returns-in_default-clause-no_further g c first h = reads_no_further first (g.R.S
 
 pub returns-then-not-is_empty-clause-no_further : goal.returns-then-not-is_empty-clause-no_further
 returns-then-not-is_empty-clause-no_further g c first h = reads_no_further first (g.R.Source.left c.pieces.source) (g.R.Source.left c.read.new.source) [] c.pieces.stream (c.pieces.invariant.reads first h) (inl refl) c.read.ensures.one_piece
+
+pub returns-in_err-reading-clause-no_further : goal.returns-in_err-reading-clause-no_further
+returns-in_err-reading-clause-no_further g c first h = reads_no_further first (g.R.Source.left c.pieces.source) (g.R.Source.left c.read.new.source) [] c.pieces.stream (c.pieces.invariant.reads first h) (inl refl) c.read.ensures.one_piece

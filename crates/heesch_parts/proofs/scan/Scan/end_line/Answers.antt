@@ -1,6 +1,6 @@
-use Rattle.std.proofs.Common.{refl, sym, inl, inr, ◌∙◌}
+use Rattle.std.proofs.Common.{[], ◌∷◌, refl, sym, inl, inr, ◌∙◌}
 use Rattle.heesch_parts.specs.Joining.{kept_of}
-use Rattle.heesch_parts.proofs.Feeding.{line_stops, advanced, leaves_room, may_settle, held_few}
+use Rattle.heesch_parts.proofs.Feeding.{line_stops, advanced, refused_before, leaves_room, may_settle, held_few}
 use Rattle.heesch_parts.proofs.scan.Scan.end_line.Goals as goal
 
 pub returns-in-Err-NotALine-clause-fed : goal.returns-in-Err-NotALine-clause-fed
@@ -28,3 +28,6 @@ returns-in-Err-clause-fed c = λ before given fed.
 
 pub returns-in-Ok-next-clause-room : goal.returns-in-Ok-next-clause-room
 returns-in-Ok-next-clause-room c = leaves_room c.advance.result c.args.items.now c.advance.new.items (kept_of c.args.self.now) (kept_of c.advance.new.self) c.in-Ok.line c.in-Ok-next.reached (c.in-Ok.ensures.ok.1 ∙ c.as_slice.ensures.value) c.requires.room c.advance.ensures
+
+pub returns-in-Err-NoMemory-clause-fed : goal.returns-in-Err-NoMemory-clause-fed
+returns-in-Err-NoMemory-clause-fed c = λ before given fed. (tt, refused_before before (10 ∷ []) given c.args.items.now (kept_of c.args.self.now) fed)

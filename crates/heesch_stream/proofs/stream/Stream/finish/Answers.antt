@@ -4,11 +4,11 @@ use Rattle.std.specs.Result.{result_err}
 use Rattle.heesch_reader.specs.Feeding.{FinishResult}
 use Rattle.heesch_stream.specs.Answers.{stop_of}
 use Rattle.heesch_stream.specs.Taking.{Streamed, TakesEnd, FinishesAll}
-use Rattle.heesch_stream.proofs.Reading.{finish_refuses, finished_room, took_end}
+use Rattle.heesch_stream.proofs.Reading.{finish_refuses, finished_refusal, finished_room, told_refusal, took_end}
 use Rattle.heesch_stream.proofs.stream.Stream.finish.Goals as goal
 
-pub returns-in_err-finished : goal.returns-in_err-finished
-returns-in_err-finished c =
+pub returns-in_err-finished-clause-finished : goal.returns-in_err-finished-clause-finished
+returns-in_err-finished-clause-finished c =
     let p = err_from_is_err_and c.from_residual.result c.from_residual.ensures.1 in
     let going : c.self.inside.reader.refusal ≡ None = subst (λ (s : Streamed). s.kept.refusal ≡ None) (sym c.self.view_is) c.requires.going in
     let told = subst (λ r. FinishResult c.self.inside.reader c.finish-finished.new.self c.args.items.now c.finish-finished.new.items r) c.in_err-finished.was c.finish-finished.ensures in
@@ -27,8 +27,16 @@ invariant_of-self-2 c =
       room = λ e. room.1;
     }
 
-pub returns : goal.returns
-returns c = λ before end.
+pub returns-clause-finished : goal.returns-clause-finished
+returns-clause-finished c = λ before end.
     let going : c.self.inside.reader.refusal ≡ None = subst (λ (s : Streamed). s.kept.refusal ≡ None) (sym c.self.view_is) c.requires.going in
     let told = subst (λ r. FinishResult c.self.inside.reader c.finish-finished.new.self c.args.items.now c.finish-finished.new.items r) c.in_ok-finished.was c.finish-finished.ensures in
     subst (λ (s : Streamed). TakesEnd before s c.args.items.now c.finish-finished.new.items) c.self.view_is (took_end _ c.finish-finished.new.self c.args.items.now c.finish-finished.new.items c.in_ok-finished.field-0 before going told end)
+
+pub returns-in_err-finished-clause-keeps : goal.returns-in_err-finished-clause-keeps
+returns-in_err-finished-clause-keeps c = λ stop same.
+    let p = err_from_is_err_and c.from_residual.result c.from_residual.ensures.1 in
+    let going : c.self.inside.reader.refusal ≡ None = subst (λ (s : Streamed). s.kept.refusal ≡ None) (sym c.self.view_is) c.requires.going in
+    let told = subst (λ r. FinishResult c.self.inside.reader c.finish-finished.new.self c.args.items.now c.finish-finished.new.items r) c.in_err-finished.was c.finish-finished.ensures in
+    told_refusal c.from_residual.result c.finish-finished.new.self.refusal c.in_err-finished.field-0.0 stop (finished_refusal c.self.inside.reader c.finish-finished.new.self c.args.items.now c.finish-finished.new.items c.in_err-finished.field-0.0 going told)
+    (p.1 ∙ ap Err p.2) same
