@@ -1,36 +1,19 @@
 //! Cuts over the universes of small shapes.
-ghost use Rattle.std.specs.Prelude.{◌≡◌, ◌≤◌, true, All, IfOk, IfSome, vec_len};
-ghost use Rattle.heesch_grid.specs.declared.Cell.{Cell};
-ghost use Rattle.heesch_grid.specs.Cells.{has};
+ghost use Rattle.std.specs.Prelude.{◌≡◌, ◌≤◌, All, IfOk, vec_len};
 ghost use Rattle.heesch_grid.specs.Polyform.{IsCanonicalListOf};
 ghost use Rattle.heesch_grid.specs.Vectors.{IsWithin};
 
-use heesch_cuts::{clause_of, cut_for, lawful};
+use crate::made::{canonical_of, cells};
 use heesch_cert::Cut;
 use heesch_cnf::Lit;
+use heesch_cuts::{clause_of, cut_for, lawful};
 use heesch_grid::{Cell, Grid, Hex, Square};
 use heesch_io::{NoMemory, Seq};
 use heesch_place::Universe;
 use heesch_shape::Shape;
 use std::alloc::Global;
+use std::process::Abort;
 use std::test::Fail;
-
-macro_rules! cells {
-    ($($a:literal, $b:literal);*) => {
-        [$(Cell { a: $a, b: $b }),*]
-    };
-}
-
-/// The canonical shape of these cells, if they have one.
-fn canonical_of<G: Grid>(cells: &[Cell]) -> Option<Shape<G>>
-    requires { (c : Cell) → has cells.now c ≡ true → IsWithin 100000 c }
-    ensures { IfSome result (λ s. IsCanonicalListOf G.geometry s s) }
-{
-    match Shape::<G>::of(cells) {
-        Ok(shape) => Some(shape.canonical()),
-        Err(_) => None,
-    }
-}
 
 /// The cut of this level, hole and border.
 fn cut_of(alloc: Global, level: u32, hole: &[Cell], border: &[u32]) -> Result<Cut, NoMemory>
@@ -55,6 +38,7 @@ fn numbers_of(alloc: Global, clause: &[Lit]) -> Result<Vec<i64>, NoMemory> {
 
 /// The clause of the cut over the universe of the single square at level 2, or None where the cut isn't lawful.
 fn clause_over_square(
+    rt: &impl Abort,
     alloc: Global,
     level: u32,
     hole: &[Cell],
@@ -62,9 +46,7 @@ fn clause_over_square(
 ) -> Result<Option<Vec<i64>>, NoMemory>
     requires { All (IsWithin 100000) hole.now }
 {
-    let Some(square) = canonical_of::<Square>(&cells![0, 0]) else {
-        return Ok(None);
-    };
+    let square = canonical_of::<Square>(rt, &cells![0, 0]);
     let universe = Universe::of(alloc, &square, 2)?;
     let cut = cut_of(alloc, level, hole, border)?;
     if !lawful(alloc, &square, &universe, &cut)? {
@@ -79,12 +61,12 @@ fn clause_over_square(
 fn conditions_of_the_row_are_all_needed(rt: HostRuntime) -> Result<(), Fail> {
     let alloc = rt.alloc();
     let hole = cells![1, 1];
-    let clause = clause_over_square(alloc, 2, &hole, &[5, 7, 19, 23])?;
+    let clause = clause_over_square(&rt, alloc, 2, &hole, &[5, 7, 19, 23])?;
     assert!(rt; clause.is_some_and(|c| c.as_slice() == [-5, -7, 8, -19, -23].as_slice()));
-    let same = clause_over_square(alloc, 2, &cells![0, 1; 1, 1], &[2])?;
+    let same = clause_over_square(&rt, alloc, 2, &cells![0, 1; 1, 1], &[2])?;
     assert!(rt; same.is_none());
     for level in [0, 1, 3] {
-        assert!(rt; clause_over_square(alloc, level, &hole, &[5, 7, 19, 23])?.is_none());
+        assert!(rt; clause_over_square(&rt, alloc, level, &hole, &[5, 7, 19, 23])?.is_none());
     }
     for border in [
         &[5, 7, 19][..],
@@ -93,11 +75,11 @@ fn conditions_of_the_row_are_all_needed(rt: HostRuntime) -> Result<(), Fail> {
         &[0, 5, 7, 19, 23],
         &[5, 7, 19, 23, 25],
     ] {
-        assert!(rt; clause_over_square(alloc, 2, &hole, border)?.is_none());
+        assert!(rt; clause_over_square(&rt, alloc, 2, &hole, border)?.is_none());
     }
-    assert!(rt; clause_over_square(alloc, 2, &[], &[])?.is_none());
-    assert!(rt; clause_over_square(alloc, 2, &cells![0, 0], &[2, 4, 5, 7])?.is_none());
-    assert!(rt; clause_over_square(alloc, 2, &cells![1, 1; 1, 1], &[5, 7, 19, 23])?.is_none());
+    assert!(rt; clause_over_square(&rt, alloc, 2, &[], &[])?.is_none());
+    assert!(rt; clause_over_square(&rt, alloc, 2, &cells![0, 0], &[2, 4, 5, 7])?.is_none());
+    assert!(rt; clause_over_square(&rt, alloc, 2, &cells![1, 1; 1, 1], &[5, 7, 19, 23])?.is_none());
     Ok(())
 }
 
@@ -132,23 +114,20 @@ fn cut_with_clause<G: Grid>(
     Ok(Some((cut, numbers)))
 }
 
-/// Whether the cut for that model has this level, hole, border and clause.
+/// Whether the cut for that model has this hole, border and clause, and the level of the model.
 fn gives<G: Grid>(
     alloc: Global,
-    cells: &[Cell],
-    chosen: &[u32],
+    shape: &Shape<G>,
     level: u32,
+    chosen: &[u32],
     hole: &[Cell],
     border: &[u32],
     clause: &[i64],
 ) -> Result<bool, NoMemory>
     requires level { (1 ≤ level) × (level ≤ 6) }
-    requires within { (c : Cell) → has cells.now c ≡ true → IsWithin 100000 c }
+    requires canonical { IsCanonicalListOf G.geometry shape.now shape.now }
 {
-    let Some(shape) = canonical_of::<G>(cells) else {
-        return Ok(false);
-    };
-    let Some((cut, numbers)) = cut_with_clause(alloc, &shape, level, chosen)? else {
+    let Some((cut, numbers)) = cut_with_clause(alloc, shape, level, chosen)? else {
         return Ok(false);
     };
     Ok(
@@ -164,31 +143,27 @@ fn gives<G: Grid>(
 #[test]
 fn models_with_holes_get_a_joined_one(rt: HostRuntime) -> Result<(), Fail> {
     let alloc = rt.alloc();
-    let square = cells![0, 0];
-    let one = gives::<Square>(
-        alloc,
-        &square,
-        &[5, 7, 19, 23],
-        2,
-        &cells![1, 1],
-        &[5, 7, 19, 23],
-        &[-5, -7, 8, -19, -23],
-    )?;
-    assert!(rt; one);
-    let two = gives::<Square>(
-        alloc,
-        &square,
-        &[2, 4, 5, 7, 9, 10, 14, 19, 23],
-        2,
-        &cells![-1, -1],
-        &[2, 4, 10, 14],
-        &[1, -2, -4, -10, -14],
-    )?;
-    assert!(rt; two);
-    let heptomino = cells![0, 0; 1, 0; 2, 0; 0, 1; 2, 1; 0, 2; 1, 2];
-    assert!(rt; gives::<Square>(alloc, &heptomino, &[], 1, &cells![1, 1], &[], &[])?);
-    let ring = cells![1, 0; 2, 0; 0, 1; 2, 1; 0, 2; 1, 2];
-    assert!(rt; gives::<Hex>(alloc, &ring, &[], 1, &cells![1, 1], &[], &[])?);
+    let square = canonical_of::<Square>(&rt, &cells![0, 0]);
+    for (chosen, hole, border, clause) in [
+        (
+            [5, 7, 19, 23].as_slice(),
+            cells![1, 1],
+            [5, 7, 19, 23],
+            [-5, -7, 8, -19, -23],
+        ),
+        (
+            [2, 4, 5, 7, 9, 10, 14, 19, 23].as_slice(),
+            cells![-1, -1],
+            [2, 4, 10, 14],
+            [1, -2, -4, -10, -14],
+        ),
+    ] {
+        assert!(rt; gives(alloc, &square, 2, chosen, &hole, &border, &clause)?);
+    }
+    let heptomino = canonical_of::<Square>(&rt, &cells![0, 0; 1, 0; 2, 0; 0, 1; 2, 1; 0, 2; 1, 2]);
+    assert!(rt; gives(alloc, &heptomino, 1, &[], &cells![1, 1], &[], &[])?);
+    let ring = canonical_of::<Hex>(&rt, &cells![1, 0; 2, 0; 0, 1; 2, 1; 0, 2; 1, 2]);
+    assert!(rt; gives(alloc, &ring, 1, &[], &cells![1, 1], &[], &[])?);
     Ok(())
 }
 
@@ -196,12 +171,9 @@ fn models_with_holes_get_a_joined_one(rt: HostRuntime) -> Result<(), Fail> {
 #[test]
 fn open_models_get_none(rt: HostRuntime) -> Result<(), Fail> {
     let alloc = rt.alloc();
-    let square = canonical_of::<Square>(&cells![0, 0]);
-    assert!(rt; square.is_some());
-    if let Some(square) = square {
-        assert!(rt; cut_with_clause(alloc, &square, 2, &[])?.is_none());
-        assert!(rt; cut_with_clause(alloc, &square, 2, &[1, 2, 3, 4, 5, 6, 7, 8])?.is_none());
-        assert!(rt; cut_with_clause(alloc, &square, 2, &[5, 7, 8, 19, 23])?.is_none());
+    let square = canonical_of::<Square>(&rt, &cells![0, 0]);
+    for chosen in [[].as_slice(), &[1, 2, 3, 4, 5, 6, 7, 8], &[5, 7, 8, 19, 23]] {
+        assert!(rt; cut_with_clause(alloc, &square, 2, chosen)?.is_none());
     }
     Ok(())
 }

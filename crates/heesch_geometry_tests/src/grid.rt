@@ -1,5 +1,5 @@
 //! Neighbours and isometries.
-use heesch_grid::*;
+use heesch_grid::{Cell, Grid, Hex, Iamond, Iso, Square};
 
 /// The i-th neighbours are those of the tables of the grids, in cell order.
 #[test]

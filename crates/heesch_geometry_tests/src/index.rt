@@ -1,6 +1,6 @@
 //! The numbers at a cell rise.
-use heesch_index::CellIndex;
 use heesch_grid::Cell;
+use heesch_index::CellIndex;
 
 /// Three overlapping sets of squares: their numbers rise from 1 at each cell, whatever the order of the cells in between, and a
 /// cell that no set has gives none.

@@ -1,6 +1,6 @@
 //! A lattice worked by hand.
-use heesch_lattice::{Triple, triples};
 use heesch_grid::{Cell, Square};
+use heesch_lattice::{Triple, triples};
 use std::test::Fail;
 
 /// The lattice of (2, 0) and (1, 2), and the triples of four units.

@@ -16,6 +16,8 @@ mod kite;
 #[cfg(test)]
 mod lattice;
 #[cfg(test)]
+mod made;
+#[cfg(test)]
 mod orbit;
 #[cfg(test)]
 mod place;

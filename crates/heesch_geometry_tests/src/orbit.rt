@@ -1,71 +1,47 @@
 //! Classes of small covers.
-ghost use Rattle.std.specs.Prelude.{◌≡◌, true, IfOk};
-ghost use Rattle.heesch_grid.specs.declared.Cell.{Cell};
-ghost use Rattle.heesch_grid.specs.Cells.{has};
-ghost use Rattle.heesch_grid.specs.Vectors.{IsWithin};
-
-use heesch_orbit::classes;
-use heesch_cert::{Member, Tiling};
+use crate::made::{cells, isos, shape_of, tiling_of};
+use heesch_cert::{Classes, Member};
 use heesch_grid::{Cell, Grid, Iamond, Iso, Square};
-use heesch_io::Seq;
+use heesch_io::NoMemory;
 use heesch_lattice::Triple;
-use heesch_shape::{Shape, ShapeFault};
+use heesch_orbit::classes;
+use std::alloc::Global;
+use std::process::Abort;
 use std::test::Fail;
 
-/// The shape of these cells.
-fn shape_of<G: Grid>(cells: &[Cell]) -> Result<Shape<G>, ShapeFault>
-    requires { (c : Cell) → has cells.now c ≡ true → IsWithin 100000 c }
-    ensures { IfOk result (λ s. (c : Cell) → has s c ≡ true → IsWithin 100000 c) }
-{
-    Shape::of(cells)
+/// The classes of the tiles at these places of the shape of these cells.
+fn classes_of<G: Grid>(
+    rt: &impl Abort,
+    alloc: Global,
+    cells: &[Cell],
+    triple: Triple,
+    places: &[Iso],
+) -> Result<Classes, NoMemory> {
+    let shape = shape_of::<G>(rt, cells);
+    let tiling = tiling_of::<G>(rt, alloc, triple, places)?;
+    classes(alloc, &shape, &tiling)
+}
+
+/// The tiles are in one class, by these symmetries.
+fn assert_one_class(rt: &impl Abort, found: &Classes, symmetries: &[Iso]) {
+    assert_eq!(rt; found.count, 1);
+    let members = found.members.as_slice();
+    assert_eq!(rt; members.len(), symmetries.len());
+    for (member, by) in members.iter().zip(symmetries) {
+        assert_eq!(rt; *member, Member { class: 1, by: *by });
+    }
 }
 
 /// The two triangles of a unit are in one class.
 #[test]
 fn triangles_are_in_one_class(rt: HostRuntime) -> Result<(), Fail> {
     let alloc = rt.alloc();
-    let shape = shape_of::<Iamond>(&[Cell { a: 1, b: 1 }])?;
-    let places = vec![in alloc;
-        Iso {
-            turn: 0,
-            da: 0,
-            db: 0
-        },
-        Iso {
-            turn: 3,
-            da: 0,
-            db: 0
-        },
-    ]?;
-    let triple = Triple::new(1, 1, 0).ok_or("triple")?;
-    let tiling = Tiling {
-        triple,
-        places: Seq::from_vec(places),
-    };
-    let found = classes(alloc, &shape, &tiling)?;
-    assert_eq!(rt; found.count, 1);
-    assert_eq!(rt;
-        found.members.as_slice(),
-        [
-            Member {
-                class: 1,
-                by: Iso {
-                    turn: 0,
-                    da: 0,
-                    db: 0
-                }
-            },
-            Member {
-                class: 1,
-                by: Iso {
-                    turn: 1,
-                    da: 0,
-                    db: -1
-                }
-            }
-        ]
-        .as_slice()
-    );
+    let cells = cells![1, 1];
+    let places = isos![0, 0, 0; 3, 0, 0];
+    let triple = Triple { p: 1, q: 1, s: 0 };
+    let found = classes_of::<Iamond>(&rt, alloc, &cells, triple, &places)?;
+    let symmetries = isos![0, 0, 0; 1, 0, -1];
+    assert_one_class(&rt, &found, &symmetries);
     Ok(())
 }
 
@@ -73,41 +49,10 @@ fn triangles_are_in_one_class(rt: HostRuntime) -> Result<(), Fail> {
 #[test]
 fn equal_residues_are_not_enough(rt: HostRuntime) -> Result<(), Fail> {
     let alloc = rt.alloc();
-    let shape = shape_of::<Iamond>(&[
-        Cell { a: 1, b: 1 },
-        Cell { a: 4, b: 1 },
-        Cell { a: 10, b: 1 },
-        Cell { a: 2, b: 2 },
-        Cell { a: 5, b: 2 },
-        Cell { a: 8, b: 2 },
-        Cell { a: 4, b: 4 },
-        Cell { a: 7, b: 4 },
-        Cell { a: 5, b: 5 },
-        Cell { a: 8, b: 5 },
-    ])?;
-    let places = vec![in alloc;
-        Iso {
-            turn: 4,
-            da: 2,
-            db: 1
-        },
-        Iso {
-            turn: 1,
-            da: 2,
-            db: 1
-        },
-        Iso {
-            turn: 2,
-            da: 1,
-            db: 1
-        },
-    ]?;
-    let triple = Triple::new(5, 3, 3).ok_or("triple")?;
-    let tiling = Tiling {
-        triple,
-        places: Seq::from_vec(places),
-    };
-    let found = classes(alloc, &shape, &tiling)?;
+    let cells = cells![1, 1; 4, 1; 10, 1; 2, 2; 5, 2; 8, 2; 4, 4; 7, 4; 5, 5; 8, 5];
+    let places = isos![4, 2, 1; 1, 2, 1; 2, 1, 1];
+    let triple = Triple { p: 5, q: 3, s: 3 };
+    let found = classes_of::<Iamond>(&rt, alloc, &cells, triple, &places)?;
     assert_eq!(rt; found.count, 3);
     assert_eq!(rt; found.members.len(), 3);
     Ok(())
@@ -118,125 +63,11 @@ fn equal_residues_are_not_enough(rt: HostRuntime) -> Result<(), Fail> {
 #[test]
 fn woven_dominoes_are_in_one_class(rt: HostRuntime) -> Result<(), Fail> {
     let alloc = rt.alloc();
-    let shape = shape_of::<Square>(&[Cell { a: 0, b: 0 }, Cell { a: 1, b: 0 }])?;
-    let places = vec![in alloc;
-        Iso {
-            turn: 0,
-            da: 0,
-            db: 0
-        },
-        Iso {
-            turn: 0,
-            da: 0,
-            db: 1
-        },
-        Iso {
-            turn: 1,
-            da: 2,
-            db: 0
-        },
-        Iso {
-            turn: 1,
-            da: 3,
-            db: 0
-        },
-        Iso {
-            turn: 0,
-            da: 4,
-            db: 0
-        },
-        Iso {
-            turn: 0,
-            da: 4,
-            db: 1
-        },
-        Iso {
-            turn: 1,
-            da: 6,
-            db: 0
-        },
-        Iso {
-            turn: 1,
-            da: 7,
-            db: 0
-        },
-    ]?;
-    let triple = Triple::new(8, 2, 2).ok_or("triple")?;
-    let tiling = Tiling {
-        triple,
-        places: Seq::from_vec(places),
-    };
-    let found = classes(alloc, &shape, &tiling)?;
-    assert_eq!(rt; found.count, 1);
-    assert_eq!(rt;
-        found.members.as_slice(),
-        [
-            Member {
-                class: 1,
-                by: Iso {
-                    turn: 0,
-                    da: 0,
-                    db: 0
-                }
-            },
-            Member {
-                class: 1,
-                by: Iso {
-                    turn: 2,
-                    da: 1,
-                    db: 1
-                }
-            },
-            Member {
-                class: 1,
-                by: Iso {
-                    turn: 3,
-                    da: 2,
-                    db: 1
-                }
-            },
-            Member {
-                class: 1,
-                by: Iso {
-                    turn: 1,
-                    da: 3,
-                    db: 0
-                }
-            },
-            Member {
-                class: 1,
-                by: Iso {
-                    turn: 0,
-                    da: 4,
-                    db: 0
-                }
-            },
-            Member {
-                class: 1,
-                by: Iso {
-                    turn: 2,
-                    da: 5,
-                    db: 1
-                }
-            },
-            Member {
-                class: 1,
-                by: Iso {
-                    turn: 3,
-                    da: 6,
-                    db: 1
-                }
-            },
-            Member {
-                class: 1,
-                by: Iso {
-                    turn: 1,
-                    da: 7,
-                    db: 0
-                }
-            }
-        ]
-        .as_slice()
-    );
+    let cells = cells![0, 0; 1, 0];
+    let places = isos![0, 0, 0; 0, 0, 1; 1, 2, 0; 1, 3, 0; 0, 4, 0; 0, 4, 1; 1, 6, 0; 1, 7, 0];
+    let triple = Triple { p: 8, q: 2, s: 2 };
+    let found = classes_of::<Square>(&rt, alloc, &cells, triple, &places)?;
+    let symmetries = isos![0, 0, 0; 2, 1, 1; 3, 2, 1; 1, 3, 0; 0, 4, 0; 2, 5, 1; 3, 6, 1; 1, 7, 0];
+    assert_one_class(&rt, &found, &symmetries);
     Ok(())
 }

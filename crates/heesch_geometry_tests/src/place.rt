@@ -1,40 +1,26 @@
 //! How many variables the universes of small shapes have.
-ghost use Rattle.std.specs.Prelude.{◌≡◌, ◌≤◌, true};
-ghost use Rattle.heesch_grid.specs.declared.Cell.{Cell};
-ghost use Rattle.heesch_grid.specs.Cells.{has};
-ghost use Rattle.heesch_grid.specs.Vectors.{IsWithin};
+ghost use Rattle.std.specs.Prelude.{◌≤◌};
 
-use heesch_place::{Placement, Universe};
+use crate::made::{canonical_of, cells};
 use heesch_grid::{Cell, Grid, Hex, Iamond, Iso, Square};
 use heesch_io::NoMemory;
+use heesch_place::{Placement, Universe};
 use heesch_shape::Shape;
 use std::alloc::Global;
 use std::process::Abort;
 use std::test::Fail;
 
-macro_rules! cells {
-    ($($a:literal, $b:literal);*) => {
-        [$(Cell { a: $a, b: $b }),*]
-    };
-}
-
-/// The universe of the canonical shape of these cells, if they have one.
+/// The universe of the canonical shape of these cells.
 fn universe_of<G: Grid>(
+    rt: &impl Abort,
     alloc: Global,
     cells: &[Cell],
     level: u32,
-) -> Result<Option<Universe<G>>, NoMemory>
-    requires within { (c : Cell) → has cells.now c ≡ true → IsWithin 100000 c }
-    requires level { (1 ≤ level) × (level ≤ 6) }
+) -> Result<Universe<G>, NoMemory>
+    requires { (1 ≤ level) × (level ≤ 6) }
 {
-    match Shape::<G>::of(cells) {
-        Ok(shape) => {
-            let canonical = shape.canonical();
-            let universe = Universe::of(alloc, &canonical, level)?;
-            Ok(Some(universe))
-        }
-        Err(_) => Ok(None),
-    }
+    let shape = canonical_of::<G>(rt, cells);
+    Universe::of(alloc, &shape, level)
 }
 
 /// The universe has so many variables, and each is found by its level and placement.
@@ -45,17 +31,13 @@ fn assert_count<G: Grid>(
     level: u32,
     count: u32,
 ) -> Result<(), NoMemory>
-    requires within { (c : Cell) → has cells.now c ≡ true → IsWithin 100000 c }
-    requires level { (1 ≤ level) × (level ≤ 6) }
+    requires { (1 ≤ level) × (level ≤ 6) }
 {
-    let universe = universe_of::<G>(alloc, cells, level)?;
-    assert!(rt; universe.is_some());
-    if let Some(universe) = universe {
-        assert_eq!(rt; universe.count(), count);
-        for var in 1..universe.count() + 1 {
-            let found = universe.number_of(universe.level_of(var), universe.placement_of(var));
-            assert_eq!(rt; found, Some(var));
-        }
+    let universe = universe_of::<G>(rt, alloc, cells, level)?;
+    assert_eq!(rt; universe.count(), count);
+    for var in 1..universe.count() + 1 {
+        let found = universe.number_of(universe.level_of(var), universe.placement_of(var));
+        assert_eq!(rt; found, Some(var));
     }
     Ok(())
 }
@@ -76,25 +58,22 @@ fn universes_have_as_many_variables_as_the_rows(rt: HostRuntime) -> Result<(), F
 #[test]
 fn squares_around_a_square_are_numbered_in_order(rt: HostRuntime) -> Result<(), Fail> {
     let alloc = rt.alloc();
-    let universe = universe_of::<Square>(alloc, &cells![0, 0], 2)?;
-    assert!(rt; universe.is_some());
-    if let Some(universe) = universe {
-        assert_eq!(rt; universe.count(), 24);
-        let first = cells![-1, -1; 0, -1; 1, -1; -1, 0; 1, 0; -1, 1; 0, 1; 1, 1];
-        for (i, cell) in first.iter().enumerate() {
-            let var = i as u32 + 1;
-            if var <= universe.count() {
-                assert_eq!(rt; universe.level_of(var), 1);
-                assert!(rt; universe.placement_of(var).shape().has(*cell));
-            }
-            assert_eq!(rt; universe.covered_by(*cell, 2), &[var][..]);
+    let universe = universe_of::<Square>(&rt, alloc, &cells![0, 0], 2)?;
+    assert_eq!(rt; universe.count(), 24);
+    let first = cells![-1, -1; 0, -1; 1, -1; -1, 0; 1, 0; -1, 1; 0, 1; 1, 1];
+    for (i, cell) in first.iter().enumerate() {
+        let var = i as u32 + 1;
+        if var <= universe.count() {
+            assert_eq!(rt; universe.level_of(var), 1);
+            assert!(rt; universe.placement_of(var).shape().has(*cell));
         }
-        assert_eq!(rt; universe.covered_by(Cell { a: 2, b: 1 }, 2), &[19][..]);
-        assert_eq!(rt; universe.covered_by(Cell { a: 1, b: 2 }, 2), &[23][..]);
-        assert!(rt; universe.covered_by(Cell { a: 1, b: 2 }, 1).is_empty());
-        let listed = universe.covering(alloc, Cell { a: 2, b: 1 }, 2)?;
-        assert_eq!(rt; listed.as_slice(), &[19][..]);
+        assert_eq!(rt; universe.covered_by(*cell, 2), &[var][..]);
     }
+    assert_eq!(rt; universe.covered_by(Cell { a: 2, b: 1 }, 2), &[19][..]);
+    assert_eq!(rt; universe.covered_by(Cell { a: 1, b: 2 }, 2), &[23][..]);
+    assert!(rt; universe.covered_by(Cell { a: 1, b: 2 }, 1).is_empty());
+    let listed = universe.covering(alloc, Cell { a: 2, b: 1 }, 2)?;
+    assert_eq!(rt; listed.as_slice(), &[19][..]);
     Ok(())
 }
 

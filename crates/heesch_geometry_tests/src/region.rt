@@ -1,29 +1,13 @@
 //! Regions of each grid.
-ghost use Rattle.std.specs.Prelude.{◌≡◌, true, length};
-ghost use Rattle.heesch_grid.specs.declared.Cell.{Cell};
-ghost use Rattle.heesch_grid.specs.Cells.{has};
-ghost use Rattle.heesch_grid.specs.Vectors.{IsWithin};
-
-use heesch_region::Region;
+use crate::made::are_near;
 use heesch_grid::{Cell, Grid, Hex, Iamond, Square};
 use heesch_io::NoMemory;
+use heesch_region::Region;
 use std::alloc::Global;
 use std::process::Abort;
 use std::test::Fail;
 
 type Pairs<'a> = &'a [(i32, i32)];
-
-/// Whether all cells lie within 2,048 of 0.
-fn are_near(cells: &[Cell]) -> bool
-    ensures { result ≡ true → (c : Cell) → has cells.now c ≡ true → IsWithin 2048 c }
-{
-    for c in cells {
-        if c.a < -2048 || c.a > 2048 || c.b < -2048 || c.b > 2048 {
-            return false;
-        }
-    }
-    true
-}
 
 /// The cells at these pairs.
 fn cells_at(alloc: Global, pairs: Pairs<'_>) -> Result<Vec<Cell>, NoMemory> {

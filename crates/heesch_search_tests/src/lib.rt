@@ -6,6 +6,8 @@ mod encode;
 #[cfg(test)]
 mod levels;
 #[cfg(test)]
+mod made;
+#[cfg(test)]
 mod torus;
 #[cfg(test)]
 mod verdict;

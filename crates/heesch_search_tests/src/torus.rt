@@ -1,25 +1,18 @@
 //! Formulas of small shapes, counted by another program, and the answers of both searches on two of them.
-ghost use Rattle.std.specs.Prelude.{◌≡◌, true, length, IfOk};
+ghost use Rattle.std.specs.Prelude.{◌≡◌, true, length};
 ghost use Rattle.heesch_grid.specs.declared.Cell.{Cell};
 ghost use Rattle.heesch_grid.specs.Cells.{has};
 ghost use Rattle.heesch_grid.specs.Vectors.{IsWithin};
 ghost use Rattle.heesch_torus.specs.Domain.{HasDomain};
 
-use heesch_torus::{CoverAnswer, TorusAnswer, find_cover, search, torus_formula};
-use heesch_grid::{Cell, Grid, Hex, Iamond, Iso, Square};
+use crate::made::{cells, isos, shape_of};
+use heesch_grid::{Grid, Hex, Iamond, Square};
 use heesch_io::NoMemory;
 use heesch_lattice::Triple;
-use heesch_shape::{Shape, ShapeFault};
+use heesch_shape::Shape;
+use heesch_torus::{CoverAnswer, TorusAnswer, find_cover, search, torus_formula};
 use std::alloc::Global;
 use std::test::Fail;
-
-/// The shape of these cells.
-fn shape_of<G: Grid>(cells: &[Cell]) -> Result<Shape<G>, ShapeFault>
-    requires { (c : Cell) → has cells.now c ≡ true → IsWithin 100000 c }
-    ensures { IfOk result (λ s. (c : Cell) → has s c ≡ true → IsWithin 100000 c) }
-{
-    Shape::of(cells)
-}
 
 /// Whether the triple is one of a domain that is searched.
 fn is_searched<G: Grid>(shape: &Shape<G>, triple: Triple) -> bool
@@ -80,77 +73,49 @@ fn answer_by_masks<G: Grid>(
 
 #[test]
 fn formulas_of_small_shapes(rt: HostRuntime) -> Result<(), Fail> {
-    let bent = shape_of::<Square>(&[
-        Cell { a: 0, b: 0 },
-        Cell { a: 1, b: 0 },
-        Cell { a: 0, b: 1 },
-    ])?;
+    let alloc = rt.alloc();
+    let bent = shape_of::<Square>(&rt, &cells![0, 0; 1, 0; 0, 1]);
     let triple = Triple { p: 3, q: 2, s: 1 };
-    assert_eq!(rt; counts(rt.alloc(), &bent, triple)?, (18, 150, 342));
-    let worm = shape_of::<Hex>(&[
-        Cell { a: 0, b: 0 },
-        Cell { a: 1, b: 0 },
-        Cell { a: 2, b: 0 },
-        Cell { a: 0, b: 1 },
-    ])?;
+    assert_eq!(rt; counts(alloc, &bent, triple)?, (18, 150, 342));
+    let worm = shape_of::<Hex>(&rt, &cells![0, 0; 1, 0; 2, 0; 0, 1]);
     let triple = Triple { p: 4, q: 2, s: 1 };
-    assert_eq!(rt; counts(rt.alloc(), &worm, triple)?, (48, 1112, 2400));
-    let trapezium = shape_of::<Iamond>(&[
-        Cell { a: 1, b: 1 },
-        Cell { a: 4, b: 1 },
-        Cell { a: 2, b: 2 },
-    ])?;
+    assert_eq!(rt; counts(alloc, &worm, triple)?, (48, 1112, 2400));
+    let trapezium = shape_of::<Iamond>(&rt, &cells![1, 1; 4, 1; 2, 2]);
     let triple = Triple { p: 3, q: 2, s: 0 };
-    assert_eq!(rt; counts(rt.alloc(), &trapezium, triple)?, (36, 330, 744));
+    assert_eq!(rt; counts(alloc, &trapezium, triple)?, (36, 330, 744));
     Ok(())
 }
 
 #[test]
 fn three_squares_round_a_corner_have_no_cover(rt: HostRuntime) -> Result<(), Fail> {
-    let bent = shape_of::<Square>(&[
-        Cell { a: 0, b: 0 },
-        Cell { a: 1, b: 0 },
-        Cell { a: 0, b: 1 },
-    ])?;
+    let alloc = rt.alloc();
+    let bent = shape_of::<Square>(&rt, &cells![0, 0; 1, 0; 0, 1]);
     let triple = Triple { p: 1, q: 3, s: 0 };
-    let Some(TorusAnswer::None { log }) = answer(rt.alloc(), &bent, triple)? else {
-        assert!(rt; false);
-        return Ok(());
+    let Some(TorusAnswer::None { log }) = answer(alloc, &bent, triple)? else {
+        panic!(rt; "not refuted");
     };
     assert_eq!(rt; log.lines.len(), 0);
     let last = log.last.map(|hints| hints.into_vec());
-    assert_eq!(rt; last, Some(vec![in rt.alloc(); 1]?));
-    let by_masks = answer_by_masks(rt.alloc(), &bent, triple)?;
+    assert_eq!(rt; last, Some(vec![in alloc; 1]?));
+    let by_masks = answer_by_masks(alloc, &bent, triple)?;
     assert!(rt; matches!(by_masks, Some(CoverAnswer::None)));
     Ok(())
 }
 
 #[test]
 fn one_square_tiles_by_two_places(rt: HostRuntime) -> Result<(), Fail> {
-    let square = shape_of::<Square>(&[Cell { a: 0, b: 0 }])?;
+    let alloc = rt.alloc();
+    let square = shape_of::<Square>(&rt, &cells![0, 0]);
     let triple = Triple { p: 2, q: 1, s: 0 };
-    let Some(TorusAnswer::Tiles { tiling }) = answer(rt.alloc(), &square, triple)? else {
-        assert!(rt; false);
-        return Ok(());
+    let places = isos![0, 0, 0; 0, 1, 0];
+    let Some(TorusAnswer::Tiles { tiling }) = answer(alloc, &square, triple)? else {
+        panic!(rt; "no cover");
     };
     assert_eq!(rt; tiling.triple, triple);
-    let places = tiling.places.into_vec();
-    let first = Iso {
-        turn: 0,
-        da: 0,
-        db: 0,
+    assert_eq!(rt; tiling.places.as_slice(), places.as_slice());
+    let Some(CoverAnswer::Tiles { tiling }) = answer_by_masks(alloc, &square, triple)? else {
+        panic!(rt; "no cover by masks");
     };
-    let second = Iso {
-        turn: 0,
-        da: 1,
-        db: 0,
-    };
-    assert_eq!(rt; places, vec![in rt.alloc(); first, second]?);
-    let by_masks = answer_by_masks(rt.alloc(), &square, triple)?;
-    let Some(CoverAnswer::Tiles { tiling }) = by_masks else {
-        assert!(rt; false);
-        return Ok(());
-    };
-    assert_eq!(rt; tiling.places.into_vec(), places);
+    assert_eq!(rt; tiling.places.as_slice(), places.as_slice());
     Ok(())
 }

@@ -1,7 +1,6 @@
-//! Texts worked by hand.
-
-use heesch_dimacs::{ModelStop, first_false, read_model, write_cnf, write_flat_cnf};
+//! Clause texts and model texts worked by hand.
 use heesch_cnf::{FlatFormula, Formula, Lit};
+use heesch_dimacs::{ModelStop, first_false, read_model, write_cnf, write_flat_cnf};
 use heesch_io::{NoMemory, Seq};
 use std::alloc::Global;
 use std::test::Fail;

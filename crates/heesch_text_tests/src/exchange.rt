@@ -1,9 +1,8 @@
 //! Exchanges worked by hand, over the single cell.
-
 ghost use Rattle.std.specs.Prelude.{◌≤◌};
 
-use heesch_exchange::{ExchangeStop, answer, formula};
 use heesch_cnf::Version;
+use heesch_exchange::{ExchangeStop, answer, formula};
 use heesch_grid::GridName;
 use std::alloc::Global;
 use std::test::Fail;

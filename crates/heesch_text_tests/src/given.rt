@@ -1,4 +1,5 @@
 //! List texts of which few bytes are read, with faults worked by hand.
+use crate::made::long_list;
 use heesch_given::{GivenStop, shapes_given};
 use heesch_grid::Square;
 use heesch_io::{MemorySource, NoMemory};
@@ -87,10 +88,7 @@ fn more_cells_than_a_shape_has(rt: HostRuntime) -> Result<(), Fail> {
 
 #[test]
 fn line_10_001_has_fault_7(rt: HostRuntime) -> Result<(), Fail> {
-    let mut bytes = Vec::new(rt.alloc());
-    for _ in 0..10_000 {
-        bytes.extend_from_slice(b"0,0\n")?;
-    }
+    let mut bytes = long_list(rt.alloc())?;
     bytes.push(b'x')?;
     for most in [false, true] {
         let mut source = MemorySource::new(bytes.clone()?, 4096, Vec::new(rt.alloc()));

@@ -12,6 +12,8 @@ mod grammar;
 #[cfg(test)]
 mod line;
 #[cfg(test)]
+mod made;
+#[cfg(test)]
 mod parts;
 #[cfg(test)]
 mod reader;

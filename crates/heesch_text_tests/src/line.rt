@@ -1,3 +1,5 @@
+//! Lines and lists that are read, and ones that are refused.
+use crate::made::long_list;
 use heesch_line::{LineFault, ListLine, ListStop, read_line, read_list};
 use std::alloc::Global;
 use std::test::Fail;
@@ -132,10 +134,7 @@ fn lists_are_read_up_to_their_first_fault(rt: HostRuntime) -> Result<(), Fail> {
 
 #[test]
 fn the_10001st_line_is_one_too_many(rt: HostRuntime) -> Result<(), Fail> {
-    let mut text = Vec::new(rt.alloc());
-    for _ in 0..10_000 {
-        text.extend_from_slice(b"0,0\n")?;
-    }
+    let mut text = long_list(rt.alloc())?;
     assert!(rt; read_list(rt.alloc(), &text).is_ok());
     text.push(b'x')?;
     let stop = read_list(rt.alloc(), &text).err();

@@ -1,10 +1,10 @@
 //! The shares of a small catalogue joined, and texts that aren't shares. The faults are worked by hand.
 ghost use Rattle.std.specs.Prelude.{◌<◌};
 
-use heesch_parts::{InputStop, Span, joined, span};
+use crate::made::text_of;
 use heesch_io::{MemorySource, NoMemory, Seq};
+use heesch_parts::{InputStop, Span, joined, span};
 use heesch_reader::Item;
-use heesch_text::{write_end, write_entry, write_header};
 use std::alloc::Global;
 use std::test::Fail;
 
@@ -83,17 +83,6 @@ fn join(
     Ok(joined::<MemorySource, 1000>(alloc, &mut source))
 }
 
-/// Appends the text of an item.
-fn rewrite(item: &Item, out: &mut Vec<u8>) -> Result<(), Fail> {
-    match item {
-        Item::Header { header } => write_header(header, out)?,
-        Item::Entry { line: _, entry } => write_entry(entry, out)?,
-        Item::Brief { .. } => {}
-        Item::End { count } => write_end(*count, out)?,
-    }
-    Ok(())
-}
-
 #[test]
 fn spans_of_the_tetrominoes(rt: HostRuntime) -> Result<(), Fail> {
     for (i, k, from, until) in [(1, 2, 0, 2), (2, 2, 2, 5), (1, 7, 0, 0), (7, 7, 4, 5)] {
@@ -106,18 +95,12 @@ fn spans_of_the_tetrominoes(rt: HostRuntime) -> Result<(), Fail> {
 fn both_shares_give_the_catalogue(rt: HostRuntime) -> Result<(), Fail> {
     for size in [1, 7, 500] {
         let items = join(rt.alloc(), FIRST, SECOND, size)?;
-        let mut out = Vec::new(rt.alloc());
-        let mut lines = 0;
-        if let Ok(items) = &items {
-            for item in items.as_slice() {
-                rewrite(item, &mut out)?;
-                if let Item::Entry { line, entry: _ } = item {
-                    lines = *line;
-                }
-            }
-        }
+        let Ok(items) = items else {
+            panic!(rt; "a fault");
+        };
+        let (out, line) = text_of(rt.alloc(), items.as_slice())?;
         assert_eq!(rt; out.as_slice(), WHOLE.as_bytes());
-        assert_eq!(rt; lines, 22);
+        assert_eq!(rt; line, 22);
     }
     Ok(())
 }

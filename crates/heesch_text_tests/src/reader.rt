@@ -1,32 +1,13 @@
 //! Worked texts read in pieces, and texts that are none.
 ghost use Rattle.std.specs.Prelude.{◌+◌, ◌<◌, ◌≤◌, length, IfOk};
 
-use heesch_reader::{Item, Part, Reader, Stop};
+use crate::made::{HOLED, TRIANGLE, text_of};
 use heesch_io::Seq;
-use heesch_text::{write_end, write_entry, write_header};
+use heesch_reader::{Item, Part, Reader, Stop};
 use std::alloc::Global;
 use std::test::Fail;
 
-const TRIANGLE: &str = "heesch 1 iamond 1 turns 20000 levels 3 domain 4 size 60000000
-shape 1,1
-verdict tiles halfturn domain 2 classes 1
-lattice 1 1 0
-tile 0 0 0 class 1 by 0 0 0
-tile 3 0 0 class 1 by 1 0 -1
-end 1
-";
-
-const HOLED: &str = "heesch 1 square given turns 20000 levels 3 domain 4 size 60000000
-shape 0,0 1,0 2,0 0,1 2,1 0,2 1,2
-verdict heesch 0 nontiler 1
-coronas 0
-wall 1 refuted
-empty 9
-bare 1 same
-end 1
-";
-
-/// The same without its last line.
+/// The catalogue of the heptomino with a hole, without its last line.
 const HOLED_CUT: &str = "heesch 1 square given turns 20000 levels 3 domain 4 size 60000000
 shape 0,0 1,0 2,0 0,1 2,1 0,2 1,2
 verdict heesch 0 nontiler 1
@@ -91,17 +72,6 @@ fn read(
     reader.finish(items)
 }
 
-/// Appends the text of an item.
-fn rewrite(item: &Item, out: &mut Vec<u8>) -> Result<(), Fail> {
-    match item {
-        Item::Header { header } => write_header(header, out)?,
-        Item::Entry { line: _, entry } => write_entry(entry, out)?,
-        Item::Brief { .. } => {}
-        Item::End { count } => write_end(*count, out)?,
-    }
-    Ok(())
-}
-
 #[test]
 fn worked_texts_are_read_in_any_pieces(rt: HostRuntime) -> Result<(), Fail> {
     for text in [TRIANGLE, HOLED] {
@@ -109,14 +79,9 @@ fn worked_texts_are_read_in_any_pieces(rt: HostRuntime) -> Result<(), Fail> {
             let mut items = Seq::new(rt.alloc());
             assert_eq!(rt; read(rt.alloc(), text, "", size, &mut items), Ok(()));
             assert_eq!(rt; items.len(), 3);
-            let mut out = Vec::new(rt.alloc());
-            for item in items.as_slice() {
-                rewrite(item, &mut out)?;
-                if let Item::Entry { line, entry: _ } = item {
-                    assert_eq!(rt; *line, 2);
-                }
-            }
+            let (out, line) = text_of(rt.alloc(), items.as_slice())?;
             assert_eq!(rt; out.as_slice(), text.as_bytes());
+            assert_eq!(rt; line, 2);
         }
     }
     Ok(())

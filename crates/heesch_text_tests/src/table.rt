@@ -1,11 +1,12 @@
 //! Tallies worked by hand.
 ghost use Rattle.std.specs.Prelude.{◌≤◌, length};
 
-use heesch_table::Tally;
+use crate::made::cells;
 use heesch_cert::{Kind, Phase, Verdict};
-use heesch_grid::{Cell, Square};
+use heesch_grid::Square;
 use heesch_io::NoMemory;
 use heesch_shape::Shape;
+use heesch_table::Tally;
 use std::alloc::Global;
 use std::test::Fail;
 
@@ -128,12 +129,6 @@ undecided size 1
     let text = text_of(rt.alloc(), &found)?;
     assert_eq!(rt; text.as_slice(), expected.as_slice());
     Ok(())
-}
-
-macro_rules! cells {
-    ($($a:literal, $b:literal);*) => {
-        [$(Cell { a: $a, b: $b }),*]
-    };
 }
 
 /// Seven squares around an eighth have a hole, and a single square has none.

@@ -1,14 +1,14 @@
 //! Texts worked by hand.
-
-use heesch_text::{write_brief, write_coronas, write_end, write_entry, write_header};
+use crate::made::{HOLED, TRIANGLE, cells, isos};
 use heesch_cert::{
     Bare, Classes, Entry, Evidence, Header, Kind, Layers, Limits, Member, Proof, Subject, Tiling,
     Verdict, Wall,
 };
 use heesch_cnf::Version;
-use heesch_grid::{Cell, GridName, Iso};
+use heesch_grid::GridName;
 use heesch_io::{NoMemory, Seq};
 use heesch_lattice::Triple;
+use heesch_text::{write_brief, write_coronas, write_end, write_entry, write_header};
 use std::alloc::Global;
 use std::test::Fail;
 
@@ -20,31 +20,29 @@ const LIMITS: Limits = Limits {
     version: Version::One,
 };
 
-/// The isometry of this turn and this translation.
-fn iso(turn: u32, da: i32, db: i32) -> Iso {
-    Iso { turn, da, db }
-}
-
 /// The single triangle, tiled by half-turns.
 fn triangle(alloc: Global) -> Result<Entry, NoMemory> {
     let tiling = Tiling {
         triple: Triple { p: 1, q: 1, s: 0 },
-        places: Seq::from_vec([iso(0, 0, 0), iso(3, 0, 0)].to_vec(alloc)?),
+        places: Seq::from_vec(isos![0, 0, 0; 3, 0, 0].to_vec(alloc)?),
     };
-    let first = Member {
-        class: 1,
-        by: iso(0, 0, 0),
-    };
-    let second = Member {
-        class: 1,
-        by: iso(1, 0, -1),
-    };
+    let [first, second] = isos![0, 0, 0; 1, 0, -1];
+    let members = [
+        Member {
+            class: 1,
+            by: first,
+        },
+        Member {
+            class: 1,
+            by: second,
+        },
+    ];
     let classes = Classes {
         count: 1,
-        members: Seq::from_vec([first, second].to_vec(alloc)?),
+        members: Seq::from_vec(members.to_vec(alloc)?),
     };
     Ok(Entry {
-        cells: Seq::from_vec([Cell { a: 1, b: 1 }].to_vec(alloc)?),
+        cells: Seq::from_vec(cells![1, 1].to_vec(alloc)?),
         verdict: Verdict::Tiles {
             kind: Kind::HalfTurn,
             domain: 2,
@@ -56,15 +54,7 @@ fn triangle(alloc: Global) -> Result<Entry, NoMemory> {
 
 /// The heptomino with a hole, which has no corona.
 fn holed(alloc: Global) -> Result<Entry, NoMemory> {
-    let cells = [
-        Cell { a: 0, b: 0 },
-        Cell { a: 1, b: 0 },
-        Cell { a: 2, b: 0 },
-        Cell { a: 0, b: 1 },
-        Cell { a: 2, b: 1 },
-        Cell { a: 0, b: 2 },
-        Cell { a: 1, b: 2 },
-    ];
+    let cells = cells![0, 0; 1, 0; 2, 0; 0, 1; 2, 1; 0, 2; 1, 2];
     let proof = Proof {
         steps: Seq::new(alloc),
         last: Some(Seq::from_vec([9u32].to_vec(alloc)?)),
@@ -97,15 +87,7 @@ fn a_tiling_in_full(rt: HostRuntime) -> Result<(), Fail> {
     write_header(&header, &mut out)?;
     write_entry(&triangle(rt.alloc())?, &mut out)?;
     write_end(1, &mut out)?;
-    let expected = b"heesch 1 iamond 1 turns 20000 levels 3 domain 4 size 60000000
-shape 1,1
-verdict tiles halfturn domain 2 classes 1
-lattice 1 1 0
-tile 0 0 0 class 1 by 0 0 0
-tile 3 0 0 class 1 by 1 0 -1
-end 1
-";
-    assert_eq!(rt; out.as_slice(), expected.as_slice());
+    assert_eq!(rt; out.as_slice(), TRIANGLE.as_bytes());
     Ok(())
 }
 
@@ -114,8 +96,8 @@ end 1
 fn coronas_alone(rt: HostRuntime) -> Result<(), Fail> {
     let alloc = rt.alloc();
     let mut layers = Seq::new(alloc);
-    layers.push(Seq::from_vec([iso(0, 0, -1), iso(1, 2, 0)].to_vec(alloc)?))?;
-    layers.push(Seq::from_vec([iso(11, -30, 4)].to_vec(alloc)?))?;
+    layers.push(Seq::from_vec(isos![0, 0, -1; 1, 2, 0].to_vec(alloc)?))?;
+    layers.push(Seq::from_vec(isos![11, -30, 4].to_vec(alloc)?))?;
     let mut out = Vec::new(alloc);
     write_coronas(&Layers { layers }, &mut out)?;
     let expected = b"coronas 2\nlayer 0,0,-1 1,2,0\nlayer 11,-30,4\n";
@@ -137,18 +119,10 @@ fn a_search_in_full_and_in_brief(rt: HostRuntime) -> Result<(), Fail> {
     write_header(&header, &mut out)?;
     write_entry(&entry, &mut out)?;
     write_end(1, &mut out)?;
-    write_brief(&entry, &mut out)?;
-    let expected = b"heesch 1 square given turns 20000 levels 3 domain 4 size 60000000
-shape 0,0 1,0 2,0 0,1 2,1 0,2 1,2
-verdict heesch 0 nontiler 1
-coronas 0
-wall 1 refuted
-empty 9
-bare 1 same
-end 1
-shape 0,0 1,0 2,0 0,1 2,1 0,2 1,2
-verdict heesch 0 nontiler 1
-";
-    assert_eq!(rt; out.as_slice(), expected.as_slice());
+    assert_eq!(rt; out.as_slice(), HOLED.as_bytes());
+    let mut brief = Vec::new(rt.alloc());
+    write_brief(&entry, &mut brief)?;
+    let expected = b"shape 0,0 1,0 2,0 0,1 2,1 0,2 1,2\nverdict heesch 0 nontiler 1\n";
+    assert_eq!(rt; brief.as_slice(), expected.as_slice());
     Ok(())
 }
