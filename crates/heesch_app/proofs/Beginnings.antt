@@ -57,7 +57,7 @@ begins_itself TableRequest left status output is = (status, is)
 begins_itself (SampleRequest grid n count seed limits workers) left status output is = (status, is)
 begins_itself (FormulaRequest grid level size version) left status output is = (status, is)
 begins_itself (AnswerRequest grid level size version) left status output is = (status, is)
-begins_itself (ShareRequest grid n i k limits workers) left status output (_, (shapes, free, (catalogue, is, same))) =
+begins_itself (ShareRequest grid n i k limits workers) left status output (_, (shapes, free, few, (catalogue, is, same))) =
     (shapes, free, (catalogue, begun_whole (geometry_of grid) (header_of grid (Size n) limits false) (shapes_of_share i k shapes) catalogue is, same))
 begins_itself JoinRequest left status output is = (status, is)
 begins_itself (OuterRequest grid (Size n) limits workers) left status output (_, (shapes, free, is)) = (shapes, free, begun_outers (geometry_of grid) limits shapes output is)
