@@ -3,11 +3,11 @@
 # `tables.sh ../crates/heesch/out/heesch square 7 hex 5 kite 3`. Every figure is printed by a run, or is a difference of two
 # that were. For each size: `classify`, `table` and `check` of its text, `outer`, and where shapes are undecided a second
 # pass over their shape lines with a larger limit on domains. Figures of publications come from published.txt, and are marked so.
-# WORKERS (4), SECOND (the limit of the second pass, 8) and OPTIONS (further options of `classify`, none) may be set; KEEP is
-# a folder for the texts; COMMIT names the program (by default the commit of this checkout). With GNU time at
+# WORKERS (4), SECOND (the limit of the second pass, 8), OPTIONS (further options of `classify`, none) and ONCE (sizes such
+# as `hex-8`, which get no second pass, none) may be set; KEEP is a folder for the texts; COMMIT names the program (by default the commit of this checkout). With GNU time at
 # /usr/bin/time it prints peak memory too.
 set -eu
-[ $# -ge 3 ] && [ -x "$1" ] || { sed -n 2,9p "$0" >&2; exit 2; }
+[ $# -ge 3 ] && [ -x "$1" ] || { sed -n 2,10p "$0" >&2; exit 2; }
 program=$(readlink -f "$1")
 shift
 cd "$(dirname "$0")"
@@ -94,7 +94,7 @@ undecided() { # TEXT: the cells of the undecided shapes, a line each
 while [ $# -ge 2 ]; do
   run "$1 $2" /dev/null "$1" "$2" $options
   undecided "$texts/$1 $2.txt" > "$work/undecided"
-  if [ -s "$work/undecided" ]; then
+  if [ -s "$work/undecided" ] && ! grep -qw "$1-$2" <<< "${ONCE:-}"; then
     run "$1 $2, undecided" "$work/undecided" "$1" given $without_domain --domain "$second"
   fi
   shift 2
