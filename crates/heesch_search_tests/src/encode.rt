@@ -70,13 +70,12 @@ fn domino(rt: HostRuntime) -> Result<(), Fail> {
     assert_eq!(rt; clauses.len(), 78);
     let choice = [lit(1, true), lit(5, true), lit(6, true), lit(7, true)];
     assert_eq!(rt; clauses[0].as_slice(), choice.as_slice());
-    for (at, clause) in [
-        (10, [lit(1, false), lit(25, false)]),
-        (12, [lit(5, false), lit(25, true)]),
-        (17, [lit(7, false), lit(26, true)]),
-    ] {
-        assert_eq!(rt; clauses[at].as_slice(), clause.as_slice());
-    }
+    let tenth = [lit(1, false), lit(25, false)];
+    assert_eq!(rt; clauses[10].as_slice(), tenth.as_slice());
+    let twelfth = [lit(5, false), lit(25, true)];
+    assert_eq!(rt; clauses[12].as_slice(), twelfth.as_slice());
+    let seventeenth = [lit(7, false), lit(26, true)];
+    assert_eq!(rt; clauses[17].as_slice(), seventeenth.as_slice());
     let less = encode(rt.alloc(), &domino, 1, 169, Version::Two);
     assert_eq!(rt; less.err(), Some(EncodeStop::TooLarge));
     Ok(())
