@@ -3,9 +3,9 @@
 # `tables.sh ../crates/heesch/out/heesch square 7 hex 5 kite 3`. Every figure is printed by a run, or is a difference of two
 # that were. For each size: `classify`, `table` and `check` of its text, `outer`, and where shapes are undecided a second
 # pass over their shape lines with a larger limit on domains. Figures of publications come from published.txt, and are marked so.
-# WORKERS (4), SECOND (the limit of the second pass, 8), OPTIONS (further options of `classify`, none) and ONCE (sizes such
-# as `hex-8`, which get no second pass, none) may be set; KEEP is a folder for the texts; COMMIT names the program (by default the commit of this checkout). With GNU time at
-# /usr/bin/time it prints peak memory too.
+# WORKERS (4), SECOND (the limit of the second pass, 8), OPTIONS (further options of `classify`, none), ONCE (sizes such
+# as `hex-8`, which get no second pass, none) and NOTE (a sentence on the machine) may be set; KEEP is a folder for the texts;
+# COMMIT names the program (by default the commit of this checkout). With GNU time at /usr/bin/time it prints peak memory too.
 set -eu
 [ $# -ge 3 ] && [ -x "$1" ] || { sed -n 2,10p "$0" >&2; exit 2; }
 program=$(readlink -f "$1")
@@ -104,7 +104,7 @@ model=$(awk -F': ' '/^model name/ { print $2; exit }' /proc/cpuinfo)
 cat <<TXT
 # Tables
 
-Made by \`bench/tables.sh\` from runs of the program of commit $commit, by $workers workers, on a machine with $(nproc) processors (${model:-unknown}), on $(date -u +%Y-%m-%d). A row named \`GRID N, undecided\` is the second pass: \`classify GRID given --domain $second\` over the shape lines of the shapes that the row above leaves undecided.
+Made by \`bench/tables.sh\` from runs of the program of commit $commit, by $workers workers, on a machine with $(nproc) processors (${model:-unknown}), on $(date -u +%Y-%m-%d). A row named \`GRID N, undecided\` is the second pass: \`classify GRID given --domain $second\` over the shape lines of the shapes that the row above leaves undecided.${ONCE:+ No second pass was made of $ONCE.}${NOTE:+ $NOTE}
 
 ## Verdicts
 
