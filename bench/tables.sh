@@ -7,7 +7,7 @@
 # as `hex-8`, which get no second pass, none) and NOTE (a sentence on the machine) may be set; KEEP is a folder for the texts;
 # COMMIT names the program (by default the commit of this checkout). With GNU time at /usr/bin/time it prints peak memory too.
 set -eu
-[ $# -ge 3 ] && [ -x "$1" ] || { sed -n 2,10p "$0" >&2; exit 2; }
+[ $# -ge 3 ] && [ -x "$1" ] || { sed -n 2,8p "$0" >&2; exit 2; }
 program=$(readlink -f "$1")
 shift
 cd "$(dirname "$0")"
