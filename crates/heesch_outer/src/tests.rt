@@ -6,7 +6,7 @@ ghost use Rattle.heesch_grid.specs.Polyform.{IsCanonicalListOf};
 ghost use Rattle.heesch_grid.specs.Vectors.{IsWithin};
 ghost use Rattle.heesch_outer.specs.Found.{IsNearAnswer};
 
-use crate::{OuterAnswer, check_outer, outer, write_answer};
+use crate::{OuterAnswer, check_outer, outer};
 use heesch_audit::{EntryAnswer, audit, is_near};
 use heesch_cert::{
     Bare, Classes, Cut, Entry, Evidence, Kind, Layers, Limits, Member, Phase, Proof, Step, Tiling,
@@ -14,7 +14,7 @@ use heesch_cert::{
 };
 use heesch_cnf::Version;
 use heesch_grid::{Cell, Grid, Iamond, Iso, Square};
-use heesch_io::{NoMemory, Seq};
+use heesch_io::Seq;
 use heesch_lattice::Triple;
 use heesch_levels::{LevelAnswer, WallAnswer, level, wall};
 use heesch_shape::{Shape, ShapeFault};
@@ -108,13 +108,6 @@ fn checked_answer<G: Grid>(
     Ok((answer, accepted && refused))
 }
 
-/// The text of the answer for the entry.
-fn text_of(alloc: Global, entry: &Entry, answer: &OuterAnswer) -> Result<Vec<u8>, NoMemory> {
-    let mut text = Vec::new(alloc);
-    write_answer(entry, answer, &mut text)?;
-    Ok(text)
-}
-
 /// The same answer with a cut of level 1 added to its proof.
 fn with_cut(alloc: Global, last: u32) -> Result<OuterAnswer, Fail>
     ensures { IfOk result IsNearAnswer }
@@ -177,8 +170,14 @@ fn enclosed_cell(rt: HostRuntime) -> Result<(), Fail> {
     )?;
     let (answer, checked) = checked_answer::<Square>(alloc, &entry, &with_cut(alloc, 9)?, LEAST)?;
     assert!(rt; checked);
-    let text = text_of(alloc, &entry, &answer)?;
-    assert_eq!(rt; text.as_slice(), b"hc 0\nhh 0\nempty 9\n".as_slice());
+    match &answer {
+        OuterAnswer::Same { proof } => {
+            assert!(rt; proof.steps.is_empty());
+            let last = proof.last.as_ref().ok_or("no last line")?;
+            assert_eq!(rt; last.as_slice(), [9].as_slice());
+        }
+        _ => assert!(rt; false),
+    }
     Ok(())
 }
 
@@ -281,9 +280,10 @@ fn unknown_number(rt: HostRuntime) -> Result<(), Fail> {
     )?;
     let (answer, checked) = checked_answer::<Iamond>(alloc, &entry, &OuterAnswer::Tiles, limits)?;
     assert!(rt; checked);
-    let text = text_of(alloc, &entry, &answer)?;
-    assert_eq!(rt; text.as_slice(), b"hh undecided\n".as_slice());
-    Ok(())
+    match answer {
+        OuterAnswer::Unknown => Ok(()),
+        _ => Err(Fail::new("known")),
+    }
 }
 
 /// A square tiles.
@@ -318,7 +318,8 @@ fn square_that_tiles(rt: HostRuntime) -> Result<(), Fail> {
     };
     let (answer, checked) = checked_answer::<Square>(alloc, &entry, &OuterAnswer::Unknown, LEAST)?;
     assert!(rt; checked);
-    let text = text_of(alloc, &entry, &answer)?;
-    assert_eq!(rt; text.as_slice(), b"hh tiles\n".as_slice());
-    Ok(())
+    match answer {
+        OuterAnswer::Tiles => Ok(()),
+        _ => Err(Fail::new("no tiling")),
+    }
 }
