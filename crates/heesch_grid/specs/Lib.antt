@@ -24,6 +24,7 @@ pub mod Pairs
 pub mod KindLemmas
 pub mod Alike
 pub mod Neighbours
+pub mod PatternTests
 pub mod PatternLaws
 pub mod GridTests
 pub mod Examples

@@ -1,5 +1,5 @@
--- The laws of the grid of a pattern, from tests that compute.
-use Rattle.std.proofs.Common.{◌++◌, max, nat_abs, int_le, IsTrue, IsFalse, All, not-suc-le-zero, ◌≡◌, ℕ, zero, suc, ◌+◌, ◌*◌, ◌<◌, ◌≤◌, Bool, true, false, not, cond, ◌&&◌, ◌||◌, ◌==◌, nat_lt, List, [], ◌∷◌, map, get_or, length, filter, AllPairs, ℤ, pos, negsuc, ◌+ℤ◌, ◌-ℤ◌, ◌≤ℤ◌, ◌<ℤ◌, int_lt, refl, sym, ap, ◌∙◌, arith, inl, inr}
+-- The laws of the grid of a pattern that passes its tests.
+use Rattle.std.proofs.Common.{◌++◌, max, nat_abs, int_le, IsTrue, IsFalse, All, not-suc-le-zero, ◌≡◌, ℕ, zero, suc, ◌+◌, ◌*◌, ◌<◌, ◌≤◌, Bool, true, false, not, cond, ◌&&◌, ◌||◌, ◌==◌, nat_lt, List, [], ◌∷◌, map, length, filter, AllPairs, ℤ, pos, negsuc, ◌+ℤ◌, ◌-ℤ◌, ◌≤ℤ◌, ◌<ℤ◌, int_lt, refl, sym, ap, ◌∙◌, arith, inl, inr}
 use Rattle.std.specs.List.{list_any, list_all}
 use Rattle.std.specs.Ordering.{int_eq}
 use Rattle.std.proofs.lemmas.Int.{ints}
@@ -11,111 +11,17 @@ use Rattle.heesch_grid.specs.declared.Cell.{Cell}
 use Rattle.heesch_grid.specs.declared.isometries.Iso.{Iso}
 use Rattle.heesch_grid.specs.KindLemmas.{is_cell_moved, kind_found}
 use Rattle.heesch_grid.specs.Integers.{same_truth}
-use Rattle.heesch_grid.specs.Alike.{kinds_alike, alike}
-use Rattle.heesch_grid.specs.Neighbours.{table_test, table_near, table_turns, corners_near, cells_turn, sharing_near, turned_is_cell, related, listed_related, related_listed, listed_kept, table_back, listed_back}
+use Rattle.heesch_grid.specs.Alike.{alike}
+use Rattle.heesch_grid.specs.Neighbours.{table_test, table_near, table_turns, sharing_near, turned_is_cell, related, listed_related, related_listed, listed_kept, table_back, listed_back}
 use Rattle.heesch_grid.specs.Listing.{is_rising, ListsExactly}
 use Rattle.heesch_grid.specs.Cells.{cell, same_cell, cell_before, has}
 use Rattle.heesch_grid.specs.Geometry.{Geometry, IsGrid, IsCell, Adjacent, Touching, apply, are_two_cells, shared_corners, same_point}
 use Rattle.heesch_grid.specs.Vectors.{plus, minus, times, negated, IsWithin, row_from, box_from, box_of}
-use Rattle.heesch_grid.specs.Pattern.{Pattern, Kind, Turn, kind_of, grid_of, turned, identity, composed, inverted, corners_of, shared}
+use Rattle.heesch_grid.specs.Pattern.{Pattern, Kind, kind_of, grid_of, turned, identity, composed, inverted, corners_of, shared}
 use Rattle.heesch_grid.specs.Lists.{all_below, all_below_at, all_at, found, any_like, any_map, filter_like, length-filter_map, rising_by_test}
 use Rattle.heesch_grid.specs.Pairs.{Cell-eta, same_cell-true, same_cell-is, same_cell-refl, turned_add, turned_within, small_turn, turn_after, turn_after_is, turn_eq, eq_turn, int_cases, within_abs, abs_within, has-true, All-by_members, or-left, or-right}
 use Rattle.std.proofs.lemmas.List.Sums.{length-filter}
-
--- turn k of the pattern
-abbrev turn_at : Pattern → ℕ → Turn
-turn_at p k = get_or p.turns k identity
-
--- whether `composed` gives a turn whose coefficients are those of one turn after the other
-abbrev pub compose_test : Pattern → Bool
-compose_test p =
-    let n = p.rotations in
-    let size = length p.turns in
-    all_below (λ k. all_below (λ l. nat_lt (composed n k l) size && turn_eq (turn_at p (composed n k l)) (turn_after (turn_at p l) (turn_at p k))) size) size
-
--- whether `inverted` gives a turn that undoes each turn
-abbrev pub inverse_test : Pattern → Bool
-inverse_test p =
-    let n = p.rotations in
-    let size = length p.turns in
-    all_below (λ k. nat_lt (inverted n k) size && (composed n k (inverted n k) == 0 && composed n (inverted n k) k == 0)) size
-
--- the lengths and the order of the tables
-abbrev pub tables_fit : Pattern → (Kind → List Cell) → ℕ → Bool
-tables_fit p table n = list_all (λ k. length (table k) == n && is_rising cell_before (table k)) p.kinds
-
--- whether each kind has an adjacent difference on this side
-abbrev pub sides_test : Pattern → (Cell → Bool) → Bool
-sides_test p side = list_all (λ k. list_any side k.adjacent) p.kinds
-
--- the four sides
-abbrev pub goes_right : Cell → Bool
-goes_right x = int_lt (pos 0) x.a
-
-abbrev pub goes_left : Cell → Bool
-goes_left x = int_lt x.a (pos 0)
-
-abbrev pub goes_up : Cell → Bool
-goes_up x = int_lt (pos 0) x.b
-
-abbrev pub goes_down : Cell → Bool
-goes_down x = int_lt x.b (pos 0)
-
--- how many shared corners make cells adjacent
-abbrev pub is_two : ℕ → Bool
-is_two n = n == 2
-
--- and how many make them touch
-abbrev pub is_some_number : ℕ → Bool
-is_some_number n = nat_lt 0 n
-
--- whether the cells of the list differ
-abbrev pub all_differ : List Cell → Bool
-all_differ [] = true
-all_differ (x ∷ xs) = list_all (λ y. not (same_cell x y)) xs && all_differ xs
-
--- whether the cell lies in the first square of side `unit`
-abbrev pub in_block_test : Pattern → Cell → Bool
-in_block_test p c = (grid_of p).is_cell c && (int_le (pos 0) c.a && (int_lt c.a (pos p.unit) && (int_le (pos 0) c.b && int_lt c.b (pos p.unit))))
-
--- what is computed of a pattern; `pattern_laws` turns it into the laws of a grid
-pub record Tests (p : Pattern) : Type 0 where
-  pub unit_low : 1 ≤ p.unit
-  pub unit_high : p.unit ≤ 6
-  pub scale_low : 1 ≤ p.scale
-  pub per_low : 1 ≤ length p.kinds
-  pub per_high : length p.kinds ≤ 6
-  pub per_exact : length (filter (grid_of p).is_cell (box_of p.unit p.unit)) ≡ length p.kinds
-  pub block_rises : is_rising cell_before (filter (grid_of p).is_cell (box_of p.unit p.unit)) ≡ true
-  pub block_within : list_all (in_block_test p) (filter (grid_of p).is_cell (box_of p.unit p.unit)) ≡ true
-  pub turns_low : 1 ≤ length p.turns
-  pub turns_high : length p.turns ≤ 12
-  pub half_turn_below : p.half_turn < length p.turns
-  pub half_turn_is : turn_at p p.half_turn ≡ record { new_a = cell (negsuc 0) (pos 0); new_b = cell (pos 0) (negsuc 0) }
-  pub turn_0_is : turn_at p 0 ≡ identity
-  pub small_turns : list_all small_turn p.turns ≡ true
-  pub composes : compose_test p ≡ true
-  pub inverts : inverse_test p ≡ true
-  pub cells_turn : cells_turn p ≡ true
-  pub kinds_alike : kinds_alike p ≡ true
-  pub corners_near : corners_near p ≡ true
-  pub corners_differ : list_all (λ k. all_differ k.corners) p.kinds ≡ true
-  pub adjacent_high : p.adjacent_count ≤ 12
-  pub touching_high : p.touching_count ≤ 12
-  pub adjacent_fits : tables_fit p (λ k. k.adjacent) p.adjacent_count ≡ true
-  pub touching_fits : tables_fit p (λ k. k.touching) p.touching_count ≡ true
-  pub adjacent_near : table_near p (λ k. k.adjacent) ≡ true
-  pub touching_near : table_near p (λ k. k.touching) ≡ true
-  pub adjacent_turns : table_turns p (λ k. k.adjacent) ≡ true
-  pub touching_turns : table_turns p (λ k. k.touching) ≡ true
-  pub adjacent_back : table_back p (λ k. k.adjacent) ≡ true
-  pub touching_back : table_back p (λ k. k.touching) ≡ true
-  pub adjacent_test : table_test p (λ k. k.adjacent) is_two ≡ true
-  pub touching_test : table_test p (λ k. k.touching) is_some_number ≡ true
-  pub right : sides_test p goes_right ≡ true
-  pub left : sides_test p goes_left ≡ true
-  pub above : sides_test p goes_up ≡ true
-  pub below : sides_test p goes_down ≡ true
+use Rattle.heesch_grid.specs.PatternTests.{Tests, turn_at, tables_fit, sides_test, goes_right, goes_left, goes_up, goes_down, is_two, is_some_number, all_differ, in_block_test, passes, passed}
 
 -- ---- what the relations say
 -- two different cells that share a number of corners of which rel holds
@@ -409,3 +315,7 @@ module _ (p : Pattern) (t : Tests p) where
           let w = and_parts (int_lt c.a (pos p.unit)) (int_le (pos 0) c.b && int_lt c.b (pos p.unit)) v.1 in
           let z = and_parts (int_le (pos 0) c.b) (int_lt c.b (pos p.unit)) w.1 in
           (u.0, omega (arith, ints, v.0), omega (arith, ints, w.0), omega (arith, ints, z.0), omega (arith, ints, z.1))
+
+-- the laws of a pattern by its tests
+pub laws_by_tests : (p : Pattern) → passes p ≡ true → IsGrid (grid_of p)
+laws_by_tests p h = pattern_laws p (passed p h)
