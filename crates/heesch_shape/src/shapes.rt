@@ -1,5 +1,5 @@
 //! A polyform by its cell list.
-ghost use Rattle.std.specs.Prelude.{◌≡◌, ◌<◌, ◌≤◌, [], ◌∷◌, true, false, length, All, IfOk, IfErr};
+ghost use Rattle.std.specs.Prelude.{◌≡◌, ◌<◌, ◌≤◌, ◌≤ℤ◌, [], ◌∷◌, true, false, neg_ℤ, pos, length, List, All, IfOk, IfErr, IsPermutation, IsSorted};
 ghost use Rattle.std.proofs.Common.{refl};
 ghost use Rattle.std.specs.Cmp.{partial_order_from_total};
 ghost use Rattle.std.specs.Cmp.Lexicographic.{slice_cmp};
@@ -10,7 +10,7 @@ ghost use Rattle.heesch_grid.specs.Geometry.{Adjacent, image};
 ghost use Rattle.heesch_grid.specs.Vectors.{IsWithin};
 ghost use Rattle.heesch_shape.specs.Walks.{IsShape};
 ghost use Rattle.heesch_grid.specs.Polyform.{IsNormalised, IsCanonicalListOf};
-ghost use Rattle.heesch_shape.specs.Least.{IsTranslate, IsTurned};
+ghost use Rattle.heesch_shape.specs.Least.{IsNormalising, IsStep, IsTranslate, IsTurned};
 ghost use Rattle.heesch_grid.specs.declared.Cell.{Cell};
 
 use crate::faults::ShapeFault;
@@ -80,6 +80,41 @@ impl<G: Grid> Eq for Shape<G> {
     ghost laws = { list_equivalence };
 }
 
+/// The multiple of the unit that moves a coordinate to where its unit is the first.
+fn step_of<G: Grid>(z: i32) -> i32
+    requires low { neg_ℤ (pos 1000000) ≤ℤ z }
+    requires high { z ≤ℤ pos 1000000 }
+    ensures { IsStep G.geometry.unit z result }
+{
+    -floor_multiple(z, G::UNIT)
+}
+
+/// The pair that moves the cells of a shape to where those of a normalised one stand.
+fn normalising<G: Grid>(cells: &[Cell]) -> Cell
+    requires { IsShape G.geometry cells.now }
+    ensures { IsNormalising G.geometry cells.now result }
+{
+    let least = least(cells);
+    Cell {
+        a: step_of::<G>(least.a),
+        b: step_of::<G>(least.b),
+    }
+}
+
+/// The shape of cells in any order. Condition: in order they are a shape's.
+fn in_order<G: Grid>(mut cells: ArrayVec<Cell, CELLS_MAX>) -> Shape<G>
+    requires { (ys : List Cell) → IsPermutation cells.items ys → IsSorted cell_cmp ys → IsShape G.geometry ys }
+    ensures same { IsPermutation cells.items result }
+    ensures sorted { IsSorted cell_cmp result }
+    ensures shape { IsShape G.geometry result }
+{
+    cells.sort_unstable();
+    Shape {
+        cells,
+        grid: PhantomData,
+    }
+}
+
 impl<G: Grid> Shape<G> {
     ghost use Rattle.heesch_shape.specs.Faults.{IsFault, IsFaultless};
 
@@ -115,12 +150,7 @@ impl<G: Grid> Shape<G> {
         if let Some(at) = first_among(cells, outside.as_slice()) {
             return Err(ShapeFault::Apart { at });
         }
-        let mut sorted = copied(cells);
-        sorted.sort_unstable();
-        Ok(Shape {
-            cells: sorted,
-            grid: PhantomData,
-        })
+        Ok(in_order(copied(cells)))
     }
 
     /// The shape of one cell, whose coordinates lie within 1,000,000 of 0.
@@ -163,12 +193,7 @@ impl<G: Grid> Shape<G> {
         ensures list { IsCellListOf (image G.geometry by self.now) result }
         ensures shape { IsShape G.geometry result }
     {
-        let mut cells = carried::<G>(self.cells.as_slice(), by);
-        cells.sort_unstable();
-        Shape {
-            cells,
-            grid: PhantomData,
-        }
+        in_order(carried::<G>(self.cells.as_slice(), by))
     }
 
     /// The shape of at most 31 cells with one more, which is not its own, lies beside one of its
@@ -183,11 +208,7 @@ impl<G: Grid> Shape<G> {
     {
         let mut cells = copied(self.cells.as_slice());
         cells.push(added);
-        cells.sort_unstable();
-        Shape {
-            cells,
-            grid: PhantomData,
-        }
+        in_order(cells)
     }
 
     /// The normalised translate: the one by a multiple of UNIT for which the least floor(a / UNIT)
@@ -198,13 +219,9 @@ impl<G: Grid> Shape<G> {
         ensures within { (c : Cell) → has result c ≡ true → IsWithin 200 c }
         ensures shape { IsShape G.geometry result }
     {
-        let least = least(self.cells.as_slice());
-        let by = Cell {
-            a: -floor_multiple(least.a, G::UNIT),
-            b: -floor_multiple(least.b, G::UNIT),
-        };
+        let cells = self.cells.as_slice();
         Shape {
-            cells: moved(self.cells.as_slice(), by),
+            cells: moved(cells, normalising::<G>(cells)),
             grid: PhantomData,
         }
     }
