@@ -1,5 +1,5 @@
 -- Images under isometries, from the laws of a grid.
-use Rattle.std.proofs.Common.{◌≡◌, ℕ, zero, suc, ◌<◌, ◌*◌, ℤ, pos, neg_ℤ, ◌≤ℤ◌, ◌*ℤ◌, to_z, of_z, w32, sym, ap, ◌∙◌, arith}
+use Rattle.std.proofs.Common.{◌≡◌, ℕ, zero, suc, ◌<◌, ◌≤◌, ◌*◌, ℤ, pos, neg_ℤ, ◌≤ℤ◌, ◌*ℤ◌, to_z, of_z, w32, sym, ap, ◌∙◌, arith}
 use Rattle.std.proofs.lemmas.Int.{ints}
 use Rattle.heesch_grid.specs.declared.Cell.{Cell}
 use Rattle.heesch_grid.specs.Cells.{cell}
@@ -10,6 +10,10 @@ use Rattle.heesch_grid.specs.Integers.{mul_neg, small_multiple}
 
 abbrev pub origin : Cell
 origin = cell (pos 0) (pos 0)
+
+-- pairs within a bound are within a greater one
+pub wider : (m n : ℕ) (c : Cell) → m ≤ n → IsWithin m c → IsWithin n c
+wider m n c l w = record { a_low = omega (arith, ints, w.a_low); a_high = omega (arith, ints, w.a_high); b_low = omega (arith, ints, w.b_low); b_high = omega (arith, ints, w.b_high) }
 
 times_suc : (n : ℕ) (c : Cell) → times (suc n) c ≡ plus c (times n c)
 times_suc n c = Cell-eta (times (suc n) c) (plus c (times n c)) (omega (arith, ints)) (omega (arith, ints))

@@ -22,6 +22,7 @@ pub mod Pinned
 pub mod AroundFacts
 pub mod Connected
 pub mod CanonicalFacts
+pub mod Quotients
 pub mod GrowthOfLists
 pub mod ReductionFacts
 pub mod TorusFacts

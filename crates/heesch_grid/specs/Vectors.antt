@@ -1,5 +1,5 @@
 -- Sums, differences and multiples of pairs, and pairs near 0.
-use Rattle.std.specs.Prelude.{ℕ, zero, suc, List, [], ◌∷◌, ◌++◌, ℤ, pos, ◌+ℤ◌, ◌-ℤ◌, ◌*ℤ◌, ◌≤ℤ◌, neg_ℤ}
+use Rattle.std.specs.Prelude.{◌≡◌, ℕ, zero, suc, List, [], ◌∷◌, ◌++◌, ℤ, pos, ◌+ℤ◌, ◌-ℤ◌, ◌*ℤ◌, ◌≤ℤ◌, neg_ℤ}
 use Rattle.heesch_grid.specs.declared.Cell.{Cell}
 use Rattle.heesch_grid.specs.Cells.{cell}
 
@@ -22,6 +22,11 @@ pub record IsWithin (n : ℕ) (c : Cell) : Type 0 where
   pub a_high : c.a ≤ℤ pos n
   pub b_low : neg_ℤ (pos n) ≤ℤ c.b
   pub b_high : c.b ≤ℤ pos n
+
+-- so many units in each coordinate are this pair
+pub record AreUnitsOf (unit : ℤ) (units c : Cell) : Type 0 where
+  pub in_a : unit *ℤ units.a ≡ c.a
+  pub in_b : unit *ℤ units.b ≡ c.b
 
 -- `wide` pairs of row b, from a on
 abbrev pub row_from : ℕ → ℕ → ℤ → List Cell

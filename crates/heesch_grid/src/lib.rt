@@ -18,6 +18,7 @@ mod hexes;
 mod iamonds;
 mod isometries;
 pub mod laws;
+pub mod moves;
 mod squares;
 pub mod tables;
 pub mod turns;

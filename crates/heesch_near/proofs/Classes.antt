@@ -16,11 +16,11 @@ use Rattle.heesch_grid.specs.Lattice.{Triple}
 use Rattle.heesch_grid.specs.Symmetry.{Member, IsRepresentative, TakesExactly, AreClasses}
 use Rattle.heesch_grid.specs.TorusFormula.{IsWithinTriple}
 use Rattle.heesch_grid.specs.Vectors.{IsWithin}
-use Rattle.heesch_grid.proofs.Images.{turn_within}
+use Rattle.heesch_grid.proofs.Images.{turn_within, wider}
 use Rattle.heesch_grid.proofs.WindowFacts.{member_map, map_member}
 use Rattle.heesch_cert.specs.Reduced.{IsReducedPlace}
 use Rattle.heesch_near.specs.Statements.{IsNearPlace, ClassesAreNear}
-use Rattle.heesch_near.proofs.Distances.{wider, translation_near}
+use Rattle.heesch_near.proofs.Distances.{translation_near}
 use Rattle.heesch_near.proofs.Shapes.{IsNearShape, near_shape}
 
 -- ---- classes

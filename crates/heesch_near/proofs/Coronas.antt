@@ -21,7 +21,8 @@ use Rattle.heesch_grid.proofs.TileFacts.{member_cells, cells_member, placement_s
 use Rattle.heesch_grid.proofs.WindowFacts.{member_map}
 use Rattle.heesch_cuts.proofs.HoleFacts.{hole_within}
 use Rattle.heesch_near.specs.Statements.{IsNearPlace, IsNearLayer, CoronasAreNear}
-use Rattle.heesch_near.proofs.Distances.{wider, translation_near}
+use Rattle.heesch_near.proofs.Distances.{translation_near}
+use Rattle.heesch_grid.proofs.Images.{wider}
 use Rattle.heesch_near.proofs.Shapes.{IsNearShape, first_cell, near_shape}
 use Rattle.heesch_near.proofs.Levels.{level_within}
 

@@ -9,9 +9,6 @@ use Rattle.heesch_grid.specs.Geometry.{Geometry, IsGrid, IsIsometry, apply}
 use Rattle.heesch_grid.specs.Vectors.{IsWithin}
 use Rattle.heesch_grid.proofs.Images.{turn_within}
 
-pub wider : (m n : ℕ) (c : Cell) → m ≤ n → IsWithin m c → IsWithin n c
-wider m n c l w = record { a_low = omega (arith, ints, w.a_low); a_high = omega (arith, ints, w.a_high); b_low = omega (arith, ints, w.b_low); b_high = omega (arith, ints, w.b_high) }
-
 -- a factor is no greater than its multiple by at least 1
 factor_near : (n m : ℕ) (q : ℤ) → 1 ≤ n → neg_ℤ (pos m) ≤ℤ (pos n *ℤ q) → (pos n *ℤ q) ≤ℤ pos m → (neg_ℤ (pos m) ≤ℤ q) × (q ≤ℤ pos m)
 factor_near n m (pos k) low a b =

@@ -18,7 +18,7 @@ use Rattle.heesch_cert.specs.Cuts.{IsLawful, IsInBorder}
 use Rattle.heesch_cert.proofs.Versions.{universe_of}
 use Rattle.heesch_cuts.proofs.HoleFacts.{hole_within}
 use Rattle.heesch_near.specs.Statements.{HolesAreNear}
-use Rattle.heesch_near.proofs.Distances.{wider}
+use Rattle.heesch_grid.proofs.Images.{wider}
 use Rattle.heesch_near.proofs.Shapes.{IsNearShape, near_shape}
 use Rattle.heesch_near.proofs.Levels.{level_within}
 

@@ -6,7 +6,7 @@ use Rattle.heesch_grid.specs.Geometry.{Geometry, IsGrid}
 use Rattle.heesch_grid.specs.CoronaFormula.{IsAtLevel}
 use Rattle.heesch_grid.specs.Vectors.{IsWithin}
 use Rattle.heesch_cuts.proofs.Nearby.{AreNear, level_near}
-use Rattle.heesch_near.proofs.Distances.{wider}
+use Rattle.heesch_grid.proofs.Images.{wider}
 use Rattle.heesch_near.proofs.Shapes.{IsNearShape}
 
 -- a cell near one within m of 0

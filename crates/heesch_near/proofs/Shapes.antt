@@ -11,7 +11,7 @@ use Rattle.heesch_grid.proofs.IsometryFacts.{image_polyform}
 use Rattle.heesch_grid.proofs.ListFacts.{member_here, All-from_members}
 use Rattle.heesch_shape.proofs.Near.{canonical_within}
 use Rattle.heesch_near.specs.Statements.{ShapesAreNear}
-use Rattle.heesch_near.proofs.Distances.{wider}
+use Rattle.heesch_grid.proofs.Images.{wider}
 
 -- a polyform of at most 32 cells near 0, and a cell of it
 pub record IsNearShape (g : Geometry) (shape : List Cell) : Type 0 where

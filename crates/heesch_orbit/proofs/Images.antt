@@ -13,7 +13,7 @@ use Rattle.heesch_grid.specs.Geometry.{Geometry, IsGrid, apply, image, moved}
 use Rattle.heesch_grid.specs.Pairs.{Cell-eta, has-true}
 use Rattle.heesch_grid.specs.Vectors.{IsWithin}
 use Rattle.heesch_grid.proofs.CellFacts.{cell_before-irreflexive, cell_before-asymmetric, has-is}
-use Rattle.heesch_grid.proofs.Images.{turn_within}
+use Rattle.heesch_grid.proofs.Images.{turn_within, wider}
 use Rattle.heesch_grid.proofs.IsometryFacts.{moved_twice}
 use Rattle.heesch_grid.proofs.ListFacts.{same_rising, All-from_members}
 use Rattle.heesch_grid.proofs.SymmetryFacts.{translations_are_determined}
@@ -33,9 +33,6 @@ turned_within g law k n c less w =
     let t = turn_within g law k n c less w in
     let z : pos g.unit *ℤ pos 0 ≡ pos 0 = omega (arith, ints) in
     record { a_low = omega (arith, ints, t.a_low, z); a_high = omega (arith, ints, t.a_high, z); b_low = omega (arith, ints, t.b_low, z); b_high = omega (arith, ints, t.b_high, z) }
-
-wider : (m n : ℕ) (c : Cell) → m ≤ n → IsWithin m c → IsWithin n c
-wider m n c h w = record { a_low = omega (arith, ints, h, w.a_low); a_high = omega (arith, ints, h, w.a_high); b_low = omega (arith, ints, h, w.b_low); b_high = omega (arith, ints, h, w.b_high) }
 
 pub images_within : (g : Geometry) → IsGrid g → (k : ℕ) (shape : List Cell) → k < g.turns → ((c : Cell) → has shape c ≡ true → IsWithin 100000 c) → All (IsWithin 1000000) (image g (turn_alone k) shape)
 images_within g law k shape less near = All-from_members (IsWithin 1000000) (image g (turn_alone k) shape) (λ d m.

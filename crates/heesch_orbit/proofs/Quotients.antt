@@ -1,4 +1,4 @@
--- Exact quotients, and the vectors of a lattice by two of them.
+-- The vectors of a lattice by two exact quotients.
 use Rattle.std.proofs.Common.{◌≡◌, sym, ap, ◌∙◌, ℕ, ◌+◌, ◌*◌, ◌/◌, ◌%◌, ◌≤◌, ℤ, pos, negsuc, neg_ℤ, ◌+ℤ◌, ◌-ℤ◌, ◌*ℤ◌, ◌≤ℤ◌, ◌<ℤ◌, Bool, true, false, true≢false, Option, Some, None, IfSome, IfNone, to_z, of_z, w32, arith}
 use Rattle.std.specs.Int.{int_rem_euclid}
 use Rattle.std.specs.Option.{is_some}
@@ -8,32 +8,8 @@ use Rattle.heesch_grid.specs.declared.Cell.{Cell}
 use Rattle.heesch_grid.specs.Integers.{mul_neg, mul_comm}
 use Rattle.heesch_grid.specs.Geometry.{Geometry, IsGrid}
 use Rattle.heesch_grid.specs.Lattice.{Triple}
-use Rattle.heesch_grid.proofs.CanonicalFacts.{rounds_once}
+use Rattle.heesch_grid.proofs.Quotients.{one_quotient}
 use Rattle.heesch_orbit.specs.Steps.{IsVector}
-
--- what is left without the remainder is a multiple
-quotient : (z unit : ℤ) → pos 1 ≤ℤ unit → (q : ℤ) × (z -ℤ int_rem_euclid z unit ≡ unit *ℤ q)
-quotient (pos a) (pos n) low =
-    let k : n * (a / n) + a % n ≡ a = let l : 1 ≤ n = omega (arith, ints) in omega arith in
-    (pos (a / n), omega (arith, ints))
-quotient (negsuc a) (pos n) low =
-    let l : 1 ≤ n = omega (arith, ints) in
-    let k : n * (a / n) + a % n ≡ a = omega arith in
-    (neg_ℤ (pos (a / n + 1)), rw mul_neg (omega (arith, ints)))
-quotient z (negsuc n) low = absurd (omega (arith, ints))
-
-same_quotient : (unit z p q r : ℤ) → pos 1 ≤ℤ unit → (unit *ℤ p) +ℤ r ≡ z → pos 0 ≤ℤ r → r <ℤ unit → unit *ℤ q ≡ z → r ≡ pos 0
-same_quotient (pos n) z p q r some e low high f =
-    let same : p ≡ q = rounds_once z n p q (omega (arith, ints, some)) (record { low = omega (arith, ints, e, low); high = omega (arith, ints, e, high) }) (record { low = omega (arith, ints, f); high = omega (arith, ints, f, some) }) in
-    let g = ap (λ x. pos n *ℤ x) same in
-    omega (arith, ints, e, f, g)
-same_quotient (negsuc n) z p q r some e low high f = absurd (omega (arith, ints, some))
-
--- a multiple leaves no remainder
-pub no_rest : (unit z q r : ℤ) → pos 1 ≤ℤ unit → r ≡ int_rem_euclid z unit → pos 0 ≤ℤ r → r <ℤ unit → unit *ℤ q ≡ z → r ≡ pos 0
-no_rest unit z q r some is low high f =
-    let p = quotient z unit some in
-    same_quotient unit z p.0 q r some (let e = p.1 in omega (arith, ints, e, is)) low high f
 
 -- p and q of a small triple are small
 pub side_small : (p q : ℕ) → 1 ≤ p → 1 ≤ q → p * q ≤ 4096 → (p ≤ 4096) × (q ≤ 4096)
@@ -44,10 +20,6 @@ side_small p q k l h = (left p q l h, right p q k h)
 
     right : (p q : ℕ) → 1 ≤ p → p * q ≤ 4096 → q ≤ 4096
     right p q k h = let m : 1 * q ≤ p * q = mul-le-mul_right q k in omega (arith, m)
-
--- two quotients by one number are one
-one_quotient : (n : ℕ) (x y z : ℤ) → 1 ≤ n → pos n *ℤ x ≡ z → pos n *ℤ y ≡ z → x ≡ y
-one_quotient n x y z l e f = rounds_once z n x y l (record { low = omega (arith, ints, e); high = omega (arith, ints, e, l) }) (record { low = omega (arith, ints, f); high = omega (arith, ints, f, l) })
 
 -- the quotient of the second number is j, and that of what is left of the first is i
 pub vector_of : (t : Triple) (v : Cell) (i j : ℤ) → pos t.q *ℤ j ≡ v.b → pos t.p *ℤ i ≡ v.a -ℤ (j *ℤ pos t.s) → IsVector t v

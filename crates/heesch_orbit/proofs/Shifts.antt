@@ -1,18 +1,18 @@
 -- Translations between cell lists.
-use Rattle.std.proofs.Common.{◌≡◌, sym, ap, subst, ◌∙◌, ◌<◌, true, List, [], ◌∷◌, map, length, get_or, ℤ, pos, ◌*ℤ◌, arith, Contains}
+use Rattle.std.proofs.Common.{ℕ, ◌≡◌, sym, ap, subst, ◌∙◌, ◌<◌, true, List, [], ◌∷◌, map, length, get_or, ℤ, pos, ◌*ℤ◌, arith, Contains}
 use Rattle.std.specs.Prelude.{IsTrue}
 use Rattle.std.proofs.lemmas.Int.{ints}
 use Rattle.std.proofs.lemmas.List.Elements.{All-contains}
 use Rattle.heesch_grid.specs.declared.Cell.{Cell}
 use Rattle.heesch_grid.specs.Listing.{IsRising}
-use Rattle.heesch_grid.specs.Cells.{cell_before, SameCells}
+use Rattle.heesch_grid.specs.Cells.{cell_before, has, same_cell, SameCells}
 use Rattle.heesch_grid.specs.Geometry.{Geometry, moved}
-use Rattle.heesch_grid.specs.Pairs.{Cell-eta}
-use Rattle.heesch_grid.specs.Vectors.{plus, times}
+use Rattle.heesch_grid.specs.Pairs.{Cell-eta, or-left, same_cell-refl}
+use Rattle.heesch_grid.specs.Vectors.{AreUnitsOf, IsWithin, plus, times}
 use Rattle.heesch_grid.proofs.CellFacts.{cell_before-irreflexive, cell_before-asymmetric}
 use Rattle.heesch_grid.proofs.ListFacts.{same_rising, All-from_members}
 use Rattle.heesch_grid.proofs.WindowFacts.{map_member}
-use Rattle.heesch_orbit.specs.Steps.{IsStepBetween, IsInUnits}
+use Rattle.heesch_orbit.specs.Steps.{IsStepBetween}
 use Rattle.heesch_orbit.proofs.Sets.{set_of, same_through, map_alike}
 
 before_moved : (s c d : Cell) → cell_before c d ≡ true → cell_before (plus s c) (plus s d) ≡ true
@@ -50,12 +50,17 @@ step_first g w v [] ys d e r q l m f h = absurd (omega arith)
 step_first g w v (x ∷ xs) [] d e r q l m f h = absurd (omega arith)
 step_first g w v (x ∷ xs) (y ∷ ys) d e r q l m f h = plus_once x (times g.unit w) v (heads (map (plus (times g.unit w)) (x ∷ xs)) (y ∷ ys) d (step_lists g w (x ∷ xs) (y ∷ ys) r q h) ∙ sym f)
 
+-- the first cell of a list is near where all are
+pub first_near : (n : ℕ) (xs ys : List Cell) (d : Cell) → ys ≡ xs → 0 < length xs → ((c : Cell) → has xs c ≡ true → IsWithin n c) → IsWithin n (get_or ys 0 d)
+first_near n [] ys d e some near = absurd (omega arith)
+first_near n (x ∷ xs) ys d e some near = subst (λ zs. IsWithin n (get_or zs 0 d)) (sym e) (near x (or-left (same_cell x x) (has xs x) (same_cell-refl x)))
+
 -- a translation by a multiple of the unit is a step
 pub is_step : (g : Geometry) (w v : Cell) (xs ys : List Cell) → times g.unit w ≡ v → map (plus v) xs ≡ ys → IsStepBetween g xs ys w
 is_step g w v xs ys e h = set_of (map (moved g w.a w.b) xs) ys (map_alike (moved g w.a w.b) (plus (times g.unit w)) (moved_is g w) xs ∙ ap (λ s. map (plus s) xs) e ∙ h)
 
-pub in_units : (g : Geometry) (unit : ℤ) (w v : Cell) → unit ≡ pos g.unit → times g.unit w ≡ v → IsInUnits unit w v
+pub in_units : (g : Geometry) (unit : ℤ) (w v : Cell) → unit ≡ pos g.unit → times g.unit w ≡ v → AreUnitsOf unit w v
 in_units g unit w v e h = record { in_a = ap (λ u. u *ℤ w.a) e ∙ ap (λ z. z.a) h; in_b = ap (λ u. u *ℤ w.b) e ∙ ap (λ z. z.b) h }
 
-pub of_units : (g : Geometry) (unit : ℤ) (w v : Cell) → unit ≡ pos g.unit → IsInUnits unit w v → times g.unit w ≡ v
+pub of_units : (g : Geometry) (unit : ℤ) (w v : Cell) → unit ≡ pos g.unit → AreUnitsOf unit w v → times g.unit w ≡ v
 of_units g unit w v e h = Cell-eta (times g.unit w) v (ap (λ u. u *ℤ w.a) (sym e) ∙ h.in_a) (ap (λ u. u *ℤ w.b) (sym e) ∙ h.in_b)

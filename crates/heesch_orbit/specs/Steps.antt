@@ -13,11 +13,6 @@ pub record IsVector (t : Triple) (v : Cell) : Type 0 where
   pub in_a : v.a ≡ i *ℤ pos t.p +ℤ j *ℤ pos t.s
   pub in_b : v.b ≡ j *ℤ pos t.q
 
--- w is v in units
-pub record IsInUnits (unit : ℤ) (w v : Cell) : Type 0 where
-  pub in_a : unit *ℤ w.a ≡ v.a
-  pub in_b : unit *ℤ w.b ≡ v.b
-
 -- the first set, moved by v units, is the second
 abbrev pub IsStepBetween : Geometry → List Cell → List Cell → Cell → Type 0
 IsStepBetween g from to v = SameCells (map (moved g v.a v.b) from) to

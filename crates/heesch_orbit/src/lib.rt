@@ -2,7 +2,6 @@
 #![tactic(auto)]
 
 mod classing;
-mod division;
 pub mod laws;
 mod steps;
 mod symmetries;

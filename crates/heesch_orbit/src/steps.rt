@@ -3,28 +3,11 @@ ghost use Rattle.std.specs.Prelude.{◌≡◌, ◌≤◌, ◌<◌, ◌↔◌, �
 ghost use Rattle.heesch_grid.specs.declared.Cell.{Cell};
 ghost use Rattle.heesch_grid.specs.Cells.{has};
 ghost use Rattle.heesch_grid.specs.Vectors.{IsWithin, plus};
-ghost use Rattle.heesch_orbit.specs.Steps.{IsInUnits, IsStepBetween};
+ghost use Rattle.heesch_orbit.specs.Steps.{IsStepBetween};
 
-use crate::division::exact_quotient;
+use heesch_grid::moves::{difference, units_of};
 use heesch_grid::{Cell, Grid};
 use heesch_shape::Shape;
-
-/// How many units z is, where it is a multiple of the unit.
-fn units(z: i32, unit: i32) -> Option<i32>
-    requires positive { pos 1 ≤ℤ unit }
-    requires small { unit ≤ℤ pos 6 }
-    requires low { neg_ℤ (pos 400000) ≤ℤ z }
-    requires high { z ≤ℤ pos 400000 }
-    ensures some { IfSome result (λ q. (unit *ℤ q) ≡ z) }
-    ensures low { IfSome result (λ q. neg_ℤ (pos 400000) ≤ℤ q) }
-    ensures high { IfSome result (λ q. q ≤ℤ pos 400000) }
-    ensures none { IfNone result ((q : ℤ) → (unit *ℤ q) ≡ z → ⊥) }
-{
-    let Some(q) = exact_quotient(z as i64, unit as i64) else {
-        return None;
-    };
-    Some(q as i32)
-}
 
 /// Whether d is c moved by v.
 fn is_moved(c: Cell, d: Cell, v: Cell) -> bool
@@ -55,37 +38,6 @@ fn are_moved(from: &[Cell], to: &[Cell], v: Cell) -> bool
     true
 }
 
-/// From one cell to the other.
-fn difference(from: Cell, to: Cell) -> Cell
-    requires from { IsWithin 200000 from }
-    requires to { IsWithin 200000 to }
-    ensures is { plus result from ≡ to }
-    ensures within { IsWithin 400000 result }
-{
-    Cell {
-        a: to.a - from.a,
-        b: to.b - from.b,
-    }
-}
-
-/// The translation by v, where each number of v is a multiple of the unit.
-fn in_units(v: Cell, unit: i32) -> Option<Cell>
-    requires positive { pos 1 ≤ℤ unit }
-    requires small { unit ≤ℤ pos 6 }
-    requires within { IsWithin 400000 v }
-    ensures some { IfSome result (λ w. IsInUnits unit w v) }
-    ensures near { IfSome result (IsWithin 400000) }
-    ensures none { IfNone result ((w : Cell) → IsInUnits unit w v → ⊥) }
-{
-    let Some(a) = units(v.a, unit) else {
-        return None;
-    };
-    let Some(b) = units(v.b, unit) else {
-        return None;
-    };
-    Some(Cell { a, b })
-}
-
 /// The translation, in units, that carries one shape to the other, if there is one. Both shapes
 /// lie within 200,000 of 0. Cost: one comparison a cell.
 pub(crate) fn step_between<G: Grid>(from: &Shape<G>, to: &Shape<G>) -> Option<Cell>
@@ -101,5 +53,5 @@ pub(crate) fn step_between<G: Grid>(from: &Shape<G>, to: &Shape<G>) -> Option<Ce
     if !are_moved(cells, others, v) {
         return None;
     }
-    in_units(v, G::UNIT)
+    units_of(v, G::UNIT)
 }

@@ -4,8 +4,8 @@ ghost use Rattle.heesch_grid.specs.Vectors.{IsWithin};
 ghost use Rattle.heesch_orbit.specs.Steps.{IsVector};
 ghost use Rattle.heesch_orbit.specs.Symmetries.{first_vector, second_vector};
 
-use crate::division::exact_quotient;
 use heesch_grid::Cell;
+use heesch_grid::moves::exact_quotient;
 use heesch_lattice::Triple;
 
 /// The number, less j times s.

@@ -15,7 +15,7 @@ use Rattle.heesch_grid.proofs.Images.{turn_within}
 use Rattle.heesch_grid.proofs.ListFacts.{All-from_members}
 use Rattle.heesch_grid.proofs.WindowFacts.{member_map, map_member}
 use Rattle.heesch_place.specs.Found.{Adds, FromOne, LeadsTo, LeadsOnto, IsImageBy, IsTurnedOver, IsPlacementOver}
-use Rattle.heesch_place.specs.Steps.{AreUnitsOf}
+use Rattle.heesch_grid.specs.Vectors.{AreUnitsOf}
 use Rattle.heesch_place.proofs.Gathering.{adds_one, adds_nothing, adds_same}
 use Rattle.heesch_place.proofs.Moves.{one_cell_list}
 

@@ -8,7 +8,7 @@ ghost use Rattle.heesch_grid.specs.Vectors.{IsWithin};
 ghost use Rattle.heesch_place.specs.Found.{Adds, FromOne, LeadsTo, LeadsOnto, IsImageBy, IsTurnedOver, IsPlacementOver};
 
 use crate::lists::add;
-use crate::steps::{difference, units_of};
+use heesch_grid::moves::{difference, units_of};
 use heesch_grid::{Cell, Grid, Iso};
 use heesch_io::NoMemory;
 use heesch_shape::Shape;

@@ -7,8 +7,9 @@ ghost use Rattle.heesch_grid.specs.Geometry.{image};
 ghost use Rattle.heesch_grid.specs.Vectors.{IsWithin, plus};
 ghost use Rattle.heesch_place.specs.Steps.{IsFirstOf};
 
-use crate::steps::{difference, moved, units_of};
+use crate::steps::moved;
 use arrayvec::ArrayVec;
+use heesch_grid::moves::{difference, units_of};
 use heesch_grid::{Cell, Grid, Iso};
 use heesch_shape::{CELLS_MAX, Shape};
 

@@ -2,7 +2,7 @@ use Rattle.std.proofs.Common.{◌≡◌, sym, subst, arith}
 use Rattle.std.proofs.lemmas.Int.{ints}
 use Rattle.std.proofs.lemmas.Result.{on_ok_weaker}
 use Rattle.heesch_grid.proofs.Images.{read}
-use Rattle.heesch_place.specs.Steps.{AreUnitsOf}
+use Rattle.heesch_grid.specs.Vectors.{AreUnitsOf}
 use Rattle.heesch_place.proofs.Reaching.{some_units, no_units}
 use Rattle.heesch_place.proofs.onto.add_units.Goals as goal
 

@@ -1,8 +1,8 @@
 use Rattle.std.proofs.Common.{◌≡◌, pos, to_z, of_z, w64, ap, ◌∙◌, arith}
 use Rattle.std.specs.Int.{int_rem_euclid}
 use Rattle.std.proofs.lemmas.Int.{ints, to_z-of_z}
-use Rattle.heesch_orbit.proofs.Quotients.{no_rest}
-use Rattle.heesch_orbit.proofs.division.exact_quotient.Goals as goal
+use Rattle.heesch_grid.proofs.Quotients.{no_rest}
+use Rattle.heesch_grid.proofs.moves.exact_quotient.Goals as goal
 
 pub returns-then-rem_euclid-ne0-clause-none : goal.returns-then-rem_euclid-ne0-clause-none
 returns-then-rem_euclid-ne0-clause-none c q e =

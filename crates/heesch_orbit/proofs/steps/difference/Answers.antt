@@ -1,7 +1,0 @@
-use Rattle.std.proofs.Common.{arith}
-use Rattle.std.proofs.lemmas.Int.{ints}
-use Rattle.heesch_grid.specs.Pairs.{Cell-eta}
-use Rattle.heesch_orbit.proofs.steps.difference.Goals as goal
-
-pub returns-clause-is : goal.returns-clause-is
-returns-clause-is c = Cell-eta _ _ (omega (arith, ints)) (omega (arith, ints))
