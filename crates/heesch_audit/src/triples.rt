@@ -2,7 +2,6 @@
 ghost use Rattle.std.specs.Prelude.{◌≡◌, ◌↔◌, map, length, All, IsTrue, IfOk};
 ghost use Rattle.heesch_grid.specs.Lattice.{Triple as Lattice};
 ghost use Rattle.heesch_torus.specs.Domain.{HasDomain};
-ghost use Rattle.heesch_torus.specs.Formula.{IsFormulaOf};
 ghost use Rattle.heesch_cert.specs.declared.entry.TripleProof.{TripleProof as Written};
 ghost use Rattle.heesch_cert.specs.Limits.{AreLimits};
 ghost use Rattle.heesch_cert.specs.Proofs.{SettlesTriple};
@@ -11,7 +10,6 @@ ghost use Rattle.heesch_audit.specs.Shapes.{IsCanonicalShape};
 
 use crate::logs::{is_ended, learnt_log};
 use heesch_cert::{Evidence, Limits, TripleProof, Verdict};
-use heesch_cnf::FlatFormula;
 use heesch_grid::Grid;
 use heesch_io::NoMemory;
 use heesch_lattice::Triple;
@@ -47,20 +45,6 @@ fn are_triples_of(written: &[TripleProof], all: &[Triple]) -> bool
     true
 }
 
-/// The torus formula of a triple, flat. The list of its clauses is let go.
-fn flat_torus_formula<G: Grid>(
-    alloc: Global,
-    shape: &Shape<G>,
-    triple: Triple,
-) -> Result<FlatFormula, NoMemory>
-    requires shape { IsCanonicalShape G.geometry shape.now }
-    requires domain { HasDomain G.geometry (length shape.now) triple }
-    ensures { IfOk result (λ f. IsFormulaOf G.geometry shape.now triple f.vars f.clauses) }
-{
-    let formula = torus_formula(alloc, shape, triple)?;
-    FlatFormula::of(alloc, &formula)
-}
-
 /// Whether the proof has no cut, and refutes the torus formula of its triple or is spent for so many turns over it.
 fn is_settled<G: Grid>(
     alloc: Global,
@@ -75,7 +59,7 @@ fn is_settled<G: Grid>(
     let Some(log) = learnt_log(alloc, &written.proof) else {
         return Ok(false);
     };
-    let formula = flat_torus_formula(alloc, shape, written.triple)?;
+    let formula = torus_formula(alloc, shape, written.triple)?;
     is_ended(alloc, &formula, &log, turns)
 }
 

@@ -1,69 +1,84 @@
--- One byte after the other, as the loop goes.
-use Rattle.std.proofs.Common.{◌≡◌, ◌≢◌, ℕ, ◌+◌, ◌<◌, ◌≤◌, ◌^◌, Bool, true, false, eqb, List, [], ◌∷◌, ◌++◌, length, get_or, take, drop, Result, Ok, Err, MatchBool, refl, sym, ap, subst, ◌∙◌, append_assoc, arith, inl, inr}
-use Rattle.std.proofs.lemmas.Bool.{eqb-true, false≢true}
-use Rattle.std.proofs.lemmas.List.{append-nil, length-append, take_more, take_all, length-take-le, drop_more, take-append-drop}
+-- One line after the other, as the loop goes.
+use Rattle.std.proofs.Common.{◌≡◌, ℕ, ◌+◌, ◌<◌, ◌^◌, List, [], ◌∷◌, ◌++◌, length, Result, Ok, Err, refl, sym, ap, subst, ◌∙◌, append_assoc, arith, inl, inr}
+use Rattle.std.proofs.lemmas.List.{append-nil, length-append}
+use Rattle.heesch_text.specs.Lines.{text_of}
+use Rattle.heesch_line.specs.Forms.{HasNoNewline}
 use Rattle.heesch_reader.specs.declared.item.Item.{Item}
 use Rattle.heesch_reader.specs.declared.item.Stop.{Stop}
 use Rattle.heesch_reader.specs.declared.item.Stop.TheVariants as stops
 use Rattle.heesch_reader.specs.declared.scan.Appended.{Appended}
 use Rattle.heesch_reader.specs.declared.scan.Scan.{Scan}
 use Rattle.heesch_reader.specs.Feeding.{RunsOut}
-use Rattle.heesch_reader.specs.Scanning.{MayGoOn, rest_of, Settles, EndsOrFaults, TakesByte, Pushes, EndsLine, Reaches, ReachesOrRefused, shows_whole}
+use Rattle.heesch_reader.specs.Scanning.{MayGoOn, rest_of, Settles, EndsOrFaults, TakesLine, Pushes, Reaches, ReachesOrRefused, shows_whole}
 use Rattle.heesch_reader.proofs.Following.{Follows, starts, pushes, ends_line, reaches, refuses, runs_out, runs_out_settled, room_so_far}
 
-pub byte_ended : (s mid t : Scan) (before between after : List Item) (r : Result (Unit {0}) Stop) → Settles (shows_whole s) s mid before between → EndsOrFaults mid t between after r → TakesByte s t before after 10 r
-byte_ended s mid t before between after (Ok u) g e = record { middle = mid; between = between; settled = g; ended = e }
-byte_ended s mid t before between after (Err (stops.NotText line part)) g e = (refl, record { middle = mid; settled = subst (λ (x : List Item). Settles (shows_whole s) s mid before x) (sym e.1) g; faults = e.0 })
-byte_ended s mid t before between after (Err stops.NoMemory) g e = inr (mid, subst (λ (x : List Item). Settles (shows_whole s) s mid before x) (sym e) g)
+pub line_ended : (s filled mid t : Scan) (before between after : List Item) (bytes : List ℕ) (r : Result (Unit {0}) Stop) → Pushes s filled bytes → Settles (shows_whole filled) filled mid before between → EndsOrFaults mid t between after r → TakesLine s t before after bytes r
+line_ended s filled mid t before between after bytes (Ok u) p g e = (filled, p, record { middle = mid; between = between; settled = g; ended = e })
+line_ended s filled mid t before between after bytes (Err (stops.NotText line part)) p g e = (filled, p, record { middle = mid; settled = subst (λ (x : List Item). Settles (shows_whole filled) filled mid before x) (sym e.1) g; faults = e.0 })
+line_ended s filled mid t before between after bytes (Err stops.NoMemory) p g e = inr (filled, p, (mid, subst (λ (x : List Item). Settles (shows_whole filled) filled mid before x) (sym e) g))
 
--- before a byte: what the bytes so far made
-abbrev pub Going : Scan → Scan → List Item → List Item → List ℕ → ℕ → Type 0
-Going first s before after piece i = Follows first.appended s before after (rest_of first ++ take i piece)
+-- before a line: what the bytes so far made, and those left
+pub record Going (first s : Scan) (before after : List Item) (piece left : List ℕ) : Type 0 where
+  pub read : List ℕ
+  pub split : rest_of first ++ piece ≡ read ++ left
+  pub follows : Follows first.appended s before after read
 
-pub sets_out : (s : Scan) (items : List Item) (piece : List ℕ) → MayGoOn s → Going s s items items piece 0
-sets_out s items piece i = subst (λ (bytes : List ℕ). Follows s.appended s items items bytes) (sym (append-nil (rest_of s))) (starts s items i)
+pub sets_out : (s : Scan) (items : List Item) (piece : List ℕ) → MayGoOn s → Going s s items items piece piece
+sets_out s items piece i = record { read = rest_of s; split = refl; follows = starts s items i }
 
-ten_is_not : (b : ℕ) → eqb b 10 ≡ false → b ≢ 10
-ten_is_not b e f = false≢true (sym e ∙ rw f refl)
+-- the bytes so far, a line and its newline, and those behind it
+around_line : (read line behind : List ℕ) → read ++ (line ++ 10 ∷ behind) ≡ (read ++ line) ++ 10 ∷ behind
+around_line read line behind = sym (append_assoc read line (10 ∷ behind))
 
-by_kind : (first : Appended) (s t : Scan) (before middle after : List Item) (bytes : List ℕ) (b : ℕ) (k : Bool) → eqb b 10 ≡ k → Follows first s before middle bytes
-    → MatchBool k (EndsLine s t middle after) (Pushes s t b × (after ≡ middle)) → Follows first t before after (bytes ++ b ∷ [])
-by_kind first s t before middle after bytes b true k f e = subst (λ (x : ℕ). Follows first t before after (bytes ++ x ∷ [])) (sym (eqb-true b 10 k)) (ends_line first s t before middle after bytes f e)
-by_kind first s t before middle after bytes b false k f e = subst (λ (x : List Item). Follows first t before x (bytes ++ b ∷ [])) (sym e.1) (pushes first s t before middle bytes b (ten_is_not b k) f e.0)
+pub goes_on : (first s t : Scan) (before middle after : List Item) (piece left line behind : List ℕ) (u : Unit {0}) → left ≡ line ++ 10 ∷ behind → HasNoNewline line
+    → Going first s before middle piece left → TakesLine s t middle after line (Ok u) → Going first t before after piece behind
+goes_on first s t before middle after piece left line behind u e one_line g h = record {
+  read = (g.read ++ line) ++ 10 ∷ [];
+  split = g.split ∙ ap (λ (x : List ℕ). g.read ++ x) e ∙ around_line g.read line behind ∙ sym (append_assoc (g.read ++ line) (10 ∷ []) behind);
+  follows = ends_line first.appended h.0 t before middle after (g.read ++ line) (pushes first.appended s h.0 before middle g.read line one_line g.follows h.1) h.2;
+}
 
-pub goes_on : (first s t : Scan) (before middle after : List Item) (piece : List ℕ) (i b : ℕ) (u : Unit {0}) → i < length piece → b ≡ get_or piece i 0
-    → Going first s before middle piece i → TakesByte s t middle after b (Ok u) → Going first t before after piece (i + 1)
-goes_on first s t before middle after piece i b u lt e g h =
-    let more : (rest_of first ++ take i piece) ++ b ∷ [] ≡ rest_of first ++ take (i + 1) piece = append_assoc (rest_of first) (take i piece) (b ∷ []) ∙ ap (λ (x : ℕ). rest_of first ++ (take i piece ++ x ∷ [])) e ∙ ap (λ (x : List ℕ). rest_of first ++ x) (sym (take_more piece i 0 lt)) in
-    subst (λ (bytes : List ℕ). Follows first.appended t before after bytes) more (by_kind first.appended s t before middle after (rest_of first ++ take i piece) b (eqb b 10) refl g h)
+-- memory was refused, and nothing was appended
+pub stops_behind : (first s : Scan) (before middle after : List Item) (piece left : List ℕ) → Going first s before middle piece left → after ≡ middle → RunsOut first.appended before after (rest_of first ++ piece)
+stops_behind first s before middle after piece left g same =
+    subst (λ (bytes : List ℕ). RunsOut first.appended before after bytes) (sym g.split)
+    (subst (λ (x : List Item). RunsOut first.appended before x (g.read ++ left)) (sym same) (runs_out first.appended s before middle g.read left g.follows))
 
-front_of : (first : Scan) (piece : List ℕ) (i : ℕ) → (rest_of first ++ take i piece) ++ drop i piece ≡ rest_of first ++ piece
-front_of first piece i = append_assoc (rest_of first) (take i piece) (drop i piece) ∙ ap (λ (x : List ℕ). rest_of first ++ x) (take-append-drop i piece)
+pub stops_at : (first s t last : Scan) (before middle after : List Item) (piece left line behind : List ℕ) (e : Stop) → left ≡ line ++ 10 ∷ behind → HasNoNewline line
+    → Going first s before middle piece left → TakesLine s t middle after line (Err e) → ReachesOrRefused first last before after (rest_of first ++ piece) (Err e)
+stops_at first s t last before middle after piece left line behind (stops.NotText number part) cut one_line g h =
+    let whole : (g.read ++ line) ++ 10 ∷ behind ≡ rest_of first ++ piece = sym (g.split ∙ ap (λ (x : List ℕ). g.read ++ x) cut ∙ around_line g.read line behind) in
+    subst (λ (bytes : List ℕ). ReachesOrRefused first last before after bytes (Err (stops.NotText number part))) whole
+    (refuses first.appended h.0 before middle after (g.read ++ line) behind number part (pushes first.appended s h.0 before middle g.read line one_line g.follows h.1) h.2)
+stops_at first s t last before middle after piece left line behind stops.NoMemory cut one_line g h =
+    elim h [
+      | inl same ↦ stops_behind first s before middle after piece left g same
+      | inr filled ↦
+          let whole : (g.read ++ line) ++ 10 ∷ behind ≡ rest_of first ++ piece = sym (g.split ∙ ap (λ (x : List ℕ). g.read ++ x) cut ∙ around_line g.read line behind) in
+          subst (λ (bytes : List ℕ). RunsOut first.appended before after bytes) whole
+          (runs_out_settled first.appended filled.0 filled.2.0 before middle after (g.read ++ line) (10 ∷ behind) (pushes first.appended s filled.0 before middle g.read line one_line g.follows filled.1) filled.2.1)
+    ]
 
-pub stops_at : (first s t last : Scan) (before middle after : List Item) (piece : List ℕ) (i b : ℕ) (e : Stop) → i < length piece → b ≡ get_or piece i 0
-    → Going first s before middle piece i → TakesByte s t middle after b (Err e) → ReachesOrRefused first last before after (rest_of first ++ piece) (Err e)
-stops_at first s t last before middle after piece i b (stops.NotText line part) lt eb g h =
-    let whole : (rest_of first ++ take i piece) ++ 10 ∷ drop (i + 1) piece ≡ rest_of first ++ piece =
-    append_assoc (rest_of first) (take i piece) (10 ∷ drop (i + 1) piece) ∙ ap (λ (x : ℕ). rest_of first ++ (take i piece ++ x ∷ drop (i + 1) piece)) (sym h.0 ∙ eb)
-    ∙ ap (λ (x : List ℕ). rest_of first ++ (take i piece ++ x)) (sym (drop_more piece i 0 lt)) ∙ ap (λ (x : List ℕ). rest_of first ++ x) (take-append-drop i piece) in
-    subst (λ (bytes : List ℕ). ReachesOrRefused first last before after bytes (Err (stops.NotText line part))) whole (refuses first.appended s before middle after (rest_of first ++ take i piece) (drop (i + 1) piece) line part g h.1)
-stops_at first s t last before middle after piece i b stops.NoMemory lt eb g h =
-    subst (λ (bytes : List ℕ). RunsOut first.appended before after bytes) (front_of first piece i)
-    (elim h [
-      | inl same ↦ subst (λ (x : List Item). RunsOut first.appended before x ((rest_of first ++ take i piece) ++ drop i piece)) (sym same) (runs_out first.appended s before middle (rest_of first ++ take i piece) (drop i piece) g)
-      | inr settled ↦ runs_out_settled first.appended s settled.0 before middle after (rest_of first ++ take i piece) (drop i piece) g settled.1
-    ])
+-- the bytes behind the last newline
+module _ (first s filled : Scan) (before middle : List Item) (piece left : List ℕ) (one_line : HasNoNewline left) (g : Going first s before middle piece left) (p : Pushes s filled left) where
+  filled_follows : Follows first.appended filled before middle (rest_of first ++ piece)
+  filled_follows = subst (λ (bytes : List ℕ). Follows first.appended filled before middle bytes) (sym g.split) (pushes first.appended s filled before middle g.read left one_line g.follows p)
 
--- memory was refused where the whole piece was taken
-pub stops_behind : (first s : Scan) (before middle after : List Item) (piece : List ℕ) (i : ℕ) → length piece ≤ i → Going first s before middle piece i → after ≡ middle → RunsOut first.appended before after (rest_of first ++ piece)
-stops_behind first s before middle after piece i le g same =
-    subst (λ (bytes : List ℕ). RunsOut first.appended before after bytes) (front_of first piece i)
-    (subst (λ (x : List Item). RunsOut first.appended before x ((rest_of first ++ take i piece) ++ drop i piece)) (sym same) (runs_out first.appended s before middle (rest_of first ++ take i piece) (drop i piece) g))
+  pub filled_is : MayGoOn filled
+  filled_is = filled_follows.is
 
-pub settled : (first s t : Scan) (before middle after : List Item) (piece : List ℕ) (i : ℕ) → length piece ≤ i → Going first s before middle piece i → Settles (shows_whole s) s t middle after → Reaches first.appended t before after (rest_of first ++ piece)
-settled first s t before middle after piece i le g h =
-    subst (λ (bytes : List ℕ). Reaches first.appended t before after (rest_of first ++ bytes)) (take_all i piece le) (reaches first.appended s t before middle after (rest_of first ++ take i piece) g h)
+  pub settled : (t : Scan) (after : List Item) → Settles (shows_whole filled) filled t middle after → Reaches first.appended t before after (rest_of first ++ piece)
+  settled t after h = reaches first.appended filled t before middle after (rest_of first ++ piece) filled_follows h
 
-pub room_on : (first s : Scan) (before middle : List Item) (piece : List ℕ) (i : ℕ) → i < length piece → Going first s before middle piece i → first.appended.lines + length (rest_of first) + length piece < 2 ^ 64 → s.appended.lines + length (rest_of s) + 1 < 2 ^ 64
-room_on first s before middle piece i lt g room =
-    omega (arith, lt, room, room_so_far first.appended s before middle (rest_of first ++ take i piece) g, length-append (rest_of first) (take i piece), length-take-le i piece (omega (arith, lt)))
+pub room_on : (first s : Scan) (before middle : List Item) (piece left line behind : List ℕ) → left ≡ line ++ 10 ∷ behind → Going first s before middle piece left → first.appended.lines + length (rest_of first) + length piece < 2 ^ 64 → s.appended.lines + length (rest_of s) + length line + 1 < 2 ^ 64
+room_on first s before middle piece left line behind cut g room =
+    let all = ap length g.split in
+    let parts = ap length cut in
+    omega (arith, room, all, parts, room_so_far first.appended s before middle g.read g.follows, length-append (rest_of first) piece, length-append g.read left, length-append line (10 ∷ behind))
+
+-- a line at hand has its bytes more
+pub room_filled : (s filled : Scan) (bytes : List ℕ) → Pushes s filled bytes → s.appended.lines + length (rest_of s) + length bytes + 1 < 2 ^ 64 → filled.appended.lines + length (rest_of filled) + 1 < 2 ^ 64
+room_filled s filled bytes p room =
+    let told = ap (λ (a : Appended). a.lines) p.appended in
+    let longer : rest_of filled ≡ rest_of s ++ bytes = rw (p.lines, p.line) (sym (append_assoc (text_of s.lines.items) s.line.items bytes)) in
+    omega (arith, room, told, ap length longer, length-append (rest_of s) bytes)

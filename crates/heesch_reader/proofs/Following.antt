@@ -8,7 +8,7 @@ use Rattle.std.proofs.lemmas.List.Concat.{flat_map-append}
 use Rattle.heesch_cert.specs.declared.header.Header.{Header}
 use Rattle.heesch_text.specs.declared.line.Line.{Line}
 use Rattle.heesch_text.specs.Lines.{words_of, line_text, text_of}
-use Rattle.heesch_line.specs.Forms.{IsLine}
+use Rattle.heesch_line.specs.Forms.{IsLine, HasNoNewline}
 use Rattle.heesch_grammar.specs.declared.place.Place.TheVariants as places
 use Rattle.heesch_grammar.specs.declared.spot.Spot.{Spot}
 use Rattle.heesch_grammar.specs.Grammar.{is_whole}
@@ -256,32 +256,32 @@ starts s items i = record {
   is = i;
 }
 
-pub pushed_is : (s t : Scan) (b : ℕ) → (b ≢ 10) → Pushes s t b → IsScan s → IsScan t
-pushed_is s t b h p i = record {
+pub pushed_is : (s t : Scan) (line : List ℕ) → HasNoNewline line → Pushes s t line → IsScan s → IsScan t
+pushed_is s t line h p i = record {
   lead = rw (p.appended, p.lines, p.progress) i.lead;
   one_entry = rw p.lines i.one_entry;
   shapes = rw (p.lines, p.progress, p.appended) i.shapes;
-  one_line = rw p.line (all_append (λ (x : ℕ). x ≢ 10) s.line.items (b ∷ []) i.one_line (h, tt));
+  one_line = rw p.line (all_append (λ (x : ℕ). x ≢ 10) s.line.items line i.one_line h);
   fresh = rw p.appended i.fresh;
   room = rw (p.appended, p.lines) i.room;
 }
 
-pushed_shown : (s t : Scan) (b : ℕ) → Pushes s t b → IsShown s.appended (rest_of s) → IsShown t.appended (rest_of t)
-pushed_shown s t b p shown =
-    rw (p.appended, p.lines, p.line) (λ some unended. subst (λ (x : List ℕ). begins_next x ≡ true) (append_assoc (text_of s.lines.items) s.line.items (b ∷ [])) (shows_more (rest_of s) (b ∷ []) (shown some unended)))
+pushed_shown : (s t : Scan) (line : List ℕ) → Pushes s t line → IsShown s.appended (rest_of s) → IsShown t.appended (rest_of t)
+pushed_shown s t line p shown =
+    rw (p.appended, p.lines, p.line) (λ some unended. subst (λ (x : List ℕ). begins_next x ≡ true) (append_assoc (text_of s.lines.items) s.line.items line) (shows_more (rest_of s) line (shown some unended)))
 
-pub pushes : (first : Appended) (s t : Scan) (before after : List Item) (bytes : List ℕ) (b : ℕ) → (b ≢ 10) → Follows first s before after bytes → Pushes s t b → Follows first t before after (bytes ++ b ∷ [])
-pushes first s t before after bytes b h f p = record {
+pub pushes : (first : Appended) (s t : Scan) (before after : List Item) (bytes line : List ℕ) → HasNoNewline line → Follows first s before after bytes → Pushes s t line → Follows first t before after (bytes ++ line)
+pushes first s t before after bytes line h f p = record {
   found = f.found;
   stood = record { after_is = f.stood.after_is; appended = p.appended ∙ f.stood.appended; numbered = f.stood.numbered };
   stands = record {
-    text = ap (λ (x : List ℕ). x ++ b ∷ []) f.stands.text ∙ append_assoc (text_of (lines_of f.found ++ s.lines.items)) s.line.items (b ∷ []) ∙ rw (p.lines, p.line) refl;
+    text = ap (λ (x : List ℕ). x ++ line) f.stands.text ∙ append_assoc (text_of (lines_of f.found ++ s.lines.items)) s.line.items line ∙ rw (p.lines, p.line) refl;
     lead = rw (p.lines, p.progress) f.stands.lead;
     numbered = f.stands.numbered;
     one_entry = rw p.lines f.stands.one_entry;
     items_lead = f.stands.items_lead;
   };
-  is = record { is = pushed_is s t b h p f.is.is; shown = pushed_shown s t b p f.is.shown };
+  is = record { is = pushed_is s t line h p f.is.is; shown = pushed_shown s t line p f.is.shown };
 }
 
 -- where items lead behind a settling

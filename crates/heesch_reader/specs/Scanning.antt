@@ -1,6 +1,5 @@
 -- A scan: the lines of the entry at hand, and the bytes of the line at hand.
 use Rattle.std.specs.Prelude.{◌≡◌, ◌⊎◌, ℕ, ◌+◌, ◌<◌, ◌^◌, List, [], ◌∷◌, ◌++◌, length, Bool, true, false, ◌==◌, ◌&&◌, ◌||◌, not, Option, Some, None, Result, Ok, Err}
-use Rattle.std.specs.Bool.{MatchBool}
 use Rattle.heesch_text.specs.declared.line.Line.{Line}
 use Rattle.heesch_text.specs.declared.line.Line.TheVariants as lines
 use Rattle.heesch_text.specs.Lines.{words_of, text_of}
@@ -130,11 +129,11 @@ IsFaultOf s (Ok _) = ⊥
 IsFaultOf s (Err (stops.NotText line part)) = IsNumber s line × (part ≡ part_of s.progress (s.line.items ++ 10 ∷ []))
 IsFaultOf s (Err stops.NoMemory) = Unit {0}
 
--- ---- a byte
+-- ---- bytes of a line
 
--- the line at hand has one more byte
-pub record Pushes (s t : Scan) (byte : ℕ) : Type 0 where
-  pub line : t.line.items ≡ s.line.items ++ byte ∷ []
+-- the bytes stand last in the line at hand
+pub record Pushes (s t : Scan) (bytes : List ℕ) : Type 0 where
+  pub line : t.line.items ≡ s.line.items ++ bytes
   pub lines : t.lines ≡ s.lines
   pub progress : t.progress ≡ s.progress
   pub appended : t.appended ≡ s.appended
@@ -163,10 +162,11 @@ pub record FaultsLine (s : Scan) (before after : List Item) (line : ℕ) (part :
   pub settled : Settles (shows_whole s) s middle before after
   pub faults : Faults middle line part
 
-abbrev pub TakesByte : Scan → Scan → List Item → List Item → ℕ → Result (Unit {0}) Stop → Type 0
-TakesByte s t before after byte (Ok _) = MatchBool (byte == 10) (EndsLine s t before after) (Pushes s t byte × (after ≡ before))
-TakesByte s t before after byte (Err (stops.NotText line part)) = (byte ≡ 10) × FaultsLine s before after line part
-TakesByte s t before after byte (Err stops.NoMemory) = (after ≡ before) ⊎ ((middle : Scan) × Settles (shows_whole s) s middle before after)
+-- the last bytes of a line stand in it, and then its newline ends it
+abbrev pub TakesLine : Scan → Scan → List Item → List Item → List ℕ → Result (Unit {0}) Stop → Type 0
+TakesLine s t before after bytes (Ok _) = (filled : Scan) × Pushes s filled bytes × EndsLine filled t before after
+TakesLine s t before after bytes (Err (stops.NotText line part)) = (filled : Scan) × Pushes s filled bytes × FaultsLine filled before after line part
+TakesLine s t before after bytes (Err stops.NoMemory) = (after ≡ before) ⊎ ((filled : Scan) × Pushes s filled bytes × ((middle : Scan) × Settles (shows_whole filled) filled middle before after))
 
 -- ---- many bytes
 

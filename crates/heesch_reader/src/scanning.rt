@@ -1,6 +1,6 @@
 //! What bytes do to a scan.
-ghost use Rattle.std.specs.Prelude.{◌≡◌, ◌≢◌, ℕ, ◌+◌, ◌<◌, ◌^◌, ◌++◌, ◌∷◌, [], length, true, false, IfOk, OnOk, OnErr};
-ghost use Rattle.heesch_line.specs.Forms.{IsLine};
+ghost use Rattle.std.specs.Prelude.{◌≡◌, ◌≢◌, ℕ, ◌+◌, ◌<◌, ◌^◌, ◌++◌, ◌∷◌, [], length, true, false, IfOk, OnOk, OnErr, MatchOption};
+ghost use Rattle.heesch_line.specs.Forms.{IsLine, HasNoNewline};
 ghost use Rattle.heesch_text.specs.Lines.{words_of};
 ghost use Rattle.heesch_grammar.specs.Entries.{AreEntryLines};
 ghost use Rattle.heesch_reader.specs.Progress.{next, may_end};
@@ -19,7 +19,8 @@ ghost use Rattle.heesch_reader.specs.Scanning.{
   shows_whole,
   shows_whole_at_end,
   is_complete,
-  TakesByte,
+  Pushes,
+  TakesLine,
   ReachesOrRefused,
   CompletesOrFallsShort,
   rest_of,
@@ -200,29 +201,48 @@ fn end_line(scan: &mut Scan, items: &mut Seq<Item>) -> Result<(), Stop>
     }
 }
 
-/// Takes one byte.
-fn take_byte(scan: &mut Scan, byte: u8, items: &mut Seq<Item>) -> Result<(), Stop>
-    requires is { IsScan scan.old }
-    requires room { scan.old.appended.lines + length (rest_of scan.old) + 1 < 2 ^ 64 }
-    ensures { TakesByte scan.old scan.new items.old items.new byte result }
+/// The first line without its newline, and the bytes behind it; None where there is no newline. Nothing is copied; the cost
+/// is the line's length.
+fn cut_line(bytes: &[u8]) -> Option<(&[u8], &[u8])>
+    ensures { MatchOption result (HasNoNewline bytes.now)
+        (λ x. (bytes.now ≡ x.0.now ++ 10 ∷ x.1.now) × HasNoNewline x.0.now) }
 {
-    if byte != b'\n' {
-        scan.line.push(byte)?;
-        return Ok(());
-    }
+    let end = bytes.iter().position(|byte| *byte == b'\n')?;
+    Some((&bytes[..end], &bytes[end + 1..]))
+}
+
+/// The bytes stand last in the line at hand.
+fn add_to_line(scan: &mut Scan, bytes: &[u8]) -> Result<(), NoMemory>
+    ensures { OnOk result (Pushes scan.old scan.new bytes.now) }
+{
+    scan.line.extend_from_slice(bytes)?;
+    Ok(())
+}
+
+/// Takes the last bytes of a line, and the newline behind them.
+fn take_line(scan: &mut Scan, bytes: &[u8], items: &mut Seq<Item>) -> Result<(), Stop>
+    requires is { IsScan scan.old }
+    requires one_line { HasNoNewline bytes.now }
+    requires room { scan.old.appended.lines + length (rest_of scan.old) + length bytes.now + 1 < 2 ^ 64 }
+    ensures { TakesLine scan.old scan.new items.old items.new bytes.now result }
+{
+    add_to_line(scan, bytes)?;
     settle(scan, items)?;
     end_line(scan, items)
 }
 
-/// Takes the bytes one after the other.
+/// Takes the bytes line by line.
 pub fn take_bytes(scan: &mut Scan, piece: &[u8], items: &mut Seq<Item>) -> Result<(), Stop>
     requires is { MayGoOn scan.old }
     requires room { scan.old.appended.lines + length (rest_of scan.old) + length piece.now < 2 ^ 64 }
     ensures { ReachesOrRefused scan.old scan.new items.old items.new (rest_of scan.old ++ piece.now) result }
 {
-    for byte in piece {
-        take_byte(scan, *byte, items)?;
+    let mut rest = piece;
+    while let Some((line, behind)) = cut_line(rest) {
+        take_line(scan, line, items)?;
+        rest = behind;
     }
+    add_to_line(scan, rest)?;
     settle(scan, items)?;
     Ok(())
 }

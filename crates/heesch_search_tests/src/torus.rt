@@ -40,7 +40,8 @@ fn counts<G: Grid>(
         return Ok((0, 0, 0));
     }
     let formula = torus_formula(alloc, shape, triple)?;
-    Ok((formula.vars, formula.clauses.len(), formula.literals()))
+    let literals = formula.to_formula(alloc)?.literals();
+    Ok((formula.vars(), formula.len(), literals))
 }
 
 /// The answer for one turn.

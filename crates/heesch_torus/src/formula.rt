@@ -1,4 +1,4 @@
-//! The torus formula.
+//! The torus formula, in one array.
 ghost use Rattle.std.specs.Prelude.{◌≡◌, ◌≤◌, ◌*◌, true, length, IfOk};
 ghost use Rattle.heesch_grid.specs.declared.Cell.{Cell};
 ghost use Rattle.heesch_grid.specs.Cells.{has};
@@ -15,7 +15,7 @@ use crate::covering::covering_lists;
 use crate::found::Variable;
 use crate::pairs::add_pair_clauses;
 use crate::variables::variables_of;
-use heesch_cnf::Formula;
+use heesch_cnf::FlatFormula;
 use heesch_grid::Grid;
 use heesch_io::NoMemory;
 use heesch_lattice::Triple;
@@ -27,7 +27,7 @@ pub(crate) fn formula_of<G: Grid>(
     alloc: Global,
     triple: Triple,
     variables: &[Variable],
-) -> Result<Formula, NoMemory>
+) -> Result<FlatFormula, NoMemory>
     requires triple { IsTriple triple }
     requires small { triple.p * triple.q ≤ 384 }
     requires sets { AreReducedSets G.geometry triple (sets_of variables.now) }
@@ -37,7 +37,7 @@ pub(crate) fn formula_of<G: Grid>(
     ensures few { IfOk result (λ f. length f.clauses ≤ 30000000) }
 {
     let lists = covering_lists::<G>(alloc, triple, variables)?;
-    let mut formula = Formula::new(alloc, variables.len() as u32);
+    let mut formula = FlatFormula::new(alloc, variables.len() as u32);
     add_covering_clauses::<G>(alloc, &mut formula, triple, lists.as_slice())?;
     add_pair_clauses::<G>(alloc, &mut formula, triple, variables, lists.as_slice())?;
     Ok(formula)
@@ -58,7 +58,7 @@ pub fn torus_formula<G: Grid>(
     alloc: Global,
     shape: &Shape<G>,
     triple: Triple,
-) -> Result<Formula, NoMemory>
+) -> Result<FlatFormula, NoMemory>
     requires near { (c : Cell) → has shape.now c ≡ true → IsWithin 100000 c }
     requires domain { HasDomain G.geometry (length shape.now) triple }
     ensures is { IfOk result (λ f. IsFormulaOf G.geometry shape.now triple f.vars f.clauses) }

@@ -3,7 +3,7 @@ ghost use Rattle.std.specs.Prelude.{◌+◌, ◌<◌, ◌≤◌, ◌^◌, length
 ghost use Rattle.heesch_torus.specs.Outcome.{IsOutcome};
 
 use heesch_cdcl::{Found, Solver};
-use heesch_cnf::{Formula, Log};
+use heesch_cnf::{FlatFormula, Log};
 use heesch_io::{NoMemory, Seq};
 use std::alloc::Global;
 
@@ -16,12 +16,12 @@ pub(crate) enum Outcome {
 }
 
 /// Asks the solver once.
-pub(crate) fn solve(alloc: Global, formula: Formula, turns: u32) -> Result<Outcome, NoMemory>
+pub(crate) fn solve(alloc: Global, formula: FlatFormula, turns: u32) -> Result<Outcome, NoMemory>
     requires some { 1 ≤ turns }
     requires room { length formula.clauses + turns < 2 ^ 31 }
     ensures { IfOk result (IsOutcome formula.vars formula.clauses turns) }
 {
-    let mut solver = Solver::open(alloc, formula, turns)?;
+    let mut solver = Solver::over(alloc, formula, turns)?;
     let found = solver.next()?;
     match found {
         Found::Model { values } => Ok(Outcome::Model { values }),

@@ -1,5 +1,5 @@
 //! The clauses that say that of two residue sets that share a cell one isn't chosen.
-ghost use Rattle.std.specs.Prelude.{◌≡◌, ◌<◌, ◌≤◌, ◌+◌, ◌-◌, ◌*◌, ◌^◌, ◌∷◌, [], ◌==◌, length, replicate, All, IfOk, OnOk};
+ghost use Rattle.std.specs.Prelude.{◌≡◌, ◌<◌, ◌≤◌, ◌+◌, ◌-◌, ◌*◌, ◌^◌, ◌∷◌, [], ◌==◌, length, replicate, All, OnOk};
 ghost use Rattle.std.specs.List.{list_any};
 ghost use Rattle.heesch_cert.specs.Literals.{literals};
 ghost use Rattle.heesch_grid.specs.Cells.{meet};
@@ -12,7 +12,7 @@ ghost use Rattle.heesch_torus.specs.Variables.{sets_of, AreReducedSets};
 
 use crate::found::Variable;
 use crate::window::number_of;
-use heesch_cnf::{Formula, Lit, Lits};
+use heesch_cnf::{FlatFormula, Lit};
 use heesch_grid::Grid;
 use heesch_io::{NoMemory, Seq};
 use heesch_lattice::Triple;
@@ -51,25 +51,26 @@ fn mark_meeting<G: Grid>(
     }
 }
 
-/// The clause that says that one of two variables isn't chosen.
-fn pair_clause(alloc: Global, first: u32, second: u32) -> Result<Lits, NoMemory>
-    ensures { IfOk result (λ c. c ≡ pair_clause first second) }
+/// The negation of a variable.
+fn minus(var: u32) -> Lit
+    ensures { result ≡ literals.minus var }
 {
-    let first = Lit {
-        var: first,
+    Lit {
+        var,
         positive: false,
-    };
-    let second = Lit {
-        var: second,
-        positive: false,
-    };
-    Ok(Lits::from_vec(vec![in alloc; first, second]?))
+    }
+}
+
+/// The clause that says that one of two variables isn't chosen.
+fn pair_clause(first: u32, second: u32) -> [Lit; 2]
+    ensures { result ≡ pair_clause first second }
+{
+    [minus(first), minus(second)]
 }
 
 /// Adds the clauses of a variable with each later one that is marked with its number.
 fn add_marked(
-    alloc: Global,
-    formula: &mut Formula,
+    formula: &mut FlatFormula,
     marks: &[u32],
     number: u32,
 ) -> Result<(), NoMemory>
@@ -83,8 +84,7 @@ fn add_marked(
 {
     for other in number + 1..marks.len() as u32 {
         if marks[other as usize] == number {
-            let clause = pair_clause(alloc, number, other)?;
-            formula.add(clause)?;
+            formula.add(&pair_clause(number, other))?;
         }
     }
     Ok(())
@@ -92,8 +92,7 @@ fn add_marked(
 
 /// Adds the clauses of all pairs, where no variable is marked yet.
 fn add_all_marked<G: Grid>(
-    alloc: Global,
-    formula: &mut Formula,
+    formula: &mut FlatFormula,
     marks: &mut [u32],
     triple: Triple,
     variables: &[Variable],
@@ -111,7 +110,7 @@ fn add_all_marked<G: Grid>(
 {
     for at in 0..variables.len() {
         mark_meeting::<G>(marks, triple, variables, lists, at);
-        add_marked(alloc, formula, marks, at as u32 + 1)?;
+        add_marked(formula, marks, at as u32 + 1)?;
     }
     Ok(())
 }
@@ -119,7 +118,7 @@ fn add_all_marked<G: Grid>(
 /// Adds the clause of each pair of variables that share a cell, by the first and then the second.
 pub(crate) fn add_pair_clauses<G: Grid>(
     alloc: Global,
-    formula: &mut Formula,
+    formula: &mut FlatFormula,
     triple: Triple,
     variables: &[Variable],
     lists: &[Seq<u32>],
@@ -134,5 +133,5 @@ pub(crate) fn add_pair_clauses<G: Grid>(
     ensures few { OnOk result (length formula.new.clauses ≤ length formula.old.clauses + 4608 * 4608) }
 {
     let mut marks = vec![in alloc; 0; variables.len() + 1]?;
-    add_all_marked::<G>(alloc, formula, &mut marks, triple, variables, lists)
+    add_all_marked::<G>(formula, &mut marks, triple, variables, lists)
 }

@@ -22,5 +22,5 @@ returns g c =
     let log = c.in-Some.log in
     let f = c.in_ok-formula.formula in
     let is = subst (λ (o : Option Log). MatchOption o (¬ HasNoCut written.proof) (λ l. HasNoCut written.proof × (l ≡ log_of [] written.proof))) c.in-Some.is c.learnt_log.ensures in
-    let both = settles geometry shape turns written.triple written.proof f c.in_ok-formula.ensures log is.0 is.1 in
+    let both = settles geometry shape turns written.triple written.proof f c.in_ok-formula.ensures.is log is.0 is.1 in
     if_ok_more (λ (yes : Bool). IsTrue yes ↔ (Refutes f.vars f.clauses log ⊎ IsSpent f.vars f.clauses turns log)) (λ (yes : Bool). IsTrue yes ↔ SettlesTriple geometry shape turns written.triple written.proof) (λ yes h. ((λ t. both.0 (h.0 t)), (λ s. h.1 (both.1 s)))) c.is_ended.result c.is_ended.ensures
