@@ -2,6 +2,7 @@
 use Rattle.std.proofs.Common.{◌&&◌, ◌||◌, nat_eq, codes, ◌≡◌, ℕ, ◌<◌, Bool, true, false, List, [], ◌∷◌, ◌++◌, length, Option, Some, None, refl, ap, ◌∙◌, arith}
 use Rattle.std.specs.Prelude.{option_map, option_and_then}
 use Rattle.std.specs.List.{AllByRecursion}
+pub use Rattle.std.proofs.ByRecursion.{All-append as all_append}
 use Rattle.heesch_cert.specs.declared.header.Header.{Header}
 use Rattle.heesch_text.specs.declared.line.Line.{Line}
 use Rattle.heesch_text.specs.declared.line.Line.TheVariants as lines
@@ -18,10 +19,6 @@ use Rattle.heesch_reader.specs.Progress.{next, walk, may_end, between}
 use Rattle.heesch_reader.specs.Faults.{begins, begins_next, part_of, part_behind}
 
 -- ---- lists
-
-pub all_append : {X : Type 0} (P : X → Type 0) (xs ys : List X) → AllByRecursion P xs → AllByRecursion P ys → AllByRecursion P (xs ++ ys)
-all_append P [] ys h k = k
-all_append P (x ∷ xs) ys h k = (h.0, all_append P xs ys h.1 k)
 
 pub all_front : {X : Type 0} (P : X → Type 0) (xs ys : List X) → AllByRecursion P (xs ++ ys) → AllByRecursion P xs
 all_front P [] ys h = tt

@@ -1,5 +1,5 @@
 use Rattle.heesch_reader.proofs.Bytes.{byte_ended}
-use Rattle.heesch_reader.proofs.Following.{settles, settled_once, settled_room}
+use Rattle.heesch_reader.proofs.Settling.{settles, settled_once, settled_room}
 use Rattle.heesch_reader.proofs.scanning.take_byte.Goals as goal
 
 pub end_line-requires-clause-is : goal.end_line-requires-clause-is
