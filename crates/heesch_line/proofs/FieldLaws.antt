@@ -29,9 +29,9 @@ use Rattle.heesch_cert.specs.Sizes.{most_cells, IsSubject}
 use Rattle.heesch_cert.proofs.FewCells.{few_cells}
 use Rattle.heesch_text.specs.Naturals.{IsNatural}
 use Rattle.heesch_line.specs.Forms.{IsPlace}
-use Rattle.heesch_line.specs.Reading.{◌>>=◌, given, nothing, made, literal_at, number_at, labelled_at, integer_at, iso_at, is_triple, three_numbers_at, grid_at, kind_at, version_at, phase_at}
+use Rattle.heesch_line.specs.Reading.{◌>>=◌, given, nothing, made, parted, both_at, literal_at, number_at, labelled_at, integer_at, iso_at, is_triple, three_numbers_at, grid_at, kind_at, version_at, phase_at}
 use Rattle.heesch_line.specs.Reading.{outcome_at, bare_outcome_at, subject_at, are_limits, limits_of, limits_at, grid_rows, kind_rows, version_rows, phase_rows, outcome_rows, bare_rows}
-use Rattle.heesch_line.proofs.Steps.{some, some_is, none_some, bind_some, given_some, behind_some, both_true, ◌▸◌, literal_part, IsRead, is_read, word_read, ReadsBehind, by_words_read, named, made_read}
+use Rattle.heesch_line.proofs.Steps.{some, none_some, bind_some, given_some, behind_some, both_true, ◌▸◌, literal_part, IsRead, is_read, word_read, ReadsBehind, by_words_read, named, made_read, parted_read, read_first, both_read}
 use Rattle.heesch_line.proofs.Numbers.{number_read, number_again, integer_read, integer_again, Stops, labelled_parts, eqb_same, BeginsWithDigit, decimal_begins}
 
 pub regroup2 : (t0 t1 r : List ℕ) → (t0 ++ t1) ++ r ≡ t0 ++ (t1 ++ r)
@@ -97,19 +97,19 @@ numbers_text n = decimal n.0 ++ codes " " ++ decimal n.1 ++ codes " " ++ decimal
 abbrev pub AreNatural : ℕ × ℕ × ℕ → Type 0
 AreNatural n = IsNatural n.0 × IsNatural n.1 × IsNatural n.2
 
+-- two numbers
+abbrev pair_text : ℕ × ℕ → List ℕ
+pair_text n = decimal n.0 ++ codes " " ++ decimal n.1
+
+abbrev ArePair : ℕ × ℕ → Type 0
+ArePair n = IsNatural n.0 × IsNatural n.1
+
 pub three_numbers_read : (bytes : List ℕ) (x : (ℕ × ℕ × ℕ) × List ℕ) → three_numbers_at bytes ≡ Some x → IsRead numbers_text AreNatural bytes x
 unfolding three_numbers_at
 three_numbers_read bytes x e =
-    let p = bind_some (number_at bytes) _ x e in
-    let fp = number_read bytes p.0 p.1 in
-    let l = bind_some (literal_at (codes " ") p.0.1) _ x p.2 in
-    let q = bind_some (number_at l.0) _ x l.2 in
-    let fq = number_read l.0 q.0 q.1 in
-    let m = bind_some (literal_at (codes " ") q.0.1) _ x q.2 in
-    let s = bind_some (number_at m.0) _ x m.2 in
-    let fs = number_read m.0 s.0 s.1 in
-    let made : (ℕ × ℕ × ℕ) × List ℕ = ((p.0.0, q.0.0, s.0.0), s.0.1) in
-    is_read {made = made} numbers_text AreNatural bytes (some_is made x s.2) (fp.takes ▸ literal_part (codes " ") p.0.1 l.0 l.1 ▸ fq.takes ▸ literal_part (codes " ") q.0.1 m.0 m.1 ▸ fs.takes) (fp.fits, fq.fits, fs.fits)
+    let two = both_read decimal IsNatural decimal IsNatural number_at (codes " ") number_at number_read number_read in
+    read_first numbers_text AreNatural (parted (λ n s. (n.0, n.1, s)) (both_at number_at (codes " ") number_at) (codes " ") number_at)
+    (parted_read pair_text ArePair decimal IsNatural numbers_text AreNatural [] (both_at number_at (codes " ") number_at) (codes " ") number_at (λ n s. (n.0, n.1, s)) two number_read (λ n s. refl) (λ n s f g. (f.0, f.1, g))) bytes x e
 
 pub three_numbers_again : (p : ℕ) (q : ℕ) (s : ℕ) (rest : List ℕ) → IsNatural p → IsNatural q → IsNatural s → Stops rest → three_numbers_at (numbers_text (p, q, s) ++ rest) ≡ Some ((p, q, s), rest)
 unfolding three_numbers_at

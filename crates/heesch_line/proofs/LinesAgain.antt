@@ -26,8 +26,8 @@ use Rattle.heesch_text.specs.Lines.{limits_text, verdict_text, words_of}
 use Rattle.heesch_text.specs.Naturals.{IsNatural}
 use Rattle.heesch_cert.specs.Sizes.{IsSubject}
 use Rattle.heesch_line.specs.Forms.{IsVerdict, IsLine}
-use Rattle.heesch_line.specs.Reading.{number_at, outcome_at, bare_outcome_at}
-use Rattle.heesch_line.specs.LineReading.{parted, header_at, shape_at, tiles_at, heesch_at, stop_at, verdict_at, verdict_line_at, end_at, lattice_at, tile_at, coronas_at, layer_at, open_at, wall_at, bare_at, triple_line_at, learn_at, cut_at, empty_at, search_line_at, cover_line_at, front_line_at, line_at}
+use Rattle.heesch_line.specs.Reading.{parted, number_at, outcome_at, bare_outcome_at}
+use Rattle.heesch_line.specs.LineReading.{header_at, shape_at, tiles_at, heesch_at, stop_at, verdict_at, verdict_line_at, end_at, lattice_at, tile_at, coronas_at, layer_at, open_at, wall_at, bare_at, triple_line_at, learn_at, cut_at, empty_at, search_line_at, cover_line_at, front_line_at, line_at}
 use Rattle.heesch_line.proofs.Steps.{some_is, none_some}
 use Rattle.heesch_line.proofs.Numbers.{number_again, Stops}
 use Rattle.heesch_line.proofs.FieldLaws.{regroup2, regroup3, regroup5, iso_words, iso_again, three_numbers_again, fits_triple, triple_natural, version_again, grid_again, kind_again, phase_again, outcome_again, bare_outcome_again, subject_again, limits_again}

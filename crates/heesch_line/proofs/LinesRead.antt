@@ -1,51 +1,50 @@
 -- Lines: what is read is spelled so.
 use Rattle.std.proofs.Common.{◌≡◌, ℕ, Bool, true, false, eqb, List, [], ◌++◌, length, Some, refl, sym, ap, subst, ◌∙◌}
 use Rattle.std.specs.Prelude.{codes, decimal, if◌then◌else◌}
+use Rattle.std.specs.List.{AllByRecursion}
 use Rattle.std.proofs.lemmas.Bool.{eqb-true}
 use Rattle.std.proofs.lemmas.List.{append-nil, nil_from_length}
+use Rattle.heesch_grid.specs.declared.Cell.{Cell}
+use Rattle.heesch_grid.specs.declared.isometries.Iso.{Iso}
 use Rattle.heesch_grid.specs.Lattice.{Triple}
 use Rattle.heesch_grid.specs.Vectors.{IsWithin}
 use Rattle.heesch_lattice.specs.Reduction.{lattice}
 use Rattle.heesch_cert.specs.Sizes.{IsSubject}
+use Rattle.heesch_cert.specs.declared.verdict.Kind.{Kind}
 use Rattle.heesch_cert.specs.declared.verdict.Phase.{Phase}
 use Rattle.heesch_cert.specs.declared.verdict.Verdict.{Verdict}
 use Rattle.heesch_cert.specs.declared.verdict.Verdict.TheVariants as verdicts
 use Rattle.heesch_text.specs.declared.line.Line.{Line}
 use Rattle.heesch_text.specs.declared.line.Line.TheVariants as lines
 use Rattle.heesch_text.specs.Fields.{spaced, cells_text, lit_text, place_text}
-use Rattle.heesch_text.specs.Names.{version_text, phase_text, outcome_text, bare_text}
+use Rattle.heesch_text.specs.Names.{version_text, kind_text, phase_text, outcome_text, bare_text}
 use Rattle.heesch_text.specs.Lines.{verdict_text, words_of}
 use Rattle.heesch_text.specs.Naturals.{IsNatural}
 use Rattle.heesch_line.specs.Forms.{IsVerdict, IsLine, AreSome, IsPlace, IsLiteral}
-use Rattle.heesch_line.specs.Reading.{by_words, names, nothing, made, literal_at, number_at, iso_at, lit_at, is_triple, three_numbers_at, triple_of, version_at, grid_at, kind_at, phase_at, outcome_at, bare_outcome_at, subject_at, labelled_at, limits_at, more_words_at, some_words_at, cells_at}
+use Rattle.heesch_line.specs.Reading.{by_words, names, nothing, made, parted, both_at, literal_at, number_at, iso_at, lit_at, is_triple, three_numbers_at, triple_of, version_at, grid_at, kind_at, phase_at, outcome_at, bare_outcome_at, subject_at, limits_at, more_words_at, some_words_at, cells_at}
 use Rattle.heesch_line.specs.LineReading.{header_at, shape_at, tiles_at, heesch_at, stop_at, verdict_at, verdict_line_at, end_at, lattice_at, tile_at, coronas_at, layer_at, open_at, wall_at, bare_at, triple_line_at, learn_at, cut_at, empty_at, search_line_at, cover_line_at, front_line_at, line_at}
 use Rattle.heesch_line.specs.LineReading.{verdict_rows, refuted_rows, search_rows, cover_rows, front_rows}
-use Rattle.heesch_line.proofs.Steps.{some_is, none_some, bind_some, given_some, Takes, ◌▸◌, literal_part, IsRead, is_read, ReadsBehind, by_words_read, named, made_read, parted_read}
-use Rattle.heesch_line.proofs.Numbers.{number_read, labelled_parts}
-use Rattle.heesch_line.proofs.FieldLaws.{version_read, iso_read, three_numbers_read, triple_fits, grid_read, kind_read, phase_read, outcome_read, bare_outcome_read, subject_read, limits_read}
+use Rattle.heesch_line.proofs.Steps.{some_is, none_some, bind_some, given_some, Takes, ◌▸◌, literal_part, IsRead, is_read, ReadsBehind, by_words_read, named, made_read, parted_read, read_first, both_read}
+use Rattle.heesch_line.proofs.Numbers.{number_read}
+use Rattle.heesch_line.proofs.FieldLaws.{iso_words, version_read, iso_read, three_numbers_read, triple_fits, grid_read, kind_read, phase_read, outcome_read, bare_outcome_read, subject_read, limits_read}
 use Rattle.heesch_line.proofs.WordLaws.{numbers_read, all_numbers_read, literals_read, places_read, cells_read}
 
-tiles_read : (all bytes : List ℕ) (x : Verdict × List ℕ) → Takes all (codes "tiles ") bytes → tiles_at bytes ≡ Some x → IsRead verdict_text IsVerdict all x
-unfolding tiles_at
-tiles_read all bytes x front e =
-    let k = bind_some (kind_at bytes) _ x e in
-    let fk = kind_read bytes k.0 k.1 in
-    let d = bind_some (labelled_at (codes " domain ") k.0.1) _ x k.2 in
-    let fd = labelled_parts (codes " domain ") k.0.1 d.0 d.1 in
-    let c = bind_some (labelled_at (codes " classes ") d.0.1) _ x d.2 in
-    let fc = labelled_parts (codes " classes ") d.0.1 c.0 c.1 in
-    let made : Verdict × List ℕ = (verdicts.Tiles k.0.0 d.0.0 c.0.0, c.0.1) in
-    is_read {made = made} verdict_text IsVerdict all (some_is made x c.2) (front ▸ fk.takes ▸ fd.1 ▸ fd.2.takes ▸ fc.1 ▸ fc.2.takes) (fd.2.fits, fc.2.fits)
+-- the kind of a tiling and its domain
+abbrev tiling_text : Kind × ℕ → List ℕ
+tiling_text t = kind_text t.0 ++ codes " domain " ++ decimal t.1
 
-heesch_read : (all bytes : List ℕ) (x : Verdict × List ℕ) → Takes all (codes "heesch ") bytes → heesch_at bytes ≡ Some x → IsRead verdict_text IsVerdict all x
+abbrev IsTiling : Kind × ℕ → Type 0
+IsTiling t = Unit {0} × IsNatural t.1
+
+tiles_read : ReadsBehind verdict_text IsVerdict (codes "tiles ", tiles_at)
+unfolding tiles_at
+tiles_read =
+    let two = both_read kind_text (λ _. Unit {0}) decimal IsNatural kind_at (codes " domain ") number_at kind_read number_read in
+    parted_read tiling_text IsTiling decimal IsNatural verdict_text IsVerdict (codes "tiles ") (both_at kind_at (codes " domain ") number_at) (codes " classes ") number_at (λ t c. verdicts.Tiles t.0 t.1 c) two number_read (λ a b. refl) (λ a b f g. (f.1, g))
+
+heesch_read : ReadsBehind verdict_text IsVerdict (codes "heesch ", heesch_at)
 unfolding heesch_at
-heesch_read all bytes x front e =
-    let h = bind_some (number_at bytes) _ x e in
-    let fh = number_read bytes h.0 h.1 in
-    let m = bind_some (labelled_at (codes " nontiler ") h.0.1) _ x h.2 in
-    let fm = labelled_parts (codes " nontiler ") h.0.1 m.0 m.1 in
-    let made : Verdict × List ℕ = (verdicts.Heesch h.0.0 m.0.0, m.0.1) in
-    is_read {made = made} verdict_text IsVerdict all (some_is made x m.2) (front ▸ fh.takes ▸ fm.1 ▸ fm.2.takes) (fh.fits, fm.2.fits)
+heesch_read = parted_read decimal IsNatural decimal IsNatural verdict_text IsVerdict (codes "heesch ") number_at (codes " nontiler ") number_at verdicts.Heesch number_read number_read (λ a b. refl) (λ a b f g. (f, g))
 
 -- where a search stopped
 abbrev stop_text : ℕ × Phase × ℕ → List ℕ
@@ -57,15 +56,10 @@ IsStop s = IsNatural s.0 × IsNatural s.2
 stop_read : (bytes : List ℕ) (x : (ℕ × Phase × ℕ) × List ℕ) → stop_at bytes ≡ Some x → IsRead stop_text IsStop bytes x
 unfolding stop_at
 stop_read bytes x e =
-    let h = bind_some (number_at bytes) _ x e in
-    let fh = number_read bytes h.0 h.1 in
-    let l = bind_some (literal_at (codes " ") h.0.1) _ x h.2 in
-    let p = bind_some (phase_at l.0) _ x l.2 in
-    let fp = phase_read l.0 p.0 p.1 in
-    let a = bind_some (labelled_at (codes " ") p.0.1) _ x p.2 in
-    let fa = labelled_parts (codes " ") p.0.1 a.0 a.1 in
-    let made : (ℕ × Phase × ℕ) × List ℕ = ((h.0.0, p.0.0, a.0.0), a.0.1) in
-    is_read {made = made} stop_text IsStop bytes (some_is made x a.2) (fh.takes ▸ literal_part (codes " ") h.0.1 l.0 l.1 ▸ fp.takes ▸ fa.1 ▸ fa.2.takes) (fh.fits, fa.2.fits)
+    let two = both_read decimal IsNatural phase_text (λ _. Unit {0}) number_at (codes " ") phase_at number_read phase_read in
+    read_first stop_text IsStop (parted (λ s at. (s.0, s.1, at)) (both_at number_at (codes " ") phase_at) (codes " ") number_at)
+    (parted_read (λ (s : ℕ × Phase). decimal s.0 ++ codes " " ++ phase_text s.1) (λ (s : ℕ × Phase). IsNatural s.0 × Unit {0}) decimal IsNatural stop_text IsStop [] (both_at number_at (codes " ") phase_at) (codes " ") number_at
+    (λ s at. (s.0, s.1, at)) two number_read (λ a b. refl) (λ a b f g. (f.0, g))) bytes x e
 
 levels_read : ReadsBehind verdict_text IsVerdict (codes "undecided levels ", made verdicts.Levels number_at)
 levels_read = made_read decimal IsNatural verdict_text IsVerdict (codes "undecided levels ") number_at verdicts.Levels number_read (λ a. refl) (λ a h. h)
@@ -115,18 +109,16 @@ end_read : ReadsBehind words_of IsLine (codes "end ", end_at)
 unfolding end_at
 end_read = made_read decimal IsNatural words_of IsLine (codes "end ") number_at lines.End number_read (λ a. refl) (λ a h. h)
 
-tile_read : (all bytes : List ℕ) (x : Line × List ℕ) → Takes all (codes "tile ") bytes → tile_at bytes ≡ Some x → IsRead words_of IsLine all x
+-- a tile's place and its class
+abbrev placed_text : Iso × ℕ → List ℕ
+placed_text t = iso_words 32 t.0 ++ codes " class " ++ decimal t.1
+
+tile_read : ReadsBehind words_of IsLine (codes "tile ", tile_at)
 unfolding tile_at
-tile_read all bytes x front e =
-    let p = bind_some (iso_at 32 bytes) _ x e in
-    let fp = iso_read 32 bytes p.0 p.1 in
-    let c = bind_some (labelled_at (codes " class ") p.0.1) _ x p.2 in
-    let fc = labelled_parts (codes " class ") p.0.1 c.0 c.1 in
-    let l = bind_some (literal_at (codes " by ") c.0.1) _ x c.2 in
-    let b = bind_some (iso_at 32 l.0) _ x l.2 in
-    let fb = iso_read 32 l.0 b.0 b.1 in
-    let made : Line × List ℕ = (lines.Tile p.0.0 (record { class = c.0.0; by = b.0.0 }), b.0.1) in
-    is_read {made = made} words_of IsLine all (some_is made x b.2) (front ▸ fp.takes ▸ fc.1 ▸ fc.2.takes ▸ literal_part (codes " by ") c.0.1 l.0 l.1 ▸ fb.takes) (fp.fits, fc.2.fits, fb.fits)
+tile_read =
+    let two = both_read (iso_words 32) IsPlace decimal IsNatural (iso_at 32) (codes " class ") number_at (iso_read 32) number_read in
+    parted_read placed_text (λ t. IsPlace t.0 × IsNatural t.1) (iso_words 32) IsPlace words_of IsLine (codes "tile ") (both_at (iso_at 32) (codes " class ") number_at) (codes " by ") (iso_at 32)
+    (λ t by. lines.Tile t.0 (record { class = t.1; by = by })) two (iso_read 32) (λ a b. refl) (λ a b f g. (f.0, f.1, g))
 
 coronas_read : ReadsBehind words_of IsLine (codes "coronas ", coronas_at)
 unfolding coronas_at
@@ -185,19 +177,16 @@ learn_read : ReadsBehind words_of IsLine (codes "learn", learn_at)
 unfolding learn_at
 learn_read = parted_read (spaced lit_text) (AreSome IsLiteral) (spaced decimal) (AreSome IsNatural) words_of IsLine (codes "learn") (some_words_at lit_at) (codes " :") (some_words_at number_at) lines.Learn literals_read numbers_read (λ a b. refl) (λ a b fits fit. (fits, fit))
 
-cut_read : (all bytes : List ℕ) (x : Line × List ℕ) → Takes all (codes "cut ") bytes → cut_at bytes ≡ Some x → IsRead words_of IsLine all x
+-- a cut's level and its hole
+abbrev hole_text : ℕ × List Cell → List ℕ
+hole_text c = decimal c.0 ++ codes " : " ++ cells_text c.1
+
+cut_read : ReadsBehind words_of IsLine (codes "cut ", cut_at)
 unfolding cut_at
-cut_read all bytes x front e =
-    let n = bind_some (number_at bytes) _ x e in
-    let fn = number_read bytes n.0 n.1 in
-    let l = bind_some (literal_at (codes " : ") n.0.1) _ x n.2 in
-    let h = bind_some (cells_at l.0) _ x l.2 in
-    let fh = cells_read l.0 h.0 h.1 in
-    let m = bind_some (literal_at (codes " :") h.0.1) _ x h.2 in
-    let b = bind_some (more_words_at number_at [] m.0) _ x m.2 in
-    let fb = all_numbers_read m.0 b.0 b.1 in
-    let made : Line × List ℕ = (lines.Cut (record { level = n.0.0; hole = h.0.0; border = b.0.0 }), b.0.1) in
-    is_read {made = made} words_of IsLine all (some_is made x b.2) (front ▸ fn.takes ▸ literal_part (codes " : ") n.0.1 l.0 l.1 ▸ fh.takes ▸ literal_part (codes " :") h.0.1 m.0 m.1 ▸ fb.takes) (fn.fits, fh.fits, fb.fits)
+cut_read =
+    let two = both_read decimal IsNatural cells_text (AreSome (IsWithin 100000)) number_at (codes " : ") cells_at number_read cells_read in
+    parted_read hole_text (λ c. IsNatural c.0 × AreSome (IsWithin 100000) c.1) (spaced decimal) (AllByRecursion IsNatural) words_of IsLine (codes "cut ") (both_at number_at (codes " : ") cells_at) (codes " :") (more_words_at number_at [])
+    (λ c border. lines.Cut (record { level = c.0; hole = c.1; border = border })) two all_numbers_read (λ a b. refl) (λ a b f g. (f.0, f.1, g))
 
 empty_read : ReadsBehind words_of IsLine (codes "empty", empty_at)
 unfolding empty_at

@@ -2,8 +2,7 @@
 use Rattle.std.proofs.Common.{◌≡◌, ℕ, Bool, true, false, cond, ◌&&◌, eqb, List, [], ◌∷◌, ◌++◌, Option, Some, None, refl, sym, ap, subst, ◌∙◌, append_assoc, ◌⊎◌, inl, inr}
 use Rattle.std.proofs.lemmas.Bool.{eqb-true}
 use Rattle.std.specs.List.{AllByRecursion}
-use Rattle.heesch_line.specs.Reading.{◌>>=◌, given, behind, by_words, names, made, literal_at}
-use Rattle.heesch_line.specs.LineReading.{parted}
+use Rattle.heesch_line.specs.Reading.{◌>>=◌, given, behind, by_words, names, made, parted, both_at, literal_at}
 
 abbrev pub some : {A : Type 0} → A → Option A
 some x = Some x
@@ -118,8 +117,21 @@ pub parted_read : {A B X : Type 0} (text : A → List ℕ) (Fits : A → Type 0)
 parted_read {A} {B} {X} text Fits text_b Fits_b words Form word first between second make read_a read_b spelled fits all bytes x front e =
     let a = bind_some (first bytes) _ x e in
     let part = read_a bytes a.0 a.1 in
-    let l = bind_some (literal_at between a.0.1) _ x a.2 in
-    let b = bind_some (second l.0) _ x l.2 in
-    let last = read_b l.0 b.0 b.1 in
-    let whole : X × List ℕ = (make a.0.0 b.0.0, b.0.1) in
-    is_read {made = whole} words Form all (some_is whole x b.2) (same_takes (front ▸ part.takes ▸ literal_part between a.0.1 l.0 l.1 ▸ last.takes) (sym (spelled a.0.0 b.0.0))) (fits a.0.0 b.0.0 part.fits last.fits)
+    let c = bind_some (literal_at between a.0.1 >>= λ word. second word) _ x a.2 in
+    let l = bind_some (literal_at between a.0.1) second c.0 c.1 in
+    let last = read_b l.0 c.0 l.2 in
+    let whole : X × List ℕ = (make a.0.0 c.0.0, c.0.1) in
+    is_read {made = whole} words Form all (some_is whole x c.2) (same_takes (front ▸ part.takes ▸ literal_part between a.0.1 l.0 l.1 ▸ last.takes) (sym (spelled a.0.0 c.0.0))) (fits a.0.0 c.0.0 part.fits last.fits)
+
+-- where nothing stands before it
+pub read_first : {X : Type 0} (text : X → List ℕ) (Fits : X → Type 0) (at : List ℕ → Option (X × List ℕ)) → ReadsBehind text Fits ([], at) → (bytes : List ℕ) (x : X × List ℕ) → at bytes ≡ Some x → IsRead text Fits bytes x
+read_first text Fits at reads bytes x e = reads bytes bytes x (record { parts = refl }) e
+
+-- two fields, and the word between them
+pub both_read : {A B : Type 0} (text : A → List ℕ) (Fits : A → Type 0) (text_b : B → List ℕ) (Fits_b : B → Type 0)
+    (first : List ℕ → Option (A × List ℕ)) (between : List ℕ) (second : List ℕ → Option (B × List ℕ))
+    → ((bytes : List ℕ) (a : A × List ℕ) → first bytes ≡ Some a → IsRead text Fits bytes a) → ((bytes : List ℕ) (b : B × List ℕ) → second bytes ≡ Some b → IsRead text_b Fits_b bytes b)
+    → (bytes : List ℕ) (x : (A × B) × List ℕ) → both_at first between second bytes ≡ Some x → IsRead (λ p. text p.0 ++ between ++ text_b p.1) (λ p. Fits p.0 × Fits_b p.1) bytes x
+both_read {A} {B} text Fits text_b Fits_b first between second read_a read_b bytes x e =
+    read_first (λ (p : A × B). text p.0 ++ between ++ text_b p.1) (λ (p : A × B). Fits p.0 × Fits_b p.1) (both_at first between second)
+    (parted_read text Fits text_b Fits_b (λ (p : A × B). text p.0 ++ between ++ text_b p.1) (λ (p : A × B). Fits p.0 × Fits_b p.1) [] first between second (λ a b. (a, b)) read_a read_b (λ a b. refl) (λ a b f g. (f, g))) bytes x e

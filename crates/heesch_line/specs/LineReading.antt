@@ -5,15 +5,7 @@ use Rattle.heesch_cert.specs.declared.verdict.Verdict.{Verdict}
 use Rattle.heesch_cert.specs.declared.verdict.Verdict.TheVariants as verdicts
 use Rattle.heesch_text.specs.declared.line.Line.{Line}
 use Rattle.heesch_text.specs.declared.line.Line.TheVariants as lines
-use Rattle.heesch_line.specs.Reading.{◌>>=◌, given, by_words, names, nothing, made, literal_at, number_at, iso_at, lit_at, three_numbers_at, triple_of, version_at, grid_at, kind_at, phase_at, outcome_at, bare_outcome_at, subject_at, labelled_at, limits_at, more_words_at, some_words_at, cells_at}
-
--- what is made of two fields with this word between them
-abbrev pub parted : {A B X : Type 0} → (A → B → X) → (List ℕ → Option (A × List ℕ)) → List ℕ → (List ℕ → Option (B × List ℕ)) → List ℕ → Option (X × List ℕ)
-parted make first between second bytes = do
-  a ← first bytes
-  word ← literal_at between a.1
-  b ← second word
-  Some (make a.0 b.0, b.1)
+use Rattle.heesch_line.specs.Reading.{◌>>=◌, given, by_words, names, nothing, made, parted, both_at, literal_at, number_at, iso_at, lit_at, three_numbers_at, triple_of, version_at, grid_at, kind_at, phase_at, outcome_at, bare_outcome_at, subject_at, limits_at, more_words_at, some_words_at, cells_at}
 
 unfoldable pub header_at : Bool → List ℕ → Option (Line × List ℕ)
 header_at brief bytes = do
@@ -28,26 +20,14 @@ unfoldable pub shape_at : List ℕ → Option (Line × List ℕ)
 shape_at bytes = made lines.Shape cells_at bytes
 
 unfoldable pub tiles_at : List ℕ → Option (Verdict × List ℕ)
-tiles_at bytes = do
-  kind ← kind_at bytes
-  domain ← labelled_at (codes " domain ") kind.1
-  classes ← labelled_at (codes " classes ") domain.1
-  Some (verdicts.Tiles kind.0 domain.0 classes.0, classes.1)
+tiles_at bytes = parted (λ t c. verdicts.Tiles t.0 t.1 c) (both_at kind_at (codes " domain ") number_at) (codes " classes ") number_at bytes
 
 unfoldable pub heesch_at : List ℕ → Option (Verdict × List ℕ)
-heesch_at bytes = do
-  h ← number_at bytes
-  m ← labelled_at (codes " nontiler ") h.1
-  Some (verdicts.Heesch h.0 m.0, m.1)
+heesch_at bytes = parted verdicts.Heesch number_at (codes " nontiler ") number_at bytes
 
 -- where a search stopped
 unfoldable pub stop_at : List ℕ → Option ((ℕ × Phase × ℕ) × List ℕ)
-stop_at bytes = do
-  h ← number_at bytes
-  first ← literal_at (codes " ") h.1
-  phase ← phase_at first
-  at ← labelled_at (codes " ") phase.1
-  Some ((h.0, phase.0, at.0), at.1)
+stop_at bytes = parted (λ s at. (s.0, s.1, at)) (both_at number_at (codes " ") phase_at) (codes " ") number_at bytes
 
 -- what stands behind the first word of a verdict
 abbrev pub verdict_rows : List (List ℕ × (List ℕ → Option (Verdict × List ℕ)))
@@ -73,12 +53,7 @@ lattice_at bytes = do
   Some (lines.Lattice triple, numbers.1)
 
 unfoldable pub tile_at : List ℕ → Option (Line × List ℕ)
-tile_at bytes = do
-  place ← iso_at 32 bytes
-  class ← labelled_at (codes " class ") place.1
-  word ← literal_at (codes " by ") class.1
-  by ← iso_at 32 word
-  Some (lines.Tile place.0 (record { class = class.0; by = by.0 }), by.1)
+tile_at bytes = parted (λ t by. lines.Tile t.0 (record { class = t.1; by = by })) (both_at (iso_at 32) (codes " class ") number_at) (codes " by ") (iso_at 32) bytes
 
 unfoldable pub coronas_at : List ℕ → Option (Line × List ℕ)
 coronas_at bytes = made lines.Coronas number_at bytes
@@ -110,13 +85,8 @@ unfoldable pub learn_at : List ℕ → Option (Line × List ℕ)
 learn_at bytes = parted lines.Learn (some_words_at lit_at) (codes " :") (some_words_at number_at) bytes
 
 unfoldable pub cut_at : List ℕ → Option (Line × List ℕ)
-cut_at bytes = do
-  level ← number_at bytes
-  colon ← literal_at (codes " : ") level.1
-  hole ← cells_at colon
-  second ← literal_at (codes " :") hole.1
-  border ← more_words_at number_at [] second
-  Some (lines.Cut (record { level = level.0; hole = hole.0; border = border.0 }), border.1)
+cut_at bytes =
+    parted (λ c border. lines.Cut (record { level = c.0; hole = c.1; border = border })) (both_at number_at (codes " : ") cells_at) (codes " :") (more_words_at number_at []) bytes
 
 unfoldable pub empty_at : List ℕ → Option (Line × List ℕ)
 empty_at bytes = made lines.Empty (some_words_at number_at) bytes

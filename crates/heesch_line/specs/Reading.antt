@@ -76,6 +76,18 @@ number_at bytes = given (is_plain (take (digits_len bytes) bytes)) (digits_value
 abbrev pub labelled_at : List ℕ → List ℕ → Option (ℕ × List ℕ)
 labelled_at word bytes = literal_at word bytes >>= λ rest. number_at rest
 
+-- what is made of a field
+abbrev pub made : {A X : Type 0} → (A → X) → (List ℕ → Option (A × List ℕ)) → List ℕ → Option (X × List ℕ)
+made make field bytes = field bytes >>= λ a. Some (make a.0, a.1)
+
+-- what is made of two fields with this word between them
+abbrev pub parted : {A B X : Type 0} → (A → B → X) → (List ℕ → Option (A × List ℕ)) → List ℕ → (List ℕ → Option (B × List ℕ)) → List ℕ → Option (X × List ℕ)
+parted make first between second bytes = first bytes >>= λ a. (literal_at between a.1 >>= λ word. second word) >>= λ b. Some (make a.0 b.0, b.1)
+
+-- two fields with this word between them
+abbrev pub both_at : {A B : Type 0} → (List ℕ → Option (A × List ℕ)) → List ℕ → (List ℕ → Option (B × List ℕ)) → List ℕ → Option ((A × B) × List ℕ)
+both_at first between second bytes = parted (λ a b. (a, b)) first between second bytes
+
 -- the first byte is `-`
 abbrev pub is_minus : List ℕ → Bool
 is_minus bytes = slice_index bytes 0 == 45
@@ -120,13 +132,7 @@ triple_of p q s = given (is_triple p q s) (lattice p q s)
 
 -- three numbers
 unfoldable pub three_numbers_at : List ℕ → Option ((ℕ × ℕ × ℕ) × List ℕ)
-three_numbers_at bytes = do
-  p ← number_at bytes
-  first ← literal_at (codes " ") p.1
-  q ← number_at first
-  second ← literal_at (codes " ") q.1
-  s ← number_at second
-  Some ((p.0, q.0, s.0), s.1)
+three_numbers_at bytes = parted (λ n s. (n.0, n.1, s)) (both_at number_at (codes " ") number_at) (codes " ") number_at bytes
 
 -- what is read behind the first of these words that stands at the front, and what is read in another way where none does
 abbrev pub by_words : {X : Type 0} → List (List ℕ × (List ℕ → Option (X × List ℕ))) → (List ℕ → Option (X × List ℕ)) → List ℕ → Option (X × List ℕ)
@@ -140,10 +146,6 @@ names x rest = Some (x, rest)
 -- no other way
 abbrev pub nothing : {X : Type 0} → List ℕ → Option (X × List ℕ)
 nothing bytes = None
-
--- what is made of a field
-abbrev pub made : {A X : Type 0} → (A → X) → (List ℕ → Option (A × List ℕ)) → List ℕ → Option (X × List ℕ)
-made make field bytes = field bytes >>= λ a. Some (make a.0, a.1)
 
 -- the names of the grids
 abbrev pub grid_rows : List (List ℕ × (List ℕ → Option (GridName × List ℕ)))
