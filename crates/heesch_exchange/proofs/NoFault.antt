@@ -3,6 +3,7 @@ use Rattle.std.proofs.Common.{◌≡◌, ◌≢◌, ◌∙◌, ◌⊎◌, ℕ, L
 use Rattle.std.specs.Prelude.{Bool, Contains}
 use Rattle.heesch_grid.specs.declared.Cell.{Cell}
 use Rattle.heesch_grid.specs.Cells.{cell_before, IsCellListOf}
+use Rattle.heesch_grid.specs.CoronaFormula.{Variable}
 use Rattle.heesch_grid.specs.Geometry.{Geometry, IsGrid}
 use Rattle.heesch_grid.specs.Polyform.{IsPolyform, IsCanonicalListOf}
 use Rattle.heesch_grid.proofs.CellFacts.{cell_before-irreflexive, cell_before-asymmetric}
@@ -14,6 +15,7 @@ use Rattle.heesch_cert.specs.Formulas.{IsCountedFormula, version_number}
 use Rattle.heesch_cert.specs.Literals.{literals}
 use Rattle.heesch_cert.specs.Proofs.{IsTooLarge}
 use Rattle.heesch_cert.proofs.Exactly.{too_large_exactly}
+use Rattle.heesch_cnf.specs.declared.literal.Lit.{Lit}
 use Rattle.heesch_cnf.specs.declared.version.Version.{Version}
 use Rattle.heesch_dimacs.specs.declared.model.ModelStop.TheVariants.{NotText}
 use Rattle.heesch_dimacs.specs.Models.{IsModel, IsModelText, ended}
@@ -81,11 +83,11 @@ module _ (g : Geometry) (line : List ℕ) where
         omega (arith, above, fits)
 
     -- a formula of the same line has as many variables
-    one_count : (other : HasFormula version g j size line) → encoded.count ≡ other.count
-    one_count other =
-        let same : other.shape ≡ encoded.shape = one_shape other.shape encoded.shape other.is_shape encoded.is_shape in
-        (formulas_of_versions_are_unique _ literals (version_number version) g encoded.shape j encoded.vars other.vars encoded.count other.count encoded.clauses other.clauses law polyform encoded.formula
-        (subst (λ (s : List Cell). IsCountedFormula version g s j other.vars other.count other.clauses) same other.formula)).1
+    one_count : (other : List Cell) (vars : List Variable) (count : ℕ) (clauses : List (List Lit)) → IsShapeLine g line other → IsCountedFormula version g other j vars count clauses → encoded.count ≡ count
+    one_count other vars count clauses is_other formula_too =
+        let same : other ≡ encoded.shape = one_shape other encoded.shape is_other encoded.is_shape in
+        (formulas_of_versions_are_unique _ literals (version_number version) g encoded.shape j encoded.vars vars encoded.count count encoded.clauses clauses law polyform encoded.formula
+        (subst (λ (s : List Cell). IsCountedFormula version g s j vars count clauses) same formula_too)).1
 
 -- ---- `formula`
 
@@ -98,13 +100,6 @@ formula_has_none version g j size input text at number law f (inr (inr (second, 
     second.more (one_line input second.line second.behind f.line [] second.first f.only).1
 
 -- ---- `answer`
-
--- formulas of one line have one count of variables
-same_count : (g : Geometry) → IsGrid g → (version : Version) (j size : ℕ) (a line : List ℕ) → a ≡ line → (encoded : HasFormula version g j size line) (other : HasFormula version g j size a) → encoded.count ≡ other.count
-same_count g law version j size a line same encoded other = by (sym same) encoded
-  where
-    by : {line : List ℕ} → line ≡ a → (encoded : HasFormula version g j size line) → encoded.count ≡ other.count
-    by refl encoded = one_count g a law version j size encoded other
 
 -- a model text has no fault
 no_model_fault : (count : ℕ) (model : List ℕ) (values : List Bool) (at number : ℕ) → IsModel count model values → IsModelFault count model at number → ⊥
@@ -135,7 +130,8 @@ answer_has_none version g j size input text at number law a (inr (inr (inl (faul
     no_shape_fault g a.line law version j size a.encoded number (subst (λ (l : List ℕ). IsShapeFault version g j size l number) lines.0 fault.fault)
 answer_has_none version g j size input text at number law a (inr (inr (inr fault))) =
     let lines = one_line input fault.line fault.model a.line a.model (as_first input fault.line fault.model fault.ended) (as_first input a.line a.model a.ended) in
-    let counts : a.encoded.count ≡ fault.encoded.count =
-    same_count g law version j size fault.line a.line lines.0 a.encoded fault.encoded in
+    let other = fault.encoded in
+    let is_shape : IsShapeLine g a.line other.shape = subst (λ (l : List ℕ). IsShapeLine g l other.shape) lines.0 other.is_shape in
+    let counts : a.encoded.count ≡ other.count = one_count g a.line law version j size a.encoded other.shape other.vars other.count other.clauses is_shape other.formula in
     no_model_fault a.encoded.count a.model a.values at number a.is_model
     (subst (λ (m : List ℕ). IsModelFault a.encoded.count m at number) lines.1 (subst (λ (n : ℕ). IsModelFault n fault.model at number) (sym counts) fault.fault))

@@ -33,7 +33,7 @@ use Rattle.heesch_exchange.specs.declared.stop.ExchangeStop.TheVariants.{Fault, 
 use Rattle.heesch_exchange.specs.Answers.{HasEndedLine, IsAnswer, IsAnswerStop, IsModelStop, TellsCoronas, TellsFalse}
 use Rattle.heesch_exchange.specs.Formulas.{IsFormula, IsFormulaStop, HasSecondLine}
 use Rattle.heesch_given.specs.Given.{IsShapeLine}
-use Rattle.heesch_exchange.specs.Shapes.{HasFirstLine, HasFormula, IsShapeFault, IsLineStop, encode_stop}
+use Rattle.heesch_exchange.specs.Shapes.{HasFirstLine, HasFormula, IsShapeFault, encode_stop}
 
 -- ---- empty texts
 
@@ -66,13 +66,8 @@ module _ (version : Version) (g : Geometry) (j size : ℕ) (line : List ℕ) (sh
   answer_stop input model ended TooLarge too_large = inr (inr (inl (record { line = line; model = model; ended = ended; fault = large (too_large refl) }, refl)))
   answer_stop input model ended NoMemory too_large = tt
 
--- the fault of the shape's line is told of an input to `answer`
-pub line_stop : (version : Version) (g : Geometry) (j size : ℕ) (input line model : List ℕ) → HasEndedLine input line model → (stop : ExchangeStop) → IsLineStop g line stop → IsAnswerStop version g j size input stop
-line_stop version g j size input line model ended (Fault at number) (at_is, fault) = inr (inr (inl (record { line = line; model = model; ended = ended; fault = inl fault }, at_is)))
-line_stop version g j size input line model ended NoStop _ = tt
-
 -- the formula of the line's shape, from its parts
-pub encoded_as : (version : Version) (g : Geometry) (j size : ℕ) (line : List ℕ) (shape : List Cell) → IsShapeLine g line shape → (vars : List Variable) (count : ℕ) (clauses : List (List Lit))
+abbrev pub encoded_as : (version : Version) (g : Geometry) (j size : ℕ) (line : List ℕ) (shape : List Cell) → IsShapeLine g line shape → (vars : List Variable) (count : ℕ) (clauses : List (List Lit))
     → IsCountedFormula version g shape j vars count clauses → formula_size clauses ≤ size → HasFormula version g j size line
 encoded_as version g j size line shape is_shape vars count clauses formula fits =
     record { shape = shape; is_shape = is_shape; vars = vars; count = count; clauses = clauses; formula = formula; fits = fits }
