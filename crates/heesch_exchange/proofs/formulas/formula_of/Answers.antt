@@ -23,7 +23,7 @@ returns-then-not-is_empty-clause-stop g c =
     let a = c.args in
     let e = c.in_ok-encoded.ensures in
     let encoded = encoded_as a.version g.G.Grid.geometry a.level a.size c.first_line.result.0.now c.in_ok-shape.shape c.in_ok-shape.ensures.ok
-        c.in_ok-encoded.encoded.universe.vars c.in_ok-encoded.encoded.formula.vars c.in_ok-encoded.encoded.formula.clauses e.formula e.fits in
+    c.in_ok-encoded.encoded.universe.vars c.in_ok-encoded.encoded.formula.vars c.in_ok-encoded.encoded.formula.clauses e.formula e.fits in
     let more = not_empty c.first_line.result.1.now c.is_empty-2.result c.is_empty-2.ensures c.if-not-is_empty.true in
     inr (inr (
       second_line a.version g.G.Grid.geometry a.level a.size a.input.now c.first_line.result.0.now c.first_line.result.1.now c.first_line.ensures encoded more,
@@ -36,7 +36,7 @@ returns-clause-ok g c =
     let a = c.args in
     let e = c.in_ok-encoded.ensures in
     let encoded = encoded_as a.version g.G.Grid.geometry a.level a.size c.first_line.result.0.now c.in_ok-shape.shape c.in_ok-shape.ensures.ok
-        c.in_ok-encoded.encoded.universe.vars c.in_ok-encoded.encoded.formula.vars c.in_ok-encoded.encoded.formula.clauses e.formula e.fits in
+    c.in_ok-encoded.encoded.universe.vars c.in_ok-encoded.encoded.formula.vars c.in_ok-encoded.encoded.formula.clauses e.formula e.fits in
     let some = not_empty a.input.now c.is_empty.result c.is_empty.ensures c.if-is_empty.false in
     let none = empty_is c.first_line.result.1.now c.is_empty-2.result c.is_empty-2.ensures c.if-not-is_empty.false in
     let written = c.in_ok-write_flat_cnf.ensures.ok in
