@@ -32,7 +32,7 @@ use Rattle.heesch_reader.proofs.FirstWords.{begins_next_cut, inside_begins}
 use Rattle.heesch_reader.proofs.NoFault.{no_fault}
 use Rattle.heesch_reader.proofs.SameLines.{along, line_front, no_first_line, front_on}
 use Rattle.heesch_reader.proofs.EntryLines.{body_lines}
-use Rattle.heesch_reader.proofs.Following.{text_append}
+use Rattle.heesch_reader.proofs.ItemLines.{text_append}
 use Rattle.heesch_reader.proofs.Walking.{all_append, shows_more}
 use Rattle.heesch_check.specs.Answers.{IsBegun, IsEnded, IsOpen, IsTooLong, IsDecided}
 use Rattle.heesch_check.specs.Catalogues.{block_of, behind_block, IsGoodEntry, AreBlocks, IsHeaded, AreChecked, AreAll}

@@ -2,6 +2,7 @@
 use Rattle.std.proofs.Common.{◌≡◌, ◌≢◌, ℕ, suc, ◌<◌, true, List, [], ◌∷◌, ◌++◌, length, get_or, refl, sym, ◌∙◌, arith}
 use Rattle.std.specs.Int.{IsInRange}
 use Rattle.std.specs.List.{AllByRecursion}
+pub use Rattle.std.proofs.ByRecursion.{All-append as all_append}
 use Rattle.std.proofs.lemmas.Bool.{eqb-true}
 use Rattle.heesch_dimacs.specs.Words.{HasNo}
 use Rattle.heesch_dimacs.specs.Models.{is_spaced}
@@ -10,10 +11,6 @@ use Rattle.heesch_dimacs.specs.Models.{is_spaced}
 abbrev pub Stops : ℕ → List ℕ → Type 0
 Stops k [] = Unit {0}
 Stops k (b ∷ bytes) = b ≡ k
-
-pub all_append : {X : Type 0} (P : X → Type 0) (xs ys : List X) → AllByRecursion P xs → AllByRecursion P ys → AllByRecursion P (xs ++ ys)
-all_append P [] ys h k = k
-all_append P (x ∷ xs) ys h k = (h.0, all_append P xs ys h.1 k)
 
 pub all_front : {X : Type 0} (P : X → Type 0) (xs ys : List X) → AllByRecursion P (xs ++ ys) → AllByRecursion P xs
 all_front P [] ys h = tt

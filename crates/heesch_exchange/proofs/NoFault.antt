@@ -1,9 +1,8 @@
 -- An input that is answered has no fault.
-use Rattle.std.proofs.Common.{◌≡◌, ◌≢◌, ◌∙◌, ◌⊎◌, ℕ, ◌≤◌, List, [], ◌∷◌, ◌++◌, refl, sym, subst, arith, append_assoc, append-nil, inl, inr}
+use Rattle.std.proofs.Common.{◌≡◌, ◌≢◌, ◌∙◌, ◌⊎◌, ℕ, List, [], ◌∷◌, ◌++◌, refl, sym, subst, arith, append_assoc, append-nil, inl, inr}
 use Rattle.std.specs.Prelude.{Bool, Contains}
 use Rattle.heesch_grid.specs.declared.Cell.{Cell}
 use Rattle.heesch_grid.specs.Cells.{cell_before, IsCellListOf}
-use Rattle.heesch_grid.specs.Clauses.{formula_size}
 use Rattle.heesch_grid.specs.CoronaFormula.{Variable}
 use Rattle.heesch_grid.specs.Geometry.{Geometry, IsGrid}
 use Rattle.heesch_grid.specs.Polyform.{IsPolyform, IsCanonicalListOf}
@@ -21,14 +20,13 @@ use Rattle.heesch_cnf.specs.declared.version.Version.{Version}
 use Rattle.heesch_dimacs.specs.declared.model.ModelStop.TheVariants.{NotText}
 use Rattle.heesch_dimacs.specs.Models.{IsModel, IsModelText, ended}
 use Rattle.heesch_dimacs.specs.Stops.{Stops}
-use Rattle.heesch_dimacs.specs.Words.{HasNoNewline}
 use Rattle.heesch_dimacs.proofs.Bytes.{cut_same}
 use Rattle.heesch_line.proofs.OneList.{cells_tell}
 use Rattle.heesch_shape.specs.Faults.{IsFault}
-use Rattle.heesch_exchange.specs.Answers.{IsAnswer, HasAnswerFault, IsModelFault}
+use Rattle.heesch_exchange.specs.Answers.{HasEndedLine, IsAnswer, HasAnswerFault, IsModelFault}
 use Rattle.heesch_exchange.specs.Formulas.{IsFormula, HasFormulaFault}
-use Rattle.heesch_given.specs.Given.{IsLineFault}
-use Rattle.heesch_exchange.specs.Shapes.{HasFirstLine, IsShapeFault, IsShapeLine}
+use Rattle.heesch_given.specs.Given.{IsShapeLine, IsLineFault}
+use Rattle.heesch_exchange.specs.Shapes.{HasFirstLine, HasFormula, IsShapeFault}
 
 -- ---- the first line
 
@@ -49,8 +47,8 @@ one_line input a b line behind x y = by x.text y.text
     by (inr p) (inr q) = (sym p.0 ∙ q.0, p.1 ∙ sym q.1)
 
 -- a line that ends is a first line
-as_first : (input line model : List ℕ) → HasNoNewline line → input ≡ line ++ 10 ∷ model → HasFirstLine input line model
-as_first input line model whole is = record { whole = whole; text = inl is }
+as_first : (input line model : List ℕ) → HasEndedLine input line model → HasFirstLine input line model
+as_first input line model ended = record { whole = ended.whole; text = inl ended.text }
 
 module _ (g : Geometry) (line : List ℕ) where
   -- a line has the shape of one canonical list
@@ -70,25 +68,26 @@ module _ (g : Geometry) (line : List ℕ) where
       let cells : f.cells ≡ x.cells = cells_tell f.cells x.cells f.are_cells x.are_cells (sym f.text ∙ x.text) in
       x.faultless f.fault (subst (λ (cs : List Cell). IsFault g cs f.fault) cells f.is_fault)
 
-  module _ (law : IsGrid g) (version : Version) (j size : ℕ) (shape : List Cell) (is_shape : IsShapeLine g line shape) (vars : List Variable) (count : ℕ) (clauses : List (List Lit)) (formula : IsCountedFormula version g shape j vars count clauses) where
-    polyform : IsPolyform g shape
-    polyform = let p = is_shape.is_canonical in image_polyform g law p.shape shape p.polyform p.is_canonical.is_image
+  module _ (law : IsGrid g) (version : Version) (j size : ℕ) (encoded : HasFormula version g j size line) where
+    polyform : IsPolyform g encoded.shape
+    polyform = let p = encoded.is_shape.is_canonical in image_polyform g law p.shape encoded.shape p.polyform p.is_canonical.is_image
 
     -- nor one by its formula, where that fits
-    no_shape_fault : (number : ℕ) → formula_size clauses ≤ size → IsShapeFault version g j size line number → ⊥
-    no_shape_fault number fits (inl f) = faultless shape number is_shape f
-    no_shape_fault number fits (inr (large, _)) =
-        let same : large.shape ≡ shape = one_shape large.shape shape large.is_shape is_shape in
-        let too_large : IsTooLarge version g shape j size = subst (λ (s : List Cell). IsTooLarge version g s j size) same large.too_large in
-        let above = (too_large_exactly version g law shape polyform j vars count clauses formula size).0 too_large in
+    no_shape_fault : (number : ℕ) → IsShapeFault version g j size line number → ⊥
+    no_shape_fault number (inl f) = faultless encoded.shape number encoded.is_shape f
+    no_shape_fault number (inr (large, _)) =
+        let same : large.shape ≡ encoded.shape = one_shape large.shape encoded.shape large.is_shape encoded.is_shape in
+        let too_large : IsTooLarge version g encoded.shape j size = subst (λ (s : List Cell). IsTooLarge version g s j size) same large.too_large in
+        let above = (too_large_exactly version g law encoded.shape polyform j encoded.vars encoded.count encoded.clauses encoded.formula size).0 too_large in
+        let fits = encoded.fits in
         omega (arith, above, fits)
 
     -- a formula of the same line has as many variables
-    one_count : (other : List Cell) (others : List Variable) (number : ℕ) (rest : List (List Lit)) → IsShapeLine g line other → IsCountedFormula version g other j others number rest → count ≡ number
-    one_count other others number rest is_other formula_too =
-        let same : other ≡ shape = one_shape other shape is_other is_shape in
-        (formulas_of_versions_are_unique _ literals (version_number version) g shape j vars others count number clauses rest law polyform formula
-        (subst (λ (s : List Cell). IsCountedFormula version g s j others number rest) same formula_too)).1
+    one_count : (other : List Cell) (vars : List Variable) (count : ℕ) (clauses : List (List Lit)) → IsShapeLine g line other → IsCountedFormula version g other j vars count clauses → encoded.count ≡ count
+    one_count other vars count clauses is_other formula_too =
+        let same : other ≡ encoded.shape = one_shape other encoded.shape is_other encoded.is_shape in
+        (formulas_of_versions_are_unique _ literals (version_number version) g encoded.shape j encoded.vars vars encoded.count count encoded.clauses clauses law polyform encoded.formula
+        (subst (λ (s : List Cell). IsCountedFormula version g s j vars count clauses) same formula_too)).1
 
 -- ---- `formula`
 
@@ -96,7 +95,7 @@ pub formula_has_none : (version : Version) (g : Geometry) (j size : ℕ) (input 
 formula_has_none version g j size input text at number law f (inl (empty, _, _)) = f.some empty
 formula_has_none version g j size input text at number law f (inr (inl (fault, _))) =
     let lines = one_line input fault.line fault.behind f.line [] fault.first f.only in
-    no_shape_fault g f.line law version j size f.shape f.is_shape f.vars f.count f.clauses f.formula number f.fits (subst (λ (l : List ℕ). IsShapeFault version g j size l number) lines.0 fault.fault)
+    no_shape_fault g f.line law version j size f.encoded number (subst (λ (l : List ℕ). IsShapeFault version g j size l number) lines.0 fault.fault)
 formula_has_none version g j size input text at number law f (inr (inr (second, _, _))) =
     second.more (one_line input second.line second.behind f.line [] second.first f.only).1
 
@@ -119,19 +118,20 @@ no_model_fault count model values at number m (inr (line, s, _, _)) =
 
 pub answer_has_none : (version : Version) (g : Geometry) (j size : ℕ) (input text : List ℕ) (at number : ℕ) → IsGrid g → IsAnswer version g j size input text → HasAnswerFault version g j size input at number → ⊥
 answer_has_none version g j size input text at number law a (inl (empty, _, _)) =
-    not_empty a.line (sym a.input_is ∙ empty)
+    not_empty a.line (sym a.ended.text ∙ empty)
   where
     not_empty : (line : List ℕ) → line ++ 10 ∷ a.model ≢ []
     not_empty [] is = cc
     not_empty (b ∷ line) is = cc
 answer_has_none version g j size input text at number law a (inr (inl (_, whole, _, _))) =
-    absurd (let same = (cut_same 10 a.line (10 ∷ a.model) input [] a.whole whole refl tt (sym a.input_is ∙ sym (append-nil input))).1 in cc)
+    absurd (let same = (cut_same 10 a.line (10 ∷ a.model) input [] a.ended.whole whole refl tt (sym a.ended.text ∙ sym (append-nil input))).1 in cc)
 answer_has_none version g j size input text at number law a (inr (inr (inl (fault, _)))) =
-    let lines = one_line input fault.line fault.model a.line a.model (as_first input fault.line fault.model fault.whole fault.input_is) (as_first input a.line a.model a.whole a.input_is) in
-    no_shape_fault g a.line law version j size a.shape a.is_shape a.vars a.count a.clauses a.formula number a.fits (subst (λ (l : List ℕ). IsShapeFault version g j size l number) lines.0 fault.fault)
+    let lines = one_line input fault.line fault.model a.line a.model (as_first input fault.line fault.model fault.ended) (as_first input a.line a.model a.ended) in
+    no_shape_fault g a.line law version j size a.encoded number (subst (λ (l : List ℕ). IsShapeFault version g j size l number) lines.0 fault.fault)
 answer_has_none version g j size input text at number law a (inr (inr (inr fault))) =
-    let lines = one_line input fault.line fault.model a.line a.model (as_first input fault.line fault.model fault.whole fault.input_is) (as_first input a.line a.model a.whole a.input_is) in
-    let is_shape : IsShapeLine g a.line fault.shape = subst (λ (l : List ℕ). IsShapeLine g l fault.shape) lines.0 fault.is_shape in
-    let counts : a.count ≡ fault.count = one_count g a.line law version j size a.shape a.is_shape a.vars a.count a.clauses a.formula fault.shape fault.vars fault.count fault.clauses is_shape fault.formula in
-    no_model_fault a.count a.model a.values at number a.is_model
-    (subst (λ (m : List ℕ). IsModelFault a.count m at number) lines.1 (subst (λ (n : ℕ). IsModelFault n fault.model at number) (sym counts) fault.fault))
+    let lines = one_line input fault.line fault.model a.line a.model (as_first input fault.line fault.model fault.ended) (as_first input a.line a.model a.ended) in
+    let other = fault.encoded in
+    let is_shape : IsShapeLine g a.line other.shape = subst (λ (l : List ℕ). IsShapeLine g l other.shape) lines.0 other.is_shape in
+    let counts : a.encoded.count ≡ other.count = one_count g a.line law version j size a.encoded other.shape other.vars other.count other.clauses is_shape other.formula in
+    no_model_fault a.encoded.count a.model a.values at number a.is_model
+    (subst (λ (m : List ℕ). IsModelFault a.encoded.count m at number) lines.1 (subst (λ (n : ℕ). IsModelFault n fault.model at number) (sym counts) fault.fault))

@@ -7,27 +7,12 @@ use Rattle.heesch_grid.specs.Geometry.{Geometry, IsGrid}
 use Rattle.heesch_grid.specs.Polyform.{IsCanonicalListOf}
 use Rattle.heesch_grid.proofs.GrowthOfLists.{canonical_of_image}
 use Rattle.heesch_grid.specs.Vectors.{IsWithin}
-use Rattle.heesch_given.specs.Given.{IsCanonicalOf}
-use Rattle.heesch_given.proofs.ShapeFaults.{faultless_all}
 use Rattle.heesch_line.specs.Scanning.{IsLineOf}
-use Rattle.heesch_shape.specs.Faults.{IsFaultless}
-use Rattle.heesch_exchange.specs.Shapes.{IsShapeLine}
+use Rattle.heesch_given.specs.Given.{IsShapeLine}
 
 -- the first cells of a line lie near 0
 pub near : (line : List ℕ) (first cells : List Cell) → IsLineOf line first → cells ≡ first → AllByRecursion (IsWithin 100000) cells
 near line first cells l same = subst (AllByRecursion (IsWithin 100000)) (sym (same ∙ l.first_are)) (recursive.All-take (IsWithin 100000) 33 l.all l.are)
-
--- where the first cells are a shape's, the line is
-pub shape_line : (g : Geometry) (line : List ℕ) (first canonical : List Cell) → IsLineOf line first → IsCanonicalOf g first canonical → IsFaultless g first → IsShapeLine g line canonical
-shape_line g line first canonical l is faultless =
-    let same : first ≡ l.all = l.first_are ∙ faultless_all g l.all (subst (IsFaultless g) l.first_are faultless) in
-    record {
-      cells = l.all;
-      are_cells = l.are;
-      text = l.text;
-      faultless = subst (IsFaultless g) same faultless;
-      is_canonical = subst (λ (cs : List Cell). IsCanonicalOf g cs canonical) same is;
-    }
 
 -- the canonical list of a line is its own
 pub self_canonical : (g : Geometry) → IsGrid g → (line : List ℕ) (shape : List Cell) → IsShapeLine g line shape → IsCanonicalListOf g shape shape

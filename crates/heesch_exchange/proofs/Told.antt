@@ -24,16 +24,16 @@ use Rattle.heesch_dimacs.specs.declared.model.ModelStop.TheVariants.{NotText, St
 use Rattle.heesch_dimacs.specs.Formulas.{clause_text}
 use Rattle.heesch_dimacs.specs.Models.{IsModel, ended, text_of}
 use Rattle.heesch_dimacs.specs.Stops.{Stops, IsReached}
-use Rattle.heesch_dimacs.specs.Words.{HasNoNewline}
 use Rattle.heesch_encode.specs.declared.stop.EncodeStop.{EncodeStop}
 use Rattle.heesch_encode.specs.declared.stop.EncodeStop.TheVariants.{TooLarge, NoMemory}
 use Rattle.heesch_place.specs.Universes.{Levels}
 use Rattle.heesch_text.specs.Catalogue.{coronas_text}
 use Rattle.heesch_exchange.specs.declared.stop.ExchangeStop.{ExchangeStop}
 use Rattle.heesch_exchange.specs.declared.stop.ExchangeStop.TheVariants.{Fault, NoMemory as NoStop}
-use Rattle.heesch_exchange.specs.Answers.{IsAnswer, IsAnswerStop, IsModelStop, TellsCoronas, TellsFalse}
+use Rattle.heesch_exchange.specs.Answers.{HasEndedLine, IsAnswer, IsAnswerStop, IsModelStop, TellsCoronas, TellsFalse}
 use Rattle.heesch_exchange.specs.Formulas.{IsFormula, IsFormulaStop, HasSecondLine}
-use Rattle.heesch_exchange.specs.Shapes.{HasFirstLine, IsShapeLine, IsShapeFault, IsLineStop, encode_stop}
+use Rattle.heesch_given.specs.Given.{IsShapeLine}
+use Rattle.heesch_exchange.specs.Shapes.{HasFirstLine, HasFormula, IsShapeFault, encode_stop}
 
 -- ---- empty texts
 
@@ -62,33 +62,28 @@ module _ (version : Version) (g : Geometry) (j size : ℕ) (line : List ℕ) (sh
   formula_stop input behind some first NoMemory too_large = tt
 
   -- and of one to `answer`
-  pub answer_stop : (input model : List ℕ) → HasNoNewline line → input ≡ line ++ 10 ∷ model → (stop : EncodeStop) → (stop ≡ TooLarge → IsTooLarge version g shape j size) → IsAnswerStop version g j size input (encode_stop stop)
-  answer_stop input model whole is TooLarge too_large = inr (inr (inl (record { line = line; model = model; whole = whole; input_is = is; fault = large (too_large refl) }, refl)))
-  answer_stop input model whole is NoMemory too_large = tt
+  pub answer_stop : (input model : List ℕ) → HasEndedLine input line model → (stop : EncodeStop) → (stop ≡ TooLarge → IsTooLarge version g shape j size) → IsAnswerStop version g j size input (encode_stop stop)
+  answer_stop input model ended TooLarge too_large = inr (inr (inl (record { line = line; model = model; ended = ended; fault = large (too_large refl) }, refl)))
+  answer_stop input model ended NoMemory too_large = tt
 
--- the fault of the shape's line is told of an input to `answer`
-pub line_stop : (version : Version) (g : Geometry) (j size : ℕ) (input line model : List ℕ) → HasNoNewline line → input ≡ line ++ 10 ∷ model → (stop : ExchangeStop) → IsLineStop g line stop → IsAnswerStop version g j size input stop
-line_stop version g j size input line model whole is (Fault at number) (at_is, fault) = inr (inr (inl (record { line = line; model = model; whole = whole; input_is = is; fault = inl fault }, at_is)))
-line_stop version g j size input line model whole is NoStop _ = tt
+-- the formula of the line's shape, from its parts
+abbrev pub encoded_as : (version : Version) (g : Geometry) (j size : ℕ) (line : List ℕ) (shape : List Cell) → IsShapeLine g line shape → (vars : List Variable) (count : ℕ) (clauses : List (List Lit))
+    → IsCountedFormula version g shape j vars count clauses → formula_size clauses ≤ size → HasFormula version g j size line
+encoded_as version g j size line shape is_shape vars count clauses formula fits =
+    record { shape = shape; is_shape = is_shape; vars = vars; count = count; clauses = clauses; formula = formula; fits = fits }
 
 -- ---- `formula`
 
-module _ (version : Version) (g : Geometry) (j size : ℕ) (input line behind : List ℕ) (first : HasFirstLine input line behind) (shape : List Cell) (is_shape : IsShapeLine g line shape) (vars : List Variable) (count : ℕ) (clauses : List (List Lit)) (formula : IsCountedFormula version g shape j vars count clauses) (fits : formula_size clauses ≤ size) where
+module _ (version : Version) (g : Geometry) (j size : ℕ) (input line behind : List ℕ) (first : HasFirstLine input line behind) (encoded : HasFormula version g j size line) where
   pub second_line : behind ≢ [] → HasSecondLine version g j size input
-  second_line more = record { line = line; behind = behind; first = first; shape = shape; is_shape = is_shape; vars = vars; count = count; clauses = clauses; formula = formula; fits = fits; more = more }
+  second_line more = record { line = line; behind = behind; first = first; encoded = encoded; more = more }
 
-  pub is_formula : input ≢ [] → behind ≡ [] → (text : List ℕ) → text ≡ clause_text count clauses → ((values : ℕ → Bool) × Satisfies values clauses) ↔ HasCoronas g shape j → IsFormula version g j size input text
+  pub is_formula : input ≢ [] → behind ≡ [] → (text : List ℕ) → text ≡ clause_text encoded.count encoded.clauses → ((values : ℕ → Bool) × Satisfies values encoded.clauses) ↔ HasCoronas g encoded.shape j → IsFormula version g j size input text
   is_formula some none text is satisfiable = record {
     some = some;
     line = line;
     only = subst (HasFirstLine input line) none first;
-    shape = shape;
-    is_shape = is_shape;
-    vars = vars;
-    count = count;
-    clauses = clauses;
-    formula = formula;
-    fits = fits;
+    encoded = encoded;
     text_is = is;
     satisfiable = satisfiable;
   }
@@ -115,38 +110,24 @@ pub tells_coronas : (g : Geometry) (shape : List Cell) (j : ℕ) (vars : List Va
 tells_coronas g shape j vars v clauses layers text satisfies spelled coronas is =
     record { satisfies = satisfies; layers = layers; count = layer_count g shape j vars v layers spelled; spelled = spelled; coronas = coronas; text_is = is }
 
-module _ (version : Version) (g : Geometry) (j size : ℕ) (input line model : List ℕ) (whole : HasNoNewline line) (input_is : input ≡ line ++ 10 ∷ model) (shape : List Cell) (is_shape : IsShapeLine g line shape) (vars : List Variable) (count : ℕ) (clauses : List (List Lit)) (formula : IsCountedFormula version g shape j vars count clauses) (fits : formula_size clauses ≤ size) where
+module _ (version : Version) (g : Geometry) (j size : ℕ) (input line model : List ℕ) (ended : HasEndedLine input line model) (encoded : HasFormula version g j size line) where
   -- the fault of the model text is told
-  pub model_stop : (stop : ExchangeStop) → IsModelStop count model stop → IsAnswerStop version g j size input stop
+  pub model_stop : (stop : ExchangeStop) → IsModelStop encoded.count model stop → IsAnswerStop version g j size input stop
   model_stop (Fault at number) fault = inr (inr (inr (record {
     line = line;
     model = model;
-    whole = whole;
-    input_is = input_is;
-    shape = shape;
-    is_shape = is_shape;
-    vars = vars;
-    count = count;
-    clauses = clauses;
-    formula = formula;
-    fits = fits;
+    ended = ended;
+    encoded = encoded;
     fault = fault;
   })))
   model_stop NoStop _ = tt
 
-  pub is_answer : (values : List Bool) → IsModel count model values → (text : List ℕ) → TellsCoronas g shape j vars (assignment_of values) clauses text ⊎ TellsFalse (assignment_of values) clauses text → IsAnswer version g j size input text
+  pub is_answer : (values : List Bool) → IsModel encoded.count model values → (text : List ℕ) → TellsCoronas g encoded.shape j encoded.vars (assignment_of values) encoded.clauses text ⊎ TellsFalse (assignment_of values) encoded.clauses text → IsAnswer version g j size input text
   is_answer values is_model text told = record {
     line = line;
     model = model;
-    whole = whole;
-    input_is = input_is;
-    shape = shape;
-    is_shape = is_shape;
-    vars = vars;
-    count = count;
-    clauses = clauses;
-    formula = formula;
-    fits = fits;
+    ended = ended;
+    encoded = encoded;
     values = values;
     is_model = is_model;
     told = told;

@@ -1,13 +1,11 @@
 -- What `answer` answers of an input.
-use Rattle.std.specs.Prelude.{◌≡◌, ◌≢◌, ◌⊎◌, ℕ, ◌+◌, ◌≤◌, Bool, List, [], ◌∷◌, ◌++◌, length, codes, decimal, ⊤}
+use Rattle.std.specs.Prelude.{◌≡◌, ◌≢◌, ◌⊎◌, ℕ, ◌+◌, Bool, List, [], ◌∷◌, ◌++◌, length, codes, decimal, ⊤}
 use Rattle.heesch_grid.specs.declared.Cell.{Cell}
 use Rattle.heesch_grid.specs.declared.isometries.Iso.{Iso}
-use Rattle.heesch_grid.specs.Clauses.{formula_size}
 use Rattle.heesch_grid.specs.Corona.{AreCoronas}
 use Rattle.heesch_grid.specs.CoronaFormula.{Variable}
 use Rattle.heesch_grid.specs.Geometry.{Geometry}
 use Rattle.heesch_grid.specs.Statements.{chosen_layers}
-use Rattle.heesch_cert.specs.Formulas.{IsCountedFormula}
 use Rattle.heesch_cert.specs.TrueEntry.{Spells}
 use Rattle.heesch_cnf.specs.declared.literal.Lit.{Lit}
 use Rattle.heesch_cnf.specs.declared.version.Version.{Version}
@@ -20,7 +18,12 @@ use Rattle.heesch_dimacs.specs.Words.{HasNoNewline}
 use Rattle.heesch_text.specs.Catalogue.{coronas_text}
 use Rattle.heesch_exchange.specs.declared.stop.ExchangeStop.{ExchangeStop}
 use Rattle.heesch_exchange.specs.declared.stop.ExchangeStop.TheVariants.{Fault, NoMemory}
-use Rattle.heesch_exchange.specs.Shapes.{IsShapeLine, IsShapeFault}
+use Rattle.heesch_exchange.specs.Shapes.{HasFormula, IsShapeFault}
+
+-- the input is this line, which ends, and behind it a text
+pub record HasEndedLine (input line model : List ℕ) : Type 0 where
+  pub whole : HasNoNewline line
+  pub text : input ≡ line ++ 10 ∷ model
 
 -- ---- the texts
 
@@ -47,18 +50,11 @@ pub record TellsCoronas (g : Geometry) (shape : List Cell) (j : ℕ) (vars : Lis
 pub record IsAnswer (version : Version) (g : Geometry) (j size : ℕ) (input text : List ℕ) : Type 0 where
   pub line : List ℕ
   pub model : List ℕ
-  pub whole : HasNoNewline line
-  pub input_is : input ≡ line ++ 10 ∷ model
-  pub shape : List Cell
-  pub is_shape : IsShapeLine g line shape
-  pub vars : List Variable
-  pub count : ℕ
-  pub clauses : List (List Lit)
-  pub formula : IsCountedFormula version g shape j vars count clauses
-  pub fits : formula_size clauses ≤ size
+  pub ended : HasEndedLine input line model
+  pub encoded : HasFormula version g j size line
   pub values : List Bool
-  pub is_model : IsModel count model values
-  pub told : TellsCoronas g shape j vars (assignment_of values) clauses text ⊎ TellsFalse (assignment_of values) clauses text
+  pub is_model : IsModel encoded.count model values
+  pub told : TellsCoronas g encoded.shape j encoded.vars (assignment_of values) encoded.clauses text ⊎ TellsFalse (assignment_of values) encoded.clauses text
 
 -- ---- the faults
 
@@ -66,8 +62,7 @@ pub record IsAnswer (version : Version) (g : Geometry) (j size : ℕ) (input tex
 pub record HasEndedShapeFault (version : Version) (g : Geometry) (j size : ℕ) (input : List ℕ) (number : ℕ) : Type 0 where
   pub line : List ℕ
   pub model : List ℕ
-  pub whole : HasNoNewline line
-  pub input_is : input ≡ line ++ 10 ∷ model
+  pub ended : HasEndedLine input line model
   pub fault : IsShapeFault version g j size line number
 
 -- the fault of a model text over the variables that begins with line 2: 6 where it isn't one, 15 where it names a variable that is above the greatest, or one twice
@@ -80,16 +75,9 @@ IsModelFault count model at number =
 pub record HasModelFault (version : Version) (g : Geometry) (j size : ℕ) (input : List ℕ) (at number : ℕ) : Type 0 where
   pub line : List ℕ
   pub model : List ℕ
-  pub whole : HasNoNewline line
-  pub input_is : input ≡ line ++ 10 ∷ model
-  pub shape : List Cell
-  pub is_shape : IsShapeLine g line shape
-  pub vars : List Variable
-  pub count : ℕ
-  pub clauses : List (List Lit)
-  pub formula : IsCountedFormula version g shape j vars count clauses
-  pub fits : formula_size clauses ≤ size
-  pub fault : IsModelFault count model at number
+  pub ended : HasEndedLine input line model
+  pub encoded : HasFormula version g j size line
+  pub fault : IsModelFault encoded.count model at number
 
 -- The first line at fault and the number of its fault: 13 for an empty input and 6 for a line without its newline, both at line 1; that of the shape's line; that of the model text.
 abbrev pub HasAnswerFault : Version → Geometry → ℕ → ℕ → List ℕ → ℕ → ℕ → Type 0

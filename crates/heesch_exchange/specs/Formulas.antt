@@ -1,33 +1,22 @@
 -- What `formula` answers of an input.
-use Rattle.std.specs.Prelude.{◌≡◌, ◌≢◌, ◌⊎◌, ℕ, ◌≤◌, Bool, List, [], ◌↔◌, ⊤}
-use Rattle.heesch_grid.specs.declared.Cell.{Cell}
-use Rattle.heesch_grid.specs.Clauses.{formula_size}
+use Rattle.std.specs.Prelude.{◌≡◌, ◌≢◌, ◌⊎◌, ℕ, Bool, List, [], ◌↔◌, ⊤}
 use Rattle.heesch_grid.specs.Corona.{HasCoronas}
-use Rattle.heesch_grid.specs.CoronaFormula.{Variable}
 use Rattle.heesch_grid.specs.Geometry.{Geometry}
-use Rattle.heesch_cert.specs.Formulas.{IsCountedFormula}
-use Rattle.heesch_cnf.specs.declared.literal.Lit.{Lit}
 use Rattle.heesch_cnf.specs.declared.version.Version.{Version}
 use Rattle.heesch_cnf.specs.Clauses.{Satisfies}
 use Rattle.heesch_dimacs.specs.Formulas.{clause_text}
 use Rattle.heesch_exchange.specs.declared.stop.ExchangeStop.{ExchangeStop}
 use Rattle.heesch_exchange.specs.declared.stop.ExchangeStop.TheVariants.{Fault, NoMemory}
-use Rattle.heesch_exchange.specs.Shapes.{HasFirstLine, IsShapeLine, IsShapeFault}
+use Rattle.heesch_exchange.specs.Shapes.{HasFirstLine, HasFormula, IsShapeFault}
 
 -- The input is the line of one shape S, and the text is the clause text of E(S, j) of the version, which has at most `size` literals and is satisfiable exactly where j coronas of S exist.
 pub record IsFormula (version : Version) (g : Geometry) (j size : ℕ) (input text : List ℕ) : Type 0 where
   pub some : input ≢ []
   pub line : List ℕ
   pub only : HasFirstLine input line []
-  pub shape : List Cell
-  pub is_shape : IsShapeLine g line shape
-  pub vars : List Variable
-  pub count : ℕ
-  pub clauses : List (List Lit)
-  pub formula : IsCountedFormula version g shape j vars count clauses
-  pub fits : formula_size clauses ≤ size
-  pub text_is : text ≡ clause_text count clauses
-  pub satisfiable : ((values : ℕ → Bool) × Satisfies values clauses) ↔ HasCoronas g shape j
+  pub encoded : HasFormula version g j size line
+  pub text_is : text ≡ clause_text encoded.count encoded.clauses
+  pub satisfiable : ((values : ℕ → Bool) × Satisfies values encoded.clauses) ↔ HasCoronas g encoded.shape j
 
 -- the first line has this fault
 pub record HasShapeFault (version : Version) (g : Geometry) (j size : ℕ) (input : List ℕ) (number : ℕ) : Type 0 where
@@ -42,13 +31,7 @@ pub record HasSecondLine (version : Version) (g : Geometry) (j size : ℕ) (inpu
   pub line : List ℕ
   pub behind : List ℕ
   pub first : HasFirstLine input line behind
-  pub shape : List Cell
-  pub is_shape : IsShapeLine g line shape
-  pub vars : List Variable
-  pub count : ℕ
-  pub clauses : List (List Lit)
-  pub formula : IsCountedFormula version g shape j vars count clauses
-  pub fits : formula_size clauses ≤ size
+  pub encoded : HasFormula version g j size line
   pub more : behind ≢ []
 
 -- The first line at fault and the number of its fault: 13 for an empty input, at line 1; that of the shape's line; 13 where a second line begins, at line 2.

@@ -1,17 +1,18 @@
 -- The line of a shape, with which an input begins.
-use Rattle.std.specs.Prelude.{◌≡◌, ◌⊎◌, ℕ, List, [], ◌∷◌, ◌++◌, ⊤}
+use Rattle.std.specs.Prelude.{◌≡◌, ◌⊎◌, ℕ, ◌≤◌, List, [], ◌∷◌, ◌++◌, ⊤}
 use Rattle.heesch_grid.specs.declared.Cell.{Cell}
+use Rattle.heesch_grid.specs.Clauses.{formula_size}
+use Rattle.heesch_grid.specs.CoronaFormula.{Variable}
 use Rattle.heesch_grid.specs.Geometry.{Geometry}
+use Rattle.heesch_cert.specs.Formulas.{IsCountedFormula}
 use Rattle.heesch_cert.specs.Proofs.{IsTooLarge}
+use Rattle.heesch_cnf.specs.declared.literal.Lit.{Lit}
 use Rattle.heesch_cnf.specs.declared.version.Version.{Version}
 use Rattle.heesch_dimacs.specs.Words.{HasNoNewline}
 use Rattle.heesch_encode.specs.declared.stop.EncodeStop.{EncodeStop}
 use Rattle.heesch_encode.specs.declared.stop.EncodeStop.TheVariants as encode_stops
-use Rattle.heesch_given.specs.Given.{IsCanonicalOf, IsLineFault}
-use Rattle.heesch_line.specs.Lists.{AreCells}
+use Rattle.heesch_given.specs.Given.{IsShapeLine, IsLineFault}
 use Rattle.heesch_line.specs.Scanning.{IsNoLine}
-use Rattle.heesch_shape.specs.Faults.{IsFaultless}
-use Rattle.heesch_text.specs.Fields.{cells_text}
 use Rattle.heesch_exchange.specs.declared.stop.ExchangeStop.{ExchangeStop}
 use Rattle.heesch_exchange.specs.declared.stop.ExchangeStop.TheVariants.{Fault, NoMemory}
 
@@ -20,13 +21,15 @@ pub record HasFirstLine (input line behind : List ℕ) : Type 0 where
   pub whole : HasNoNewline line
   pub text : (input ≡ line ++ 10 ∷ behind) ⊎ ((input ≡ line) × (behind ≡ []))
 
--- the line is cells, which may stand in any order, and this is the canonical list of their polyform of at most 32 cells
-pub record IsShapeLine (g : Geometry) (line : List ℕ) (canonical : List Cell) : Type 0 where
-  pub cells : List Cell
-  pub are_cells : AreCells cells
-  pub text : line ≡ cells_text cells
-  pub faultless : IsFaultless g cells
-  pub is_canonical : IsCanonicalOf g cells canonical
+-- the line is that of a shape S, and these are the variables and the clauses of E(S, j) of the version, which has at most `size` literals
+pub record HasFormula (version : Version) (g : Geometry) (j size : ℕ) (line : List ℕ) : Type 0 where
+  pub shape : List Cell
+  pub is_shape : IsShapeLine g line shape
+  pub vars : List Variable
+  pub count : ℕ
+  pub clauses : List (List Lit)
+  pub formula : IsCountedFormula version g shape j vars count clauses
+  pub fits : formula_size clauses ≤ size
 
 -- ---- the faults of the line
 

@@ -1,7 +1,8 @@
 //! The line of a shape.
 ghost use Rattle.std.specs.Prelude.{◌≡◌, IfOk, IfErr};
 ghost use Rattle.heesch_line.specs.Scanning.{IsLineOf};
-ghost use Rattle.heesch_exchange.specs.Shapes.{IsShapeLine, IsLineStop, IsCellsStop};
+ghost use Rattle.heesch_given.specs.Given.{IsShapeLine};
+ghost use Rattle.heesch_exchange.specs.Shapes.{IsLineStop, IsCellsStop};
 
 use crate::stop::ExchangeStop;
 use heesch_cert::Cells;

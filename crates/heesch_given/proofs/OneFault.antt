@@ -15,7 +15,7 @@ use Rattle.heesch_given.specs.Given.{AreGiven, HasFault, EndsInTime, IsLineFault
 use Rattle.heesch_given.proofs.ShapeFaults.{one_number}
 
 -- lines that begin with those of shapes are a shape's at a place among these, and end before these do
-record IsShapeLine (g : Geometry) (before more : List (List Cell)) (at : List ℕ) : Type 0 where
+record IsEarlierShape (g : Geometry) (before more : List (List Cell)) (at : List ℕ) : Type 0 where
   cells : List Cell
   are : AreCells cells
   text : at ≡ cells_text cells
@@ -29,7 +29,7 @@ line_long cells given =
     omega (arith, whole, one)
 
 shape_line : (g : Geometry) (before more : List (List Cell)) (at : List ℕ) (back rest : List (List ℕ)) → length before < length more → AllByRecursion AreCells before → AllByRecursion AreCells more → AllByRecursion (IsFaultless g) more
-    → map cells_text before ++ at ∷ back ≡ map cells_text more ++ rest → IsShapeLine g before more at
+    → map cells_text before ++ at ∷ back ≡ map cells_text more ++ rest → IsEarlierShape g before more at
 shape_line g before [] at back rest less fit fits all same = absurd (omega (arith, less))
 shape_line g [] (c ∷ more) at back rest less fit fits all same =
     let head : at ≡ cells_text c = cc in
@@ -49,12 +49,12 @@ faultless_each : (g : Geometry) (given : List (List Cell)) → All (IsFaultless 
 faultless_each g given all = All-from_get_or (IsFaultless g) given [] (λ i less. all i [] less)
 
 -- the line of a shape has no fault of its own
-no_own_fault : (g : Geometry) (before more : List (List Cell)) (at : List ℕ) (number : ℕ) → IsShapeLine g before more at → IsLineFault g at number → ⊥
+no_own_fault : (g : Geometry) (before more : List (List Cell)) (at : List ℕ) (number : ℕ) → IsEarlierShape g before more at → IsLineFault g at number → ⊥
 no_own_fault g before more at number s (inl f) = s.faultless f.fault (subst (λ (cells : List Cell). IsFault g cells f.fault) (cells_tell f.cells s.cells f.are_cells s.are (sym f.text ∙ s.text)) f.is_fault)
 no_own_fault g before more at number s (inr none) = none.0 s.cells s.are s.text
 
 -- a line among those of shapes has no fault
-no_fault_among : (most : ℕ) (g : Geometry) (text : List ℕ) (before more : List (List Cell)) (at : List ℕ) (number : ℕ) → IsShapeLine g before more at → length before < length more → length more ≤ 10000
+no_fault_among : (most : ℕ) (g : Geometry) (text : List ℕ) (before more : List (List Cell)) (at : List ℕ) (number : ℕ) → IsEarlierShape g before more at → length before < length more → length more ≤ 10000
     → EndsInTime most text before at → IsFaultBehind most g text before at number → ⊥
 no_fault_among most g text before more at number s less few ends (inl full) = omega (arith, full.0, less, few)
 no_fault_among most g text before more at number s less few ends (inr (inl own)) = no_own_fault g before more at number s own.2

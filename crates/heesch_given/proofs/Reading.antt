@@ -13,7 +13,7 @@ use Rattle.heesch_line.specs.Lists.{lines_of, AreCells}
 use Rattle.heesch_line.specs.Scanning.{Scanned, IsScanned, IsLineOf}
 use Rattle.heesch_shape.specs.declared.faults.ShapeFault.{ShapeFault}
 use Rattle.heesch_shape.specs.Faults.{IsFault, IsFaultless, number_of}
-use Rattle.heesch_given.specs.Given.{AreGiven, IsCanonicalOf, IsNoShape, IsLineFault, EndsInTime, HasFault}
+use Rattle.heesch_given.specs.Given.{AreGiven, IsCanonicalOf, IsShapeLine, IsNoShape, IsLineFault, EndsInTime, HasFault}
 use Rattle.heesch_given.specs.declared.stop.GivenStop.{GivenStop}
 use Rattle.heesch_given.specs.declared.stop.GivenStop.TheVariants as stops
 use Rattle.heesch_given.specs.Steps.{IsRead, AddsShape, EndsLine, IsFrontStop, IsWholeStop, IsStopBeyond}
@@ -22,18 +22,16 @@ use Rattle.heesch_given.proofs.Texts.{front_lines, text_more, line_ended, begun_
 
 -- ---- the line that ended
 
--- it is a shape, by its first 33 cells
-pub adds_shape : (g : Geometry) (line : List ℕ) (first canonical : List Cell) (old new : List (List Cell)) → IsLineOf line first → IsCanonicalOf g first canonical → IsFaultless g first → new ≡ old ++ canonical ∷ [] → AddsShape g line old new
-adds_shape g line first canonical old new l is faultless added =
+-- where the first 33 cells are a shape's, the line is
+pub shape_line : (g : Geometry) (line : List ℕ) (first canonical : List Cell) → IsLineOf line first → IsCanonicalOf g first canonical → IsFaultless g first → IsShapeLine g line canonical
+shape_line g line first canonical l is faultless =
     let same : first ≡ l.all = l.first_are ∙ faultless_all g l.all (subst (IsFaultless g) l.first_are faultless) in
     record {
       cells = l.all;
       are_cells = l.are;
       text = l.text;
       faultless = subst (IsFaultless g) same faultless;
-      canonical = canonical;
       is_canonical = subst (λ (cells : List Cell). IsCanonicalOf g cells canonical) same is;
-      added = added;
     }
 
 -- it is no shape, by its first 33 cells
@@ -89,23 +87,23 @@ pub line_ends : (g : Geometry) (bytes : List ℕ) (old new : List (List Cell)) (
     → AddsShape g r.undecided.line old new → IsScanned [] t → IsRead g (bytes ++ 10 ∷ []) new t
 line_ends g bytes old new s t r less a scanned =
     let u = r.undecided in
-    let longer : length (u.given ++ a.cells ∷ []) ≡ length u.given + 1 = length-append u.given (a.cells ∷ []) in
+    let longer : length (u.given ++ a.shape.cells ∷ []) ≡ length u.given + 1 = length-append u.given (a.shape.cells ∷ []) in
     record {
       undecided = record {
-        given = u.given ++ a.cells ∷ [];
+        given = u.given ++ a.shape.cells ∷ [];
         line = [];
         text = ap (λ (x : List ℕ). x ++ 10 ∷ []) u.text
             ∙ append_assoc (list_text u.given) u.line (10 ∷ [])
-            ∙ ap (λ (l : List ℕ). list_text u.given ++ (l ++ 10 ∷ [])) a.text
-            ∙ sym (text_more u.given a.cells)
-            ∙ sym (append-nil (list_text (u.given ++ a.cells ∷ [])));
+            ∙ ap (λ (l : List ℕ). list_text u.given ++ (l ++ 10 ∷ [])) a.shape.text
+            ∙ sym (text_more u.given a.shape.cells)
+            ∙ sym (append-nil (list_text (u.given ++ a.shape.cells ∷ [])));
         one_line = tt;
-        cells = recursive.All-push AreCells u.given a.cells u.cells a.are_cells;
-        shapes = All-push (IsFaultless g) u.given a.cells u.shapes a.faultless;
+        cells = recursive.All-push AreCells u.given a.shape.cells u.cells a.shape.are_cells;
+        shapes = All-push (IsFaultless g) u.given a.shape.cells u.shapes a.shape.faultless;
         few = omega (arith, longer, less, as_many g bytes old s r);
         full = λ full. refl;
       };
-      canonical = subst (AllZip (IsCanonicalOf g) (u.given ++ a.cells ∷ [])) (sym a.added) (AllZip-push (IsCanonicalOf g) u.given old a.cells a.canonical r.canonical a.is_canonical);
+      canonical = subst (AllZip (IsCanonicalOf g) (u.given ++ a.shape.cells ∷ [])) (sym a.added) (AllZip-push (IsCanonicalOf g) u.given old a.shape.cells a.canonical r.canonical a.shape.is_canonical);
       scanned = scanned;
     }
 
@@ -238,19 +236,19 @@ all_ended most g bytes shapes s r none few =
 pub last_ends : (most : ℕ) (g : Geometry) (bytes : List ℕ) (old new : List (List Cell)) (s : Scanned) → (r : IsRead g bytes old s) → r.undecided.line ≢ [] → AddsShape g r.undecided.line old new → length bytes ≤ most → AreGiven most g bytes new
 last_ends most g bytes old new s r some a few =
     let u = r.undecided in
-    let longer : length (u.given ++ a.cells ∷ []) ≡ length u.given + 1 = length-append u.given (a.cells ∷ []) in
+    let longer : length (u.given ++ a.shape.cells ∷ []) ≡ length u.given + 1 = length-append u.given (a.shape.cells ∷ []) in
     let less : length u.given < 10000 = not_full (length u.given) u.few (λ full. some (u.full full)) in
-    let one : lines_of u.line ≡ cells_text a.cells ∷ [] = last_line u.line some u.one_line ∙ ap (λ (l : List ℕ). l ∷ []) a.text in
+    let one : lines_of u.line ≡ cells_text a.shape.cells ∷ [] = last_line u.line some u.one_line ∙ ap (λ (l : List ℕ). l ∷ []) a.shape.text in
     record {
-      given = u.given ++ a.cells ∷ [];
+      given = u.given ++ a.shape.cells ∷ [];
       listed = record {
-        lines = ap lines_of u.text ∙ front_lines u.given u.line u.cells ∙ ap (λ (ls : List (List ℕ)). map cells_text u.given ++ ls) one ∙ sym (map-append cells_text u.given (a.cells ∷ []));
-        cells = recursive.All-push AreCells u.given a.cells u.cells a.are_cells;
+        lines = ap lines_of u.text ∙ front_lines u.given u.line u.cells ∙ ap (λ (ls : List (List ℕ)). map cells_text u.given ++ ls) one ∙ sym (map-append cells_text u.given (a.shape.cells ∷ []));
+        cells = recursive.All-push AreCells u.given a.shape.cells u.cells a.shape.are_cells;
         most = omega (arith, longer, less);
       };
       in_time = few;
-      are_shapes = All-push (IsFaultless g) u.given a.cells u.shapes a.faultless;
-      canonical = subst (AllZip (IsCanonicalOf g) (u.given ++ a.cells ∷ [])) (sym a.added) (AllZip-push (IsCanonicalOf g) u.given old a.cells a.canonical r.canonical a.is_canonical);
+      are_shapes = All-push (IsFaultless g) u.given a.shape.cells u.shapes a.shape.faultless;
+      canonical = subst (AllZip (IsCanonicalOf g) (u.given ++ a.shape.cells ∷ [])) (sym a.added) (AllZip-push (IsCanonicalOf g) u.given old a.shape.cells a.canonical r.canonical a.shape.is_canonical);
     }
   where
     not_full : (n : ℕ) → n ≤ 10000 → (n ≡ 10000 → ⊥) → n < 10000

@@ -33,6 +33,14 @@ pub record AreGiven (most : ℕ) (g : Geometry) (text : List ℕ) (shapes : List
   pub are_shapes : All (IsFaultless g) given
   pub canonical : AllZip (IsCanonicalOf g) given shapes
 
+-- the line is cells, which may stand in any order, and this is the canonical list of their polyform of at most 32 cells
+pub record IsShapeLine (g : Geometry) (line : List ℕ) (canonical : List Cell) : Type 0 where
+  pub cells : List Cell
+  pub are_cells : AreCells cells
+  pub text : line ≡ cells_text cells
+  pub faultless : IsFaultless g cells
+  pub is_canonical : IsCanonicalOf g cells canonical
+
 -- ---- the first fault
 
 -- the line behind those of these cells ends within the bytes that are read, or the text does

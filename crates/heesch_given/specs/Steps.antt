@@ -3,13 +3,10 @@ use Rattle.std.specs.Prelude.{◌≡◌, ℕ, ◌+◌, ◌≤◌, List, [], ◌�
 use Rattle.std.specs.List.{AllZip}
 use Rattle.heesch_grid.specs.declared.Cell.{Cell}
 use Rattle.heesch_grid.specs.Geometry.{Geometry}
-use Rattle.heesch_text.specs.Fields.{cells_text}
-use Rattle.heesch_line.specs.Lists.{AreCells}
 use Rattle.heesch_line.specs.Scanning.{Scanned, IsScanned}
-use Rattle.heesch_shape.specs.Faults.{IsFaultless}
 use Rattle.heesch_given.specs.declared.stop.GivenStop.{GivenStop}
 use Rattle.heesch_given.specs.declared.stop.GivenStop.TheVariants.{Fault, Failed, NoMemory}
-use Rattle.heesch_given.specs.Given.{IsCanonicalOf, IsLineFault, HasFault, DecideNothing}
+use Rattle.heesch_given.specs.Given.{IsCanonicalOf, IsShapeLine, IsLineFault, HasFault, DecideNothing}
 
 -- the bytes were read and decide nothing; these are the canonical lists of the shapes, and the line that didn't end was read
 pub record IsRead (g : Geometry) (bytes : List ℕ) (shapes : List (List Cell)) (s : Scanned) : Type 0 where
@@ -27,12 +24,8 @@ IsSomeLine s = (line : List ℕ) × IsScanned line s
 
 -- the line is a shape, whose canonical list was added
 pub record AddsShape (g : Geometry) (line : List ℕ) (old new : List (List Cell)) : Type 0 where
-  pub cells : List Cell
-  pub are_cells : AreCells cells
-  pub text : line ≡ cells_text cells
-  pub faultless : IsFaultless g cells
   pub canonical : List Cell
-  pub is_canonical : IsCanonicalOf g cells canonical
+  pub shape : IsShapeLine g line canonical
   pub added : new ≡ old ++ canonical ∷ []
 
 -- the line is a shape, which was added, and another line begins; or it has this fault

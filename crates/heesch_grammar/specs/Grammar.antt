@@ -79,12 +79,7 @@ abbrev pub after_tiling : Line → Option Place
 after_tiling (lines.Lattice triple) = Some places.Lattice
 after_tiling line = None
 
--- after `lattice`
-abbrev pub after_lattice : Line → Option Place
-after_lattice (lines.Tile place member) = Some places.Tile
-after_lattice line = None
-
--- after `tile`
+-- after `lattice`, and after `tile`
 abbrev pub after_tile : Line → Option Place
 after_tile (lines.Tile place member) = Some places.Tile
 after_tile line = None
@@ -142,7 +137,7 @@ abbrev pub next : Bool → Place → Line → Option Place
 next brief places.Between line = None
 next brief places.Shape line = after_shape brief line
 next brief places.Tiling line = after_tiling line
-next brief places.Lattice line = after_lattice line
+next brief places.Lattice line = after_tile line
 next brief places.Tile line = after_tile line
 next brief (places.Search last) line = after_verdict last line
 next brief (places.Layers more count last) line = in_layers more count last line

@@ -1,30 +1,9 @@
 //! Where a line of an entry leads.
 ghost use Rattle.std.specs.Prelude.{◌≡◌};
-ghost use Rattle.heesch_grammar.specs.Grammar.{
-  layers,
-  wider,
-  judged,
-  walled,
-  searched,
-  opened,
-  bared,
-  behind,
-  after_shape,
-  after_tiling,
-  after_lattice,
-  after_tile,
-  after_verdict,
-  in_layers,
-  after_coronas,
-  in_proof,
-  after_wall,
-  may_open,
-  open_none,
-  must_open,
-  in_wider,
-  may_search,
-  next,
-};
+ghost use Rattle.heesch_grammar.specs.Grammar.{layers, wider, judged, walled, searched, opened, bared, behind};
+ghost use Rattle.heesch_grammar.specs.Grammar.{after_shape, after_tiling, after_tile, after_verdict, in_layers};
+ghost use Rattle.heesch_grammar.specs.Grammar.{after_coronas, in_proof, after_wall, may_open, open_none, must_open};
+ghost use Rattle.heesch_grammar.specs.Grammar.{in_wider, may_search, next};
 
 use crate::place::{AfterProof, Place};
 use heesch_cert::Verdict;
@@ -39,8 +18,7 @@ impl Place {
             Place::Between => None,
             Place::Shape => after_shape(brief, line),
             Place::Tiling => after_tiling(line),
-            Place::Lattice => after_lattice(line),
-            Place::Tile => after_tile(line),
+            Place::Lattice | Place::Tile => after_tile(line),
             Place::Search { last } => after_verdict(last, line),
             Place::Layers { more, count, last } => in_layers(more, count, last, line),
             Place::Coronas { count, last } => after_coronas(count, last, line),
@@ -97,20 +75,7 @@ fn after_tiling(line: &Line) -> Option<Place>
     }
 }
 
-/// After `lattice`.
-fn after_lattice(line: &Line) -> Option<Place>
-    ensures { result ≡ after_lattice line.now }
-{
-    match line {
-        Line::Tile {
-            place: _,
-            member: _,
-        } => Some(Place::Tile),
-        _ => None,
-    }
-}
-
-/// After `tile`.
+/// After `lattice`, and after `tile`.
 fn after_tile(line: &Line) -> Option<Place>
     ensures { result ≡ after_tile line.now }
 {

@@ -1,17 +1,7 @@
 //! Taking the parts of an entry from the front of its lines.
 ghost use Rattle.std.specs.Prelude.{◌≡◌, drop, IfOk, OnOk};
-ghost use Rattle.heesch_grammar.specs.Parts.{
-  proof_at,
-  behind_proof,
-  layers_at,
-  behind_layers,
-  places_at,
-  members_at,
-  triples_at,
-  tile_of,
-  lattice_at,
-  triple_of,
-};
+ghost use Rattle.heesch_grammar.specs.Parts.{proof_at, behind_proof, layers_at, behind_layers, places_at, members_at};
+ghost use Rattle.heesch_grammar.specs.Parts.{triples_at, tile_of, lattice_at, triple_of};
 
 use heesch_cert::{Isos, Member, Proof, Step, TripleProof};
 use heesch_grid::Iso;

@@ -1,20 +1,8 @@
 //! Taking the evidence of a search from the lines of an entry.
 ghost use Rattle.std.specs.Prelude.{◌≡◌, IfOk, OnOk};
 ghost use Rattle.heesch_grammar.specs.Entries.{HasCoronas, IsSearchAt};
-ghost use Rattle.heesch_grammar.specs.Parts.{
-  proof_at,
-  behind_proof,
-  wall_end,
-  wall_at,
-  behind_wall,
-  bare_end,
-  bare_at,
-  behind_bare,
-  open_count,
-  wider_at,
-  behind_wider,
-  search_at,
-};
+ghost use Rattle.heesch_grammar.specs.Parts.{proof_at, behind_proof, wall_end, wall_at, behind_wall, bare_end};
+ghost use Rattle.heesch_grammar.specs.Parts.{bare_at, behind_bare, open_count, wider_at, behind_wider, search_at};
 
 use crate::parts::{take_layers, take_proof, take_triples};
 use heesch_cert::{Bare, Evidence, Layers, Wall};

@@ -29,8 +29,9 @@ use Rattle.heesch_cert.specs.Sizes.{most_cells, IsSubject}
 use Rattle.heesch_cert.proofs.FewCells.{few_cells}
 use Rattle.heesch_text.specs.Naturals.{IsNatural}
 use Rattle.heesch_line.specs.Forms.{IsPlace}
-use Rattle.heesch_line.specs.Reading.{◌>>=◌, given, literal_at, number_at, labelled_at, integer_at, iso_at, is_triple, three_numbers_at, grid_at, kind_at, version_at, phase_at, outcome_at, bare_outcome_at, subject_at, are_limits, limits_of, limits_at}
-use Rattle.heesch_line.proofs.Steps.{some, some_is, none_some, bind_some, given_some, behind_some, both_true, ◌▸◌, literal_part, IsRead, is_read, word_read}
+use Rattle.heesch_line.specs.Reading.{◌>>=◌, given, nothing, made, parted, both_at, literal_at, number_at, labelled_at, integer_at, iso_at, is_triple, three_numbers_at, grid_at, kind_at, version_at, phase_at}
+use Rattle.heesch_line.specs.Reading.{outcome_at, bare_outcome_at, subject_at, are_limits, limits_of, limits_at, grid_rows, kind_rows, version_rows, phase_rows, outcome_rows, bare_rows}
+use Rattle.heesch_line.proofs.Steps.{some, none_some, bind_some, given_some, behind_some, both_true, ◌▸◌, literal_part, IsRead, is_read, word_read, ReadsBehind, by_words_read, named, made_read, parted_read, read_first, both_read}
 use Rattle.heesch_line.proofs.Numbers.{number_read, number_again, integer_read, integer_again, Stops, labelled_parts, eqb_same, BeginsWithDigit, decimal_begins}
 
 pub regroup2 : (t0 t1 r : List ℕ) → (t0 ++ t1) ++ r ≡ t0 ++ (t1 ++ r)
@@ -96,19 +97,19 @@ numbers_text n = decimal n.0 ++ codes " " ++ decimal n.1 ++ codes " " ++ decimal
 abbrev pub AreNatural : ℕ × ℕ × ℕ → Type 0
 AreNatural n = IsNatural n.0 × IsNatural n.1 × IsNatural n.2
 
+-- two numbers
+abbrev pair_text : ℕ × ℕ → List ℕ
+pair_text n = decimal n.0 ++ codes " " ++ decimal n.1
+
+abbrev ArePair : ℕ × ℕ → Type 0
+ArePair n = IsNatural n.0 × IsNatural n.1
+
 pub three_numbers_read : (bytes : List ℕ) (x : (ℕ × ℕ × ℕ) × List ℕ) → three_numbers_at bytes ≡ Some x → IsRead numbers_text AreNatural bytes x
 unfolding three_numbers_at
 three_numbers_read bytes x e =
-    let p = bind_some (number_at bytes) _ x e in
-    let fp = number_read bytes p.0 p.1 in
-    let l = bind_some (literal_at (codes " ") p.0.1) _ x p.2 in
-    let q = bind_some (number_at l.0) _ x l.2 in
-    let fq = number_read l.0 q.0 q.1 in
-    let m = bind_some (literal_at (codes " ") q.0.1) _ x q.2 in
-    let s = bind_some (number_at m.0) _ x m.2 in
-    let fs = number_read m.0 s.0 s.1 in
-    let made : (ℕ × ℕ × ℕ) × List ℕ = ((p.0.0, q.0.0, s.0.0), s.0.1) in
-    is_read {made = made} numbers_text AreNatural bytes (some_is made x s.2) (fp.takes ▸ literal_part (codes " ") p.0.1 l.0 l.1 ▸ fq.takes ▸ literal_part (codes " ") q.0.1 m.0 m.1 ▸ fs.takes) (fp.fits, fq.fits, fs.fits)
+    let two = both_read decimal IsNatural decimal IsNatural number_at (codes " ") number_at number_read number_read in
+    read_first numbers_text AreNatural (parted (λ n s. (n.0, n.1, s)) (both_at number_at (codes " ") number_at) (codes " ") number_at)
+    (parted_read pair_text ArePair decimal IsNatural numbers_text AreNatural [] (both_at number_at (codes " ") number_at) (codes " ") number_at (λ n s. (n.0, n.1, s)) two number_read (λ n s. refl) (λ n s f g. (f.0, f.1, g))) bytes x e
 
 pub three_numbers_again : (p : ℕ) (q : ℕ) (s : ℕ) (rest : List ℕ) → IsNatural p → IsNatural q → IsNatural s → Stops rest → three_numbers_at (numbers_text (p, q, s) ++ rest) ≡ Some ((p, q, s), rest)
 unfolding three_numbers_at
@@ -154,103 +155,30 @@ triple_natural p q s h =
 
 pub grid_read : (bytes : List ℕ) (x : GridName × List ℕ) → grid_at bytes ≡ Some x → IsRead grid_word (λ _. Unit {0}) bytes x
 unfolding grid_at
-grid_read bytes x e =
-    elim (behind_some (literal_at (codes "square") bytes) _ _ x e) [
-      | inl a0 ↦ word_read {X = GridName} grid_word (λ _. Unit {0}) bytes (codes "square") Square x a0.0 a0.1 refl tt a0.2
-      | inr n0 ↦
-          elim (behind_some (literal_at (codes "hex") bytes) _ _ x n0.1) [
-            | inl a1 ↦ word_read {X = GridName} grid_word (λ _. Unit {0}) bytes (codes "hex") Hex x a1.0 a1.1 refl tt a1.2
-            | inr n1 ↦
-                elim (behind_some (literal_at (codes "iamond") bytes) _ _ x n1.1) [
-                  | inl a2 ↦ word_read {X = GridName} grid_word (λ _. Unit {0}) bytes (codes "iamond") Iamond x a2.0 a2.1 refl tt a2.2
-                  | inr n2 ↦
-                      elim (behind_some (literal_at (codes "kite") bytes) _ _ x n2.1) [
-                        | inl a3 ↦ word_read {X = GridName} grid_word (λ _. Unit {0}) bytes (codes "kite") Kite x a3.0 a3.1 refl tt a3.2
-                        | inr n3 ↦
-                            absurd (none_some x n3.1)
-                      ]
-                ]
-          ]
-    ]
+grid_read bytes x e = by_words_read grid_word (λ _. Unit {0}) grid_rows nothing bytes x (named grid_word Square, (named grid_word Hex, (named grid_word Iamond, (named grid_word Kite, tt)))) (λ n. absurd (none_some x n)) e
 
 pub kind_read : (bytes : List ℕ) (x : Kind × List ℕ) → kind_at bytes ≡ Some x → IsRead kind_text (λ _. Unit {0}) bytes x
 unfolding kind_at
-kind_read bytes x e =
-    elim (behind_some (literal_at (codes "translation") bytes) _ _ x e) [
-      | inl a0 ↦ word_read {X = Kind} kind_text (λ _. Unit {0}) bytes (codes "translation") Translation x a0.0 a0.1 refl tt a0.2
-      | inr n0 ↦
-          elim (behind_some (literal_at (codes "halfturn") bytes) _ _ x n0.1) [
-            | inl a1 ↦ word_read {X = Kind} kind_text (λ _. Unit {0}) bytes (codes "halfturn") HalfTurn x a1.0 a1.1 refl tt a1.2
-            | inr n1 ↦
-                elim (behind_some (literal_at (codes "periodic") bytes) _ _ x n1.1) [
-                  | inl a2 ↦ word_read {X = Kind} kind_text (λ _. Unit {0}) bytes (codes "periodic") Periodic x a2.0 a2.1 refl tt a2.2
-                  | inr n2 ↦
-                      absurd (none_some x n2.1)
-                ]
-          ]
-    ]
+kind_read bytes x e = by_words_read kind_text (λ _. Unit {0}) kind_rows nothing bytes x (named kind_text Translation, (named kind_text HalfTurn, (named kind_text Periodic, tt))) (λ n. absurd (none_some x n)) e
 
 pub version_read : (bytes : List ℕ) (x : Version × List ℕ) → version_at bytes ≡ Some x → IsRead version_text (λ _. Unit {0}) bytes x
 unfolding version_at
-version_read bytes x e =
-    elim (behind_some (literal_at (codes " 1 ") bytes) _ _ x e) [
-      | inl a0 ↦ word_read {X = Version} version_text (λ _. Unit {0}) bytes (codes " 1 ") One x a0.0 a0.1 refl tt a0.2
-      | inr n0 ↦
-          elim (behind_some (literal_at (codes " 2 ") bytes) _ _ x n0.1) [
-            | inl a1 ↦ word_read {X = Version} version_text (λ _. Unit {0}) bytes (codes " 2 ") Two x a1.0 a1.1 refl tt a1.2
-            | inr n1 ↦
-                absurd (none_some x n1.1)
-          ]
-    ]
+version_read bytes x e = by_words_read version_text (λ _. Unit {0}) version_rows nothing bytes x (named version_text One, (named version_text Two, tt)) (λ n. absurd (none_some x n)) e
 
 pub phase_read : (bytes : List ℕ) (x : Phase × List ℕ) → phase_at bytes ≡ Some x → IsRead phase_text (λ _. Unit {0}) bytes x
 unfolding phase_at
-phase_read bytes x e =
-    elim (behind_some (literal_at (codes "free") bytes) _ _ x e) [
-      | inl a0 ↦ word_read {X = Phase} phase_text (λ _. Unit {0}) bytes (codes "free") Free x a0.0 a0.1 refl tt a0.2
-      | inr n0 ↦
-          elim (behind_some (literal_at (codes "bare") bytes) _ _ x n0.1) [
-            | inl a1 ↦ word_read {X = Phase} phase_text (λ _. Unit {0}) bytes (codes "bare") Bare x a1.0 a1.1 refl tt a1.2
-            | inr n1 ↦
-                absurd (none_some x n1.1)
-          ]
-    ]
+phase_read bytes x e = by_words_read phase_text (λ _. Unit {0}) phase_rows nothing bytes x (named phase_text Free, (named phase_text Bare, tt)) (λ n. absurd (none_some x n)) e
 
 pub outcome_read : (bytes : List ℕ) (x : Outcome × List ℕ) → outcome_at bytes ≡ Some x → IsRead outcome_text (λ _. Unit {0}) bytes x
 unfolding outcome_at
-outcome_read bytes x e =
-    elim (behind_some (literal_at (codes "refuted") bytes) _ _ x e) [
-      | inl a0 ↦ word_read {X = Outcome} outcome_text (λ _. Unit {0}) bytes (codes "refuted") outcomes.Refuted x a0.0 a0.1 refl tt a0.2
-      | inr n0 ↦
-          elim (behind_some (literal_at (codes "spent") bytes) _ _ x n0.1) [
-            | inl a1 ↦ word_read {X = Outcome} outcome_text (λ _. Unit {0}) bytes (codes "spent") outcomes.Spent x a1.0 a1.1 refl tt a1.2
-            | inr n1 ↦
-                elim (behind_some (literal_at (codes "size") bytes) _ _ x n1.1) [
-                  | inl a2 ↦ word_read {X = Outcome} outcome_text (λ _. Unit {0}) bytes (codes "size") outcomes.Size x a2.0 a2.1 refl tt a2.2
-                  | inr n2 ↦
-                      absurd (none_some x n2.1)
-                ]
-          ]
-    ]
+outcome_read bytes x e = by_words_read outcome_text (λ _. Unit {0}) outcome_rows nothing bytes x (named outcome_text outcomes.Refuted, (named outcome_text outcomes.Spent, (named outcome_text outcomes.Size, tt))) (λ n. absurd (none_some x n)) e
 
-searched_read : (bytes : List ℕ) (x : BareOutcome × List ℕ) → (outcome_at bytes >>= λ v. Some (bares.Searched v.0, v.1)) ≡ some x → IsRead bare_text (λ _. Unit {0}) bytes x
-searched_read bytes x e =
-    let v = bind_some (outcome_at bytes) _ x e in
-    let made : BareOutcome × List ℕ = (bares.Searched v.0.0, v.0.1) in
-    is_read {made = made} bare_text (λ _. Unit {0}) bytes (some_is made x v.2) (outcome_read bytes v.0 v.1).takes tt
+searched_read : ReadsBehind bare_text (λ _. Unit {0}) ([], made bares.Searched outcome_at)
+searched_read = made_read outcome_text (λ _. Unit {0}) bare_text (λ _. Unit {0}) [] outcome_at bares.Searched outcome_read (λ outcome. refl) (λ outcome fits. tt)
 
 pub bare_outcome_read : (bytes : List ℕ) (x : BareOutcome × List ℕ) → bare_outcome_at bytes ≡ Some x → IsRead bare_text (λ _. Unit {0}) bytes x
 unfolding bare_outcome_at
-bare_outcome_read bytes x e =
-    elim (behind_some (literal_at (codes "same") bytes) _ _ x e) [
-      | inl a0 ↦ word_read {X = BareOutcome} bare_text (λ _. Unit {0}) bytes (codes "same") bares.Same x a0.0 a0.1 refl tt a0.2
-      | inr n0 ↦
-          elim (behind_some (literal_at (codes "open") bytes) _ _ x n0.1) [
-            | inl a1 ↦ word_read {X = BareOutcome} bare_text (λ _. Unit {0}) bytes (codes "open") bares.Open x a1.0 a1.1 refl tt a1.2
-            | inr n1 ↦
-                searched_read bytes x n1.1
-          ]
-    ]
+bare_outcome_read bytes x e = by_words_read bare_text (λ _. Unit {0}) bare_rows (made bares.Searched outcome_at) bytes x (named bare_text bares.Same, (named bare_text bares.Open, tt)) (searched_read bytes bytes x (record { parts = refl })) e
 
 size_tests : (n most : ℕ) → (ltb 0 n && leb n most) ≡ true → (1 ≤ n) × (n ≤ most)
 size_tests n most h = (grind (arith, nat_tests), grind (arith, nat_tests))

@@ -1,5 +1,5 @@
 -- Lines: what is spelled so is read.
-use Rattle.std.proofs.Common.{◌≡◌, ◌≢◌, ℕ, Bool, true, false, List, [], ◌++◌, Some, None, refl, sym, ap, ◌∙◌}
+use Rattle.std.proofs.Common.{◌≡◌, ◌≢◌, ℕ, Bool, true, false, List, [], ◌++◌, Option, Some, None, refl, sym, ap, ◌∙◌}
 use Rattle.std.specs.Prelude.{codes, decimal}
 use Rattle.std.proofs.lemmas.List.{append-nil}
 use Rattle.heesch_grid.specs.declared.Cell.{Cell}
@@ -13,6 +13,7 @@ use Rattle.heesch_lattice.specs.Reduction.{IsSmallTriple}
 use Rattle.heesch_cert.specs.declared.header.Subject.{Subject}
 use Rattle.heesch_cert.specs.declared.limits.Limits.{Limits}
 use Rattle.heesch_cert.specs.Limits.{AreLimits}
+use Rattle.heesch_cert.specs.declared.verdict.Phase.{Phase}
 use Rattle.heesch_cert.specs.declared.verdict.Verdict.{Verdict}
 use Rattle.heesch_cert.specs.declared.verdict.Verdict.TheVariants as verdicts
 use Rattle.heesch_text.specs.declared.line.Outcome.{Outcome}
@@ -22,16 +23,28 @@ use Rattle.heesch_text.specs.declared.line.Line.TheVariants as lines
 use Rattle.heesch_text.specs.Fields.{spaced, cells_text, lit_text, triple_text}
 use Rattle.heesch_text.specs.Names.{version_text, kind_text, phase_text, subject_text, outcome_text, bare_text}
 use Rattle.heesch_text.specs.Lines.{limits_text, verdict_text, words_of}
+use Rattle.heesch_text.specs.Naturals.{IsNatural}
 use Rattle.heesch_cert.specs.Sizes.{IsSubject}
 use Rattle.heesch_line.specs.Forms.{IsVerdict, IsLine}
+use Rattle.heesch_line.specs.Reading.{parted, number_at, outcome_at, bare_outcome_at}
 use Rattle.heesch_line.specs.LineReading.{header_at, shape_at, tiles_at, heesch_at, stop_at, verdict_at, verdict_line_at, end_at, lattice_at, tile_at, coronas_at, layer_at, open_at, wall_at, bare_at, triple_line_at, learn_at, cut_at, empty_at, search_line_at, cover_line_at, front_line_at, line_at}
 use Rattle.heesch_line.proofs.Steps.{some_is, none_some}
 use Rattle.heesch_line.proofs.Numbers.{number_again, Stops}
 use Rattle.heesch_line.proofs.FieldLaws.{regroup2, regroup3, regroup5, iso_words, iso_again, three_numbers_again, fits_triple, triple_natural, version_again, grid_again, kind_again, phase_again, outcome_again, bare_outcome_again, subject_again, limits_again}
 use Rattle.heesch_line.proofs.WordLaws.{Ends, numbers_again, all_numbers_again, literals_again, places_again, cells_again}
 
+-- where a search stopped
+stop_again : (h : ℕ) (phase : Phase) (at : ℕ) (rest : List ℕ) → IsNatural h → IsNatural at → Stops rest → stop_at ((decimal h ++ codes " " ++ phase_text phase ++ codes " " ++ decimal at) ++ rest) ≡ Some ((h, phase, at), rest)
+unfolding stop_at
+stop_again h phase at rest natural natural_at stops =
+    let regroup = regroup5 (decimal h) (codes " ") (phase_text phase) (codes " ") (decimal at) rest in
+    let s0 = number_again h (codes " " ++ (phase_text phase ++ (codes " " ++ (decimal at ++ rest)))) natural refl in
+    let s2 = phase_again phase (codes " " ++ (decimal at ++ rest)) in
+    let s4 = number_again at rest natural_at stops in
+    rw (regroup, s0, s2, s4) refl
+
 verdict_again : (v : Verdict) (rest : List ℕ) → IsVerdict v → Stops rest → Ends rest → verdict_at (verdict_text v ++ rest) ≡ Some (v, rest)
-unfolding verdict_at tiles_at heesch_at stop_at
+unfolding verdict_at tiles_at heesch_at
 verdict_again (verdicts.Tiles kind domain classes) rest fits stops ends =
     let regroup = regroup5 (kind_text kind) (codes " domain ") (decimal domain) (codes " classes ") (decimal classes) rest in
     let s0 = kind_again kind (codes " domain " ++ (decimal domain ++ (codes " classes " ++ (decimal classes ++ rest)))) in
@@ -49,35 +62,25 @@ verdict_again (verdicts.Levels h) rest fits stops ends =
 verdict_again (verdicts.Holes h) rest fits stops ends =
     let s0 = number_again h rest fits stops in
     rw s0 refl
-verdict_again (verdicts.Turns h phase at) rest fits stops ends =
-    let regroup = regroup5 (decimal h) (codes " ") (phase_text phase) (codes " ") (decimal at) rest in
-    let s0 = number_again h (codes " " ++ (phase_text phase ++ (codes " " ++ (decimal at ++ rest)))) fits.0 refl in
-    let s2 = phase_again phase (codes " " ++ (decimal at ++ rest)) in
-    let s4 = number_again at rest fits.1 stops in
-    rw (regroup, s0, s2, s4) refl
-verdict_again (verdicts.Size h phase at) rest fits stops ends =
-    let regroup = regroup5 (decimal h) (codes " ") (phase_text phase) (codes " ") (decimal at) rest in
-    let s0 = number_again h (codes " " ++ (phase_text phase ++ (codes " " ++ (decimal at ++ rest)))) fits.0 refl in
-    let s2 = phase_again phase (codes " " ++ (decimal at ++ rest)) in
-    let s4 = number_again at rest fits.1 stops in
-    rw (regroup, s0, s2, s4) refl
+verdict_again (verdicts.Turns h phase at) rest fits stops ends = rw (stop_again h phase at rest fits.0 fits.1 stops) refl
+verdict_again (verdicts.Size h phase at) rest fits stops ends = rw (stop_again h phase at rest fits.0 fits.1 stops) refl
+
+-- a header without its first word
+title_again : (brief : Bool) (grid : GridName) (subject : Subject) (limits : Limits) (rest : List ℕ) → IsSubject limits.version grid subject → AreLimits limits → Stops rest
+    → header_at brief ((version_text limits.version ++ grid_word grid ++ codes " " ++ subject_text subject ++ limits_text limits) ++ rest) ≡ Some (lines.Header (record { brief = brief; grid = grid; subject = subject; limits = limits }), rest)
+unfolding header_at
+title_again brief grid subject limits rest fits within stops =
+    let regroup = regroup5 (version_text limits.version) (grid_word grid) (codes " ") (subject_text subject) (limits_text limits) rest in
+    let v = version_again limits.version (grid_word grid ++ (codes " " ++ (subject_text subject ++ (limits_text limits ++ rest)))) in
+    let s0 = grid_again grid (codes " " ++ (subject_text subject ++ (limits_text limits ++ rest))) in
+    let s2 = subject_again limits.version grid subject (limits_text limits ++ rest) fits refl in
+    let s3 = limits_again limits rest within stops in
+    rw (regroup, v, s0, s2, s3) refl
 
 header_again : (brief : Bool) (grid : GridName) (subject : Subject) (limits : Limits) (rest : List ℕ) → IsSubject limits.version grid subject × AreLimits limits → Stops rest → Ends rest → front_line_at (words_of (lines.Header (record { brief = brief; grid = grid; subject = subject; limits = limits })) ++ rest) ≡ Some (lines.Header (record { brief = brief; grid = grid; subject = subject; limits = limits }), rest)
-unfolding front_line_at header_at
-header_again true grid subject limits rest fits stops ends =
-    let regroup = regroup5 (version_text limits.version) (grid_word grid) (codes " ") (subject_text subject) (limits_text limits) rest in
-    let v = version_again limits.version (grid_word grid ++ (codes " " ++ (subject_text subject ++ (limits_text limits ++ rest)))) in
-    let s0 = grid_again grid (codes " " ++ (subject_text subject ++ (limits_text limits ++ rest))) in
-    let s2 = subject_again limits.version grid subject (limits_text limits ++ rest) fits.0 refl in
-    let s3 = limits_again limits rest fits.1 stops in
-    rw (regroup, v, s0, s2, s3) refl
-header_again false grid subject limits rest fits stops ends =
-    let regroup = regroup5 (version_text limits.version) (grid_word grid) (codes " ") (subject_text subject) (limits_text limits) rest in
-    let v = version_again limits.version (grid_word grid ++ (codes " " ++ (subject_text subject ++ (limits_text limits ++ rest)))) in
-    let s0 = grid_again grid (codes " " ++ (subject_text subject ++ (limits_text limits ++ rest))) in
-    let s2 = subject_again limits.version grid subject (limits_text limits ++ rest) fits.0 refl in
-    let s3 = limits_again limits rest fits.1 stops in
-    rw (regroup, v, s0, s2, s3) refl
+unfolding front_line_at
+header_again true grid subject limits rest fits stops ends = rw (title_again true grid subject limits rest fits.0 fits.1 stops) refl
+header_again false grid subject limits rest fits stops ends = rw (title_again false grid subject limits rest fits.0 fits.1 stops) refl
 
 shape_again : (cells : List Cell) (rest : List ℕ) → IsLine (lines.Shape cells) → Stops rest → Ends rest → front_line_at (words_of (lines.Shape cells) ++ rest) ≡ Some (lines.Shape cells, rest)
 unfolding front_line_at shape_at
@@ -141,21 +144,21 @@ triple_again t false rest fits stops ends =
     let s0 = three_numbers_again t.p t.q t.s (codes " spent" ++ rest) (triple_natural t.p t.q t.s fits).0 (triple_natural t.p t.q t.s fits).1 (triple_natural t.p t.q t.s fits).2 refl in
     rw (regroup, s0, fits_triple t.p t.q t.s fits) refl
 
+-- a level, and how a search at it ended
+level_again : {X : Type 0} (text : X → List ℕ) (at : List ℕ → Option (X × List ℕ)) (make : ℕ → X → Line) (level : ℕ) (x : X) (rest : List ℕ)
+    → IsNatural level → at (text x ++ rest) ≡ Some (x, rest) → parted make number_at (codes " ") at ((decimal level ++ codes " " ++ text x) ++ rest) ≡ Some (make level x, rest)
+level_again text at make level x rest natural again =
+    let regroup = regroup3 (decimal level) (codes " ") (text x) rest in
+    let s0 = number_again level (codes " " ++ (text x ++ rest)) natural refl in
+    rw (regroup, s0, again) refl
+
 wall_again : (level : ℕ) (outcome : Outcome) (rest : List ℕ) → IsLine (lines.Wall level outcome) → Stops rest → Ends rest → front_line_at (words_of (lines.Wall level outcome) ++ rest) ≡ Some (lines.Wall level outcome, rest)
 unfolding front_line_at cover_line_at search_line_at wall_at
-wall_again level outcome rest fits stops ends =
-    let regroup = regroup3 (decimal level) (codes " ") (outcome_text outcome) rest in
-    let s0 = number_again level (codes " " ++ (outcome_text outcome ++ rest)) fits refl in
-    let s2 = outcome_again outcome rest in
-    rw (regroup, s0, s2) refl
+wall_again level outcome rest fits stops ends = level_again outcome_text outcome_at lines.Wall level outcome rest fits (outcome_again outcome rest)
 
 bare_again : (level : ℕ) (outcome : BareOutcome) (rest : List ℕ) → IsLine (lines.Bare level outcome) → Stops rest → Ends rest → front_line_at (words_of (lines.Bare level outcome) ++ rest) ≡ Some (lines.Bare level outcome, rest)
 unfolding front_line_at cover_line_at search_line_at bare_at
-bare_again level outcome rest fits stops ends =
-    let regroup = regroup3 (decimal level) (codes " ") (bare_text outcome) rest in
-    let s0 = number_again level (codes " " ++ (bare_text outcome ++ rest)) fits refl in
-    let s2 = bare_outcome_again outcome rest in
-    rw (regroup, s0, s2) refl
+bare_again level outcome rest fits stops ends = level_again bare_text bare_outcome_at lines.Bare level outcome rest fits (bare_outcome_again outcome rest)
 
 learn_again : (clause : List Lit) (hints : List ℕ) (rest : List ℕ) → IsLine (lines.Learn clause hints) → Stops rest → Ends rest → front_line_at (words_of (lines.Learn clause hints) ++ rest) ≡ Some (lines.Learn clause hints, rest)
 unfolding front_line_at cover_line_at search_line_at learn_at

@@ -6,12 +6,11 @@ use Rattle.heesch_grid.specs.Vectors.{IsWithin}
 use Rattle.heesch_cnf.specs.declared.literal.Lit.{Lit}
 use Rattle.heesch_lattice.specs.Reduction.{IsSmallTriple}
 use Rattle.heesch_cert.specs.declared.verdict.Verdict.{Verdict}
-use Rattle.heesch_cert.specs.declared.verdict.Verdict.TheVariants as verdicts
 use Rattle.heesch_cert.specs.Limits.{AreLimits}
 use Rattle.heesch_cert.specs.Sizes.{IsSubject}
 use Rattle.heesch_text.specs.declared.line.Line.{Line}
 use Rattle.heesch_text.specs.declared.line.Line.TheVariants as lines
-use Rattle.heesch_text.specs.Naturals.{IsNatural}
+use Rattle.heesch_text.specs.Naturals.{IsNatural, VerdictHasNaturals}
 
 -- the integer lies within 100,000 of 0
 abbrev pub IsInteger : ℤ → Type 0
@@ -34,12 +33,7 @@ pub record AreSome {X : Type 0} (P : X → Type 0) (items : List X) : Type 0 whe
 
 -- the numbers of a verdict fit 32 bits
 abbrev pub IsVerdict : Verdict → Type 0
-IsVerdict (verdicts.Tiles kind domain classes) = IsNatural domain × IsNatural classes
-IsVerdict (verdicts.Heesch h m) = IsNatural h × IsNatural m
-IsVerdict (verdicts.Levels h) = IsNatural h
-IsVerdict (verdicts.Holes h) = IsNatural h
-IsVerdict (verdicts.Turns h phase at) = IsNatural h × IsNatural at
-IsVerdict (verdicts.Size h phase at) = IsNatural h × IsNatural at
+IsVerdict verdict = VerdictHasNaturals verdict
 
 -- the line has a form of a catalogue's line
 abbrev pub IsLine : Line → Type 0

@@ -76,6 +76,18 @@ number_at bytes = given (is_plain (take (digits_len bytes) bytes)) (digits_value
 abbrev pub labelled_at : List ℕ → List ℕ → Option (ℕ × List ℕ)
 labelled_at word bytes = literal_at word bytes >>= λ rest. number_at rest
 
+-- what is made of a field
+abbrev pub made : {A X : Type 0} → (A → X) → (List ℕ → Option (A × List ℕ)) → List ℕ → Option (X × List ℕ)
+made make field bytes = field bytes >>= λ a. Some (make a.0, a.1)
+
+-- what is made of two fields with this word between them
+abbrev pub parted : {A B X : Type 0} → (A → B → X) → (List ℕ → Option (A × List ℕ)) → List ℕ → (List ℕ → Option (B × List ℕ)) → List ℕ → Option (X × List ℕ)
+parted make first between second bytes = first bytes >>= λ a. (literal_at between a.1 >>= λ word. second word) >>= λ b. Some (make a.0 b.0, b.1)
+
+-- two fields with this word between them
+abbrev pub both_at : {A B : Type 0} → (List ℕ → Option (A × List ℕ)) → List ℕ → (List ℕ → Option (B × List ℕ)) → List ℕ → Option ((A × B) × List ℕ)
+both_at first between second bytes = parted (λ a b. (a, b)) first between second bytes
+
 -- the first byte is `-`
 abbrev pub is_minus : List ℕ → Bool
 is_minus bytes = slice_index bytes 0 == 45
@@ -120,54 +132,68 @@ triple_of p q s = given (is_triple p q s) (lattice p q s)
 
 -- three numbers
 unfoldable pub three_numbers_at : List ℕ → Option ((ℕ × ℕ × ℕ) × List ℕ)
-three_numbers_at bytes = do
-  p ← number_at bytes
-  first ← literal_at (codes " ") p.1
-  q ← number_at first
-  second ← literal_at (codes " ") q.1
-  s ← number_at second
-  Some ((p.0, q.0, s.0), s.1)
+three_numbers_at bytes = parted (λ n s. (n.0, n.1, s)) (both_at number_at (codes " ") number_at) (codes " ") number_at bytes
+
+-- what is read behind the first of these words that stands at the front, and what is read in another way where none does
+abbrev pub by_words : {X : Type 0} → List (List ℕ × (List ℕ → Option (X × List ℕ))) → (List ℕ → Option (X × List ℕ)) → List ℕ → Option (X × List ℕ)
+by_words [] other bytes = other bytes
+by_words (row ∷ rows) other bytes = behind (literal_at row.0 bytes) row.1 (by_words rows other bytes)
+
+-- a word that names a value
+abbrev pub names : {X : Type 0} → X → List ℕ → Option (X × List ℕ)
+names x rest = Some (x, rest)
+
+-- no other way
+abbrev pub nothing : {X : Type 0} → List ℕ → Option (X × List ℕ)
+nothing bytes = None
+
+-- the names of the grids
+abbrev pub grid_rows : List (List ℕ × (List ℕ → Option (GridName × List ℕ)))
+grid_rows = (codes "square", names Square) ∷ (codes "hex", names Hex) ∷ (codes "iamond", names Iamond) ∷ (codes "kite", names Kite) ∷ []
 
 -- the word of a grid
 unfoldable pub grid_at : List ℕ → Option (GridName × List ℕ)
-grid_at bytes =
-    behind (literal_at (codes "square") bytes) (λ rest. Some (Square, rest))
-    (behind (literal_at (codes "hex") bytes) (λ rest. Some (Hex, rest))
-    (behind (literal_at (codes "iamond") bytes) (λ rest. Some (Iamond, rest))
-    (behind (literal_at (codes "kite") bytes) (λ rest. Some (Kite, rest)) None)))
+grid_at bytes = by_words grid_rows nothing bytes
+
+-- the names of the kinds of tilings
+abbrev pub kind_rows : List (List ℕ × (List ℕ → Option (Kind × List ℕ)))
+kind_rows = (codes "translation", names Translation) ∷ (codes "halfturn", names HalfTurn) ∷ (codes "periodic", names Periodic) ∷ []
 
 -- the word of a kind of tilings
 unfoldable pub kind_at : List ℕ → Option (Kind × List ℕ)
-kind_at bytes =
-    behind (literal_at (codes "translation") bytes) (λ rest. Some (Translation, rest))
-    (behind (literal_at (codes "halfturn") bytes) (λ rest. Some (HalfTurn, rest))
-    (behind (literal_at (codes "periodic") bytes) (λ rest. Some (Periodic, rest)) None))
+kind_at bytes = by_words kind_rows nothing bytes
+
+-- the names of the searches
+abbrev pub phase_rows : List (List ℕ × (List ℕ → Option (Phase × List ℕ)))
+phase_rows = (codes "free", names Free) ∷ (codes "bare", names Bare) ∷ []
 
 -- the word of a search
 unfoldable pub phase_at : List ℕ → Option (Phase × List ℕ)
-phase_at bytes =
-    behind (literal_at (codes "free") bytes) (λ rest. Some (Free, rest))
-    (behind (literal_at (codes "bare") bytes) (λ rest. Some (Bare, rest)) None)
+phase_at bytes = by_words phase_rows nothing bytes
+
+-- the names of the ends of a search
+abbrev pub outcome_rows : List (List ℕ × (List ℕ → Option (Outcome × List ℕ)))
+outcome_rows = (codes "refuted", names outcomes.Refuted) ∷ (codes "spent", names outcomes.Spent) ∷ (codes "size", names outcomes.Size) ∷ []
 
 -- the word of an end of a search
 unfoldable pub outcome_at : List ℕ → Option (Outcome × List ℕ)
-outcome_at bytes =
-    behind (literal_at (codes "refuted") bytes) (λ rest. Some (outcomes.Refuted, rest))
-    (behind (literal_at (codes "spent") bytes) (λ rest. Some (outcomes.Spent, rest))
-    (behind (literal_at (codes "size") bytes) (λ rest. Some (outcomes.Size, rest)) None))
+outcome_at bytes = by_words outcome_rows nothing bytes
+
+-- the names of the ends that a search with holes allowed alone has
+abbrev pub bare_rows : List (List ℕ × (List ℕ → Option (BareOutcome × List ℕ)))
+bare_rows = (codes "same", names bares.Same) ∷ (codes "open", names bares.Open) ∷ []
 
 -- the word of an end of a search with holes allowed
 unfoldable pub bare_outcome_at : List ℕ → Option (BareOutcome × List ℕ)
-bare_outcome_at bytes =
-    behind (literal_at (codes "same") bytes) (λ rest. Some (bares.Same, rest))
-    (behind (literal_at (codes "open") bytes) (λ rest. Some (bares.Open, rest))
-    (outcome_at bytes >>= λ outcome. Some (bares.Searched outcome.0, outcome.1)))
+bare_outcome_at bytes = by_words bare_rows (made bares.Searched outcome_at) bytes
+
+-- the names of the versions
+abbrev pub version_rows : List (List ℕ × (List ℕ → Option (Version × List ℕ)))
+version_rows = (codes " 1 ", names One) ∷ (codes " 2 ", names Two) ∷ []
 
 -- the number of a version, between spaces
 unfoldable pub version_at : List ℕ → Option (Version × List ℕ)
-version_at bytes =
-    behind (literal_at (codes " 1 ") bytes) (λ rest. Some (One, rest))
-    (behind (literal_at (codes " 2 ") bytes) (λ rest. Some (Two, rest)) None)
+version_at bytes = by_words version_rows nothing bytes
 
 -- a size of the grid and the version, or `given` where the version has the grid
 unfoldable pub subject_at : Version → GridName → List ℕ → Option (Subject × List ℕ)

@@ -5,31 +5,10 @@ ghost use Rattle.heesch_text.specs.Lines.{words_of};
 ghost use Rattle.heesch_line.specs.declared.fault.LineFault.TheVariants as faults;
 ghost use Rattle.heesch_line.specs.Forms.{IsLine};
 ghost use Rattle.heesch_line.specs.Reading.{Gives};
-ghost use Rattle.heesch_line.specs.LineReading.{
-  header_at,
-  shape_at,
-  tiles_at,
-  heesch_at,
-  stop_at,
-  verdict_at,
-  verdict_line_at,
-  end_at,
-  lattice_at,
-  tile_at,
-  coronas_at,
-  layer_at,
-  open_at,
-  wall_at,
-  bare_at,
-  triple_line_at,
-  learn_at,
-  cut_at,
-  empty_at,
-  search_line_at,
-  cover_line_at,
-  front_line_at,
-  line_at,
-};
+ghost use Rattle.heesch_line.specs.LineReading.{header_at, shape_at, tiles_at, heesch_at, stop_at, verdict_at};
+ghost use Rattle.heesch_line.specs.LineReading.{verdict_line_at, end_at, lattice_at, tile_at, coronas_at, layer_at};
+ghost use Rattle.heesch_line.specs.LineReading.{open_at, wall_at, bare_at, triple_line_at, learn_at, cut_at};
+ghost use Rattle.heesch_line.specs.LineReading.{empty_at, search_line_at, cover_line_at, front_line_at, line_at};
 
 use crate::LineFault;
 use crate::fields::{after, iso, labelled, limits, literal, number, three_numbers, triple_of};

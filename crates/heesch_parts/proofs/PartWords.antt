@@ -62,21 +62,7 @@ header_not_shared false h e b = let c = rw e at b in absurd cc
 
 not_shared : (line : Line) → begins (words_of line) (codes "share") ≡ true → ⊥
 not_shared (lines.Header header) e = header_not_shared header.brief header refl e
-not_shared (lines.Shape cells) e = absurd cc
-not_shared (lines.Verdict verdict) e = absurd cc
-not_shared (lines.Lattice triple) e = absurd cc
-not_shared (lines.Tile place member) e = absurd cc
-not_shared (lines.Coronas count) e = absurd cc
-not_shared (lines.Layer places) e = absurd cc
-not_shared (lines.Wall level outcome) e = absurd cc
-not_shared (lines.Bare level outcome) e = absurd cc
-not_shared (lines.Open count) e = absurd cc
-not_shared (lines.Triple triple refuted) e = absurd cc
-not_shared (lines.Learn clause hints) e = absurd cc
-not_shared (lines.Cut cut) e = absurd cc
-not_shared (lines.Empty hints) e = absurd cc
-not_shared lines.Spent e = absurd cc
-not_shared (lines.End count) e = absurd cc
+not_shared line e = absurd cc
 
 pub not_share : (line : Line) (rest : List ℕ) → words_of line ≡ codes "share" ++ rest → ⊥
 not_share line rest e = not_shared line (shared line rest e)

@@ -2,15 +2,8 @@
 ghost use Rattle.std.specs.Prelude.{◌≡◌, ◌+◌, ◌<◌, ◌^◌, ◌++◌, [], List, ℕ, length, None, Some, OnOk};
 ghost use Rattle.heesch_reader.specs.declared.item.Item.{Item};
 ghost use Rattle.heesch_parts.specs.declared.join_stop.JoinStop.{JoinStop};
-ghost use Rattle.heesch_parts.specs.Joining.{
-  IsFed,
-  FeedsTo,
-  FinishesWith,
-  IsStopBeyond,
-  StaysRefused,
-  LeavesRoom,
-  refusal_of,
-};
+ghost use Rattle.heesch_parts.specs.Joining.{IsFed, FeedsTo, FinishesWith, IsStopBeyond, StaysRefused, LeavesRoom};
+ghost use Rattle.heesch_parts.specs.Joining.{refusal_of};
 
 use crate::join_stop::JoinStop;
 use crate::scan::Scan;

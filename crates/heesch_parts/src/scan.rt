@@ -1,41 +1,11 @@
 //! What bytes do to the lines of a joiner.
-ghost use Rattle.std.specs.Prelude.{
-  ◌≡◌,
-  ◌≢◌,
-  ◌==◌,
-  ◌+◌,
-  ◌-◌,
-  ◌≤◌,
-  ◌<◌,
-  ◌^◌,
-  ◌++◌,
-  ◌∷◌,
-  [],
-  List,
-  ℕ,
-  length,
-  true,
-  false,
-  OnOk,
-  OnErr,
-};
+ghost use Rattle.std.specs.Prelude.{◌≡◌, ◌≢◌, ◌==◌, ◌+◌, ◌-◌, ◌≤◌, ◌<◌, ◌^◌, ◌++◌, ◌∷◌, [], List, ℕ, length, true};
+ghost use Rattle.std.specs.Prelude.{false, OnOk, OnErr};
 ghost use Rattle.heesch_grammar.specs.Entries.{AreEntryLines};
 ghost use Rattle.heesch_reader.specs.declared.item.Item.{Item};
 ghost use Rattle.heesch_parts.specs.PartLines.{IsPartLine};
-ghost use Rattle.heesch_parts.specs.Joining.{
-  IsFed,
-  MayGoOn,
-  FeedsTo,
-  FinishesWith,
-  IsStopBeyond,
-  Settles,
-  Holds,
-  Advances,
-  HasRoom,
-  LeavesRoom,
-  ends_entry,
-  kept_of,
-};
+ghost use Rattle.heesch_parts.specs.Joining.{IsFed, MayGoOn, FeedsTo, FinishesWith, IsStopBeyond, Settles, Holds};
+ghost use Rattle.heesch_parts.specs.Joining.{Advances, HasRoom, LeavesRoom, ends_entry, kept_of};
 
 use crate::join_stop::JoinStop;
 use crate::part_line::{PartLine, read_part_line};

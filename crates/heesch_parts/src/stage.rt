@@ -2,17 +2,8 @@
 ghost use Rattle.std.specs.Prelude.{◌≡◌, ◌↔◌, IsTrue, Ok};
 ghost use Rattle.heesch_text.specs.declared.line.Line.TheVariants as lines;
 ghost use Rattle.heesch_parts.specs.PartLines.{IsPartLine, IsShare};
-ghost use Rattle.heesch_parts.specs.Stages.{
-  start,
-  share_step,
-  may_join,
-  Agrees,
-  HeaderStep,
-  led,
-  CatalogueStep,
-  Step,
-  end_fault,
-};
+ghost use Rattle.heesch_parts.specs.Stages.{start, share_step, may_join, Agrees, HeaderStep, led, CatalogueStep};
+ghost use Rattle.heesch_parts.specs.Stages.{Step, end_fault};
 
 use crate::part_line::PartLine;
 use heesch_cert::{Header, Subject};

@@ -126,7 +126,8 @@ not_false : (x : Bool) → not x ≡ false → x ≡ true
 not_false true e = refl
 not_false false e = absurd cc
 
-is_none : (n : ℕ) (w b : Bool) → ((not (n == 0) && w) && b) ≡ false → w ≡ true → b ≡ true → n ≡ 0
+-- where the other tests pass, the first fails
+pub is_none : (n : ℕ) (w b : Bool) → ((not (n == 0) && w) && b) ≡ false → w ≡ true → b ≡ true → n ≡ 0
 is_none n w b e f g =
     let both : ((not (n == 0) && true) && true) ≡ false = rw (f, g) at e in
     eqb-true n 0 (not_false (n == 0) (keeps_false (not (n == 0)) both))

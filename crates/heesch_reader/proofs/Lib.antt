@@ -7,9 +7,11 @@ pub mod FirstWords
 pub mod Following
 mod Giving
 pub mod Inner
+pub mod ItemLines
 pub mod NoFault
 mod PartNames
 pub mod Pieces
 pub mod SameLines
+pub mod Settling
 pub mod Walking
 pub mod Whole

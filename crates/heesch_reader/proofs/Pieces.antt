@@ -18,7 +18,7 @@ use Rattle.heesch_reader.specs.Progress.{next, walk, may_end, between}
 use Rattle.heesch_reader.specs.Items.{lines_of, AreItemsAt, with_items, progress_of}
 use Rattle.heesch_reader.specs.Feeding.{IsBehindEntry, ItemsLead, Stands, BeginEntry}
 use Rattle.heesch_reader.proofs.Ending.{header_first}
-use Rattle.heesch_reader.proofs.Following.{with_items_append, lines_counted, items_append, lines_append, text_append}
+use Rattle.heesch_reader.proofs.ItemLines.{with_items_append, lines_counted, items_append, lines_append, text_append}
 use Rattle.heesch_reader.proofs.Walking.{all_append, all_front, walk_append, same_next}
 
 -- ---- what stands next
@@ -74,7 +74,8 @@ leads_on p r a ls f i e = elim f [
 
 -- ---- items of two pieces
 
-no_items : (found : List Item) → lines_of found ≡ [] → found ≡ []
+-- items without a line are none
+pub no_items : (found : List Item) → lines_of found ≡ [] → found ≡ []
 no_items [] e = refl
 no_items (items.Header header ∷ found) e = absurd cc
 no_items (items.Entry line entry ∷ found) e = absurd cc

@@ -1,6 +1,6 @@
 -- Lines in one text are the same lines, as far as both go.
 use Rattle.std.proofs.Common.{◌≡◌, ◌⊎◌, inl, inr, ℕ, ◌≤◌, List, [], ◌∷◌, ◌++◌, length, refl, sym, ap, ◌∙◌, append_assoc, arith}
-use Rattle.std.specs.List.{AllByRecursion}
+use Rattle.std.specs.List.{AllByRecursion, flat_map}
 use Rattle.std.proofs.lemmas.List.{append-nil}
 use Rattle.heesch_text.specs.declared.line.Line.{Line}
 use Rattle.heesch_text.specs.Lines.{words_of, line_text, text_of}
@@ -28,24 +28,38 @@ no_first_line (c ∷ w) xs [] h e = absurd cc
 no_first_line [] xs (b ∷ left) h e = let t : b ≡ 10 = cc in h.0 t
 no_first_line (c ∷ w) xs (b ∷ left) h e = no_first_line w xs left h.1 cc
 
--- the second lines go on from the first
-pub record GoesOn (ls ms : List Line) (a b : List ℕ) : Type 0 where
-  pub more : List Line
+-- the second lines go on from the first; lines of any kind, each with this text
+pub record GoesOnBy {L : Type 0} (text : L → List ℕ) (Form : L → Type 0) (ls ms : List L) (a b : List ℕ) : Type 0 where
+  pub more : List L
   pub lines : ms ≡ ls ++ more
-  pub bytes : a ≡ text_of more ++ b
-  pub forms : AllByRecursion IsLine more
+  pub bytes : a ≡ flat_map text more ++ b
+  pub forms : AllByRecursion Form more
 
--- of two beginnings of one text by lines, one goes on from the other
+module _ {L : Type 0} (text words : L → List ℕ) (Form : L → Type 0) (ended : (l : L) → text l ≡ words l ++ 10 ∷ []) (free : (l : L) → Form l → HasNoNewline (words l))
+    (tell : (l m : L) → Form l → Form m → words l ≡ words m → l ≡ m) where
+  front_by : (l : L) (ls : List L) (more : List ℕ) → flat_map text (l ∷ ls) ++ more ≡ words l ++ 10 ∷ (flat_map text ls ++ more)
+  front_by l ls more =
+      append_assoc (text l) (flat_map text ls) more ∙ ap (λ (x : List ℕ). x ++ (flat_map text ls ++ more)) (ended l) ∙ append_assoc (words l) (10 ∷ []) (flat_map text ls ++ more)
+
+  -- of two beginnings of one text by lines, one goes on from the other
+  pub along_by : (ls ms : List L) (a b : List ℕ) → AllByRecursion Form ls → AllByRecursion Form ms → flat_map text ls ++ a ≡ flat_map text ms ++ b
+      → GoesOnBy text Form ls ms a b ⊎ GoesOnBy text Form ms ls b a
+  along_by [] ms a b f g e = inl (record { more = ms; lines = refl; bytes = e; forms = g })
+  along_by (l ∷ ls) [] a b f g e = inr (record { more = l ∷ ls; lines = refl; bytes = sym e; forms = f })
+  along_by (l ∷ ls) (m ∷ ms) a b f g e =
+      let s = one_first_line (words l) (words m) (flat_map text ls ++ a) (flat_map text ms ++ b) (free l f.0) (free m g.0) (sym (front_by l ls a) ∙ e ∙ front_by m ms b) in
+      let same : l ≡ m = tell l m f.0 g.0 s.0 in
+      elim (along_by ls ms a b f.1 g.1 s.1) [
+        | inl r ↦ inl (record { more = r.more; lines = rw (← same) (ap (λ (x : List L). l ∷ x) r.lines); bytes = r.bytes; forms = r.forms })
+        | inr r ↦ inr (record { more = r.more; lines = rw same (ap (λ (x : List L). m ∷ x) r.lines); bytes = r.bytes; forms = r.forms })
+      ]
+
+-- the same of the lines of a catalogue
+abbrev pub GoesOn : List Line → List Line → List ℕ → List ℕ → Type 0
+GoesOn ls ms a b = GoesOnBy line_text IsLine ls ms a b
+
 pub along : (ls ms : List Line) (a b : List ℕ) → AllByRecursion IsLine ls → AllByRecursion IsLine ms → text_of ls ++ a ≡ text_of ms ++ b → GoesOn ls ms a b ⊎ GoesOn ms ls b a
-along [] ms a b f g e = inl (record { more = ms; lines = refl; bytes = e; forms = g })
-along (l ∷ ls) [] a b f g e = inr (record { more = l ∷ ls; lines = refl; bytes = sym e; forms = f })
-along (l ∷ ls) (m ∷ ms) a b f g e =
-    let s = one_first_line (words_of l) (words_of m) (text_of ls ++ a) (text_of ms ++ b) (no_newline l f.0) (no_newline m g.0) (sym (line_front l ls a) ∙ e ∙ line_front m ms b) in
-    let same : l ≡ m = words_tell l m f.0 g.0 s.0 in
-    elim (along ls ms a b f.1 g.1 s.1) [
-      | inl r ↦ inl (record { more = r.more; lines = rw (← same) (ap (λ (x : List Line). l ∷ x) r.lines); bytes = r.bytes; forms = r.forms })
-      | inr r ↦ inr (record { more = r.more; lines = rw same (ap (λ (x : List Line). m ∷ x) r.lines); bytes = r.bytes; forms = r.forms })
-    ]
+along ls ms a b f g e = along_by line_text words_of IsLine (λ l. refl) no_newline words_tell ls ms a b f g e
 
 -- lines, and bytes of one more, are known by their text
 pub same_reading : (ls ms : List Line) (a b : List ℕ) → AllByRecursion IsLine ls → AllByRecursion IsLine ms → HasNoNewline a → HasNoNewline b → text_of ls ++ a ≡ text_of ms ++ b → (ls ≡ ms) × (a ≡ b)

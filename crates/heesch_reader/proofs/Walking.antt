@@ -2,6 +2,7 @@
 use Rattle.std.proofs.Common.{◌&&◌, ◌||◌, nat_eq, codes, ◌≡◌, ℕ, ◌<◌, Bool, true, false, List, [], ◌∷◌, ◌++◌, length, Option, Some, None, refl, ap, ◌∙◌, arith}
 use Rattle.std.specs.Prelude.{option_map, option_and_then}
 use Rattle.std.specs.List.{AllByRecursion}
+pub use Rattle.std.proofs.ByRecursion.{All-append as all_append}
 use Rattle.heesch_cert.specs.declared.header.Header.{Header}
 use Rattle.heesch_text.specs.declared.line.Line.{Line}
 use Rattle.heesch_text.specs.declared.line.Line.TheVariants as lines
@@ -18,10 +19,6 @@ use Rattle.heesch_reader.specs.Progress.{next, walk, may_end, between}
 use Rattle.heesch_reader.specs.Faults.{begins, begins_next, part_of, part_behind}
 
 -- ---- lists
-
-pub all_append : {X : Type 0} (P : X → Type 0) (xs ys : List X) → AllByRecursion P xs → AllByRecursion P ys → AllByRecursion P (xs ++ ys)
-all_append P [] ys h k = k
-all_append P (x ∷ xs) ys h k = (h.0, all_append P xs ys h.1 k)
 
 pub all_front : {X : Type 0} (P : X → Type 0) (xs ys : List X) → AllByRecursion P (xs ++ ys) → AllByRecursion P xs
 all_front P [] ys h = tt
@@ -115,19 +112,7 @@ pub outer_words : (line : Line) → begins_next (words_of line) ≡ true → IsO
 outer_words (lines.Shape cells) h = tt
 outer_words (lines.End count) h = tt
 outer_words (lines.Header header) h = absurd (header_is_not header.brief header refl h)
-outer_words (lines.Verdict verdict) h = absurd cc
-outer_words (lines.Lattice triple) h = absurd cc
-outer_words (lines.Tile place member) h = absurd cc
-outer_words (lines.Coronas count) h = absurd cc
-outer_words (lines.Layer places) h = absurd cc
-outer_words (lines.Wall level outcome) h = absurd cc
-outer_words (lines.Bare level outcome) h = absurd cc
-outer_words (lines.Open count) h = absurd cc
-outer_words (lines.Triple triple refuted) h = absurd cc
-outer_words (lines.Learn clause hints) h = absurd cc
-outer_words (lines.Cut cut) h = absurd cc
-outer_words (lines.Empty hints) h = absurd cc
-outer_words lines.Spent h = absurd cc
+outer_words line h = absurd cc
 
 header_has_words : (brief : Bool) (h : Header) → h.brief ≡ brief → 0 < length (words_of (lines.Header h))
 header_has_words true h e = rw e (omega arith)
@@ -136,18 +121,4 @@ header_has_words false h e = rw e (omega arith)
 -- a line has a byte
 pub has_words : (line : Line) → 0 < length (words_of line)
 has_words (lines.Header header) = header_has_words header.brief header refl
-has_words (lines.Shape cells) = omega arith
-has_words (lines.Verdict verdict) = omega arith
-has_words (lines.Lattice triple) = omega arith
-has_words (lines.Tile place member) = omega arith
-has_words (lines.Coronas count) = omega arith
-has_words (lines.Layer places) = omega arith
-has_words (lines.Wall level outcome) = omega arith
-has_words (lines.Bare level outcome) = omega arith
-has_words (lines.Open count) = omega arith
-has_words (lines.Triple triple refuted) = omega arith
-has_words (lines.Learn clause hints) = omega arith
-has_words (lines.Cut cut) = omega arith
-has_words (lines.Empty hints) = omega arith
-has_words lines.Spent = omega arith
-has_words (lines.End count) = omega arith
+has_words line = omega arith

@@ -21,7 +21,7 @@ use Rattle.heesch_reader.specs.Faults.{begins_next}
 use Rattle.heesch_reader.specs.Feeding.{ItemsLead, Stands}
 use Rattle.heesch_reader.proofs.EntryLines.{body_lines}
 use Rattle.heesch_reader.proofs.Walking.{walk_append, all_front}
-use Rattle.heesch_reader.proofs.Following.{lines_append, text_append, with_items_append}
+use Rattle.heesch_reader.proofs.ItemLines.{lines_append, text_append, with_items_append}
 use Rattle.heesch_reader.proofs.Ending.{at_start, end_next, header_first, shape_next}
 
 -- ---- lines

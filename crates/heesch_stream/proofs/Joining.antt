@@ -1,23 +1,21 @@
 -- What a reader makes of a piece, joined to what was read before.
-use Rattle.std.proofs.Common.{◌≡◌, ◌≢◌, ◌⊎◌, inl, inr, ℕ, ◌+◌, ◌&&◌, ◌||◌, nat_eq, codes, Bool, true, false, List, [], ◌∷◌, ◌++◌, length, None, refl, sym, ap, subst, ◌∙◌, arith}
-use Rattle.std.proofs.lemmas.Bool.{eqb-true}
+use Rattle.std.proofs.Common.{◌≡◌, ◌≢◌, ◌⊎◌, inl, inr, ℕ, ◌+◌, true, false, List, [], ◌∷◌, ◌++◌, length, None, refl, sym, ap, subst, ◌∙◌, arith}
 use Rattle.std.proofs.lemmas.List.{append-nil, length-append}
 use Rattle.heesch_text.specs.declared.line.Line.{Line}
 use Rattle.heesch_text.specs.Lines.{text_of}
-use Rattle.heesch_line.specs.Forms.{HasNoNewline}
 use Rattle.heesch_reader.specs.declared.item.Item.{Item}
-use Rattle.heesch_reader.specs.declared.item.Item.TheVariants as items
 use Rattle.heesch_reader.specs.declared.item.Part.{Part}
 use Rattle.heesch_reader.specs.declared.progress.Progress.{Progress}
 use Rattle.heesch_reader.specs.declared.progress.Progress.TheVariants as stages
 use Rattle.heesch_reader.specs.declared.scan.Appended.{Appended}
 use Rattle.heesch_reader.specs.Progress.{Lead, next}
 use Rattle.heesch_reader.specs.Items.{Kept, lines_of, with_items, none_appended, progress_of}
-use Rattle.heesch_reader.specs.Faults.{begins, begins_next, part_of, MayNotStand, FaultsAt}
+use Rattle.heesch_reader.specs.Faults.{begins_next, part_of, MayNotStand, FaultsAt}
 use Rattle.heesch_reader.specs.Feeding.{IsBehindEntry, Stands, Takes, Refuses, Finishes, FallsShort, RunsOut, IsPrompt, IsPromptAtEnd, IsShown, IsShownAtEnd}
 use Rattle.heesch_reader.proofs.Walking.{same_next, same_part, outer_words}
-use Rattle.heesch_reader.proofs.Following.{with_items_append, lines_counted, lines_append}
-use Rattle.heesch_reader.proofs.Pieces.{joins}
+use Rattle.heesch_reader.proofs.ItemLines.{with_items_append, lines_counted, lines_append}
+use Rattle.heesch_reader.proofs.FirstWords.{begins_next_cut}
+use Rattle.heesch_reader.proofs.Pieces.{joins, no_items}
 use Rattle.heesch_stream.specs.Input.{IsWholeCatalogue}
 use Rattle.heesch_stream.specs.Taking.{Begins, kept_behind}
 
@@ -28,13 +26,6 @@ nil_front (x ∷ xs) ys e = absurd cc
 nil_back : {X : Type 0} (xs ys : List X) → xs ++ ys ≡ [] → ys ≡ []
 nil_back [] ys e = e
 nil_back (x ∷ xs) ys e = absurd cc
-
-no_items : (f : List Item) → lines_of f ≡ [] → f ≡ []
-no_items [] e = refl
-no_items (items.Header h ∷ f) e = absurd cc
-no_items (items.Entry line entry ∷ f) e = absurd cc
-no_items (items.Brief line cells verdict ∷ f) e = absurd cc
-no_items (items.End count ∷ f) e = absurd cc
 
 -- ---- a piece that was taken
 
@@ -64,31 +55,9 @@ takes_on bytes piece found b old new items after e t =
 
 -- ---- a fault
 
-both : (a b : Bool) → a && b ≡ true → (a ≡ true) × (b ≡ true)
-both true b e = (refl, e)
-both false b e = absurd cc
-
-cut_begins : (word words back : List ℕ) → HasNoNewline word → begins (words ++ 10 ∷ back) word ≡ true → begins words word ≡ true
-cut_begins [] words back n e = refl
-cut_begins (c ∷ word) [] back n e = let f = both (nat_eq c 10) (begins back word) e in absurd (n.0 (eqb-true c 10 f.0))
-cut_begins (c ∷ word) (x ∷ words) back n e = let f = both (nat_eq c x) (begins (words ++ 10 ∷ back) word) e in rw (f.0, cut_begins word words back n.1 f.1) refl
-
-either_way : (a b c d : Bool) → (a ≡ true → c ≡ true) → (b ≡ true → d ≡ true) → (a || b) ≡ true → (c || d) ≡ true
-either_way true b c d f g e = rw (f refl) refl
-either_way false b true d f g e = refl
-either_way false b false d f g e = g e
-
-shape_in_line : HasNoNewline (codes "shape ")
-shape_in_line = ((λ e. omega arith), ((λ e. omega arith), ((λ e. omega arith), ((λ e. omega arith), ((λ e. omega arith), ((λ e. omega arith), tt))))))
-
-end_in_line : HasNoNewline (codes "end ")
-end_in_line = ((λ e. omega arith), ((λ e. omega arith), ((λ e. omega arith), ((λ e. omega arith), tt))))
-
 -- what shows that the next line is that of a shape, or the last line, stands before its newline
 cut_next : (words back : List ℕ) → begins_next (words ++ 10 ∷ back) ≡ true → begins_next words ≡ true
-cut_next words back e =
-    either_way (begins (words ++ 10 ∷ back) (codes "shape ")) (begins (words ++ 10 ∷ back) (codes "end ")) (begins words (codes "shape ")) (begins words (codes "end "))
-    (cut_begins (codes "shape ") words back shape_in_line) (cut_begins (codes "end ") words back end_in_line) e
+cut_next words back e = sym (begins_next_cut words back) ∙ e
 
 -- where a line may not stand between two entries, it may not stand behind an entry
 refused_behind : (p r : Progress) (a : Appended) (words : List ℕ) → IsBehindEntry p a → progress_of a ≡ r → begins_next words ≡ true → MayNotStand r words → MayNotStand p words

@@ -1,19 +1,15 @@
 -- An input has one tabulation.
-use Rattle.std.proofs.Common.{◌≡◌, ◌≢◌, ◌⊎◌, inl, inr, ℕ, ◌+◌, ◌<◌, Bool, true, false, List, [], ◌∷◌, ◌++◌, length, Some, refl, sym, ap, subst, ◌∙◌, append_assoc, arith}
-use Rattle.std.specs.List.{AllZip}
+use Rattle.std.proofs.Common.{◌≡◌, ◌≢◌, ◌⊎◌, inl, inr, ℕ, ◌+◌, ◌<◌, true, false, List, [], ◌∷◌, ◌++◌, length, Some, refl, sym, ap, subst, ◌∙◌, append_assoc, arith}
 use Rattle.std.proofs.lemmas.List.{append-nil, length-append}
 use Rattle.heesch_grid.specs.declared.Cell.{Cell}
 use Rattle.heesch_grid.specs.declared.GridName.{GridName}
-use Rattle.heesch_grid.specs.Geometry.{Geometry}
 use Rattle.heesch_grid.specs.Names.{geometry_of}
 use Rattle.heesch_text.specs.declared.line.Line.{Line}
 use Rattle.heesch_text.specs.Lines.{words_of, text_of}
 use Rattle.heesch_line.specs.Forms.{HasNoNewline}
 use Rattle.heesch_line.proofs.Newlines.{no_newline}
 use Rattle.heesch_shape.specs.declared.faults.ShapeFault.{ShapeFault}
-use Rattle.heesch_shape.specs.declared.faults.ShapeFault.TheVariants.{Empty, TooMany, NotACell, Repeated, Apart}
-use Rattle.heesch_shape.specs.Places.{AllHold, IsFirstFailure}
-use Rattle.heesch_shape.specs.Faults.{IsFault, number_of}
+use Rattle.heesch_shape.specs.Faults.{IsFault}
 use Rattle.heesch_reader.specs.declared.item.Item.{Item}
 use Rattle.heesch_reader.specs.declared.item.Part.{Part}
 use Rattle.heesch_reader.specs.declared.progress.Progress.{Progress}
@@ -29,46 +25,11 @@ use Rattle.heesch_reader.proofs.SameLines.{along, one_first_line, no_first_line,
 use Rattle.heesch_reader.proofs.Walking.{shows_more}
 use Rattle.heesch_stream.specs.Input.{newlines, IsWholeCatalogue}
 use Rattle.heesch_stream.specs.Taking.{HasTooMany}
-use Rattle.heesch_cert.specs.declared.verdict.Verdict.{Verdict}
-use Rattle.heesch_table.specs.Holed.{IsHoled}
-use Rattle.heesch_table.specs.Texts.{tally_text}
-use Rattle.heesch_tabulate.specs.Entries.{entries_of, IsOfGrid, AreShapes, IsCounted}
+use Rattle.heesch_tabulate.specs.Entries.{entries_of, IsOfGrid, AreShapes}
 use Rattle.heesch_tabulate.specs.Tabulating.{IsTallied, AreWholeAt, HasShapeFault, HasTextFault, HasLengthFault, IsFaulty}
 use Rattle.heesch_tabulate.proofs.Cuts.{Cut, same_cut, before_cut}
-use Rattle.heesch_tabulate.proofs.Shapes.{Told, told, told_append, last_told, AreFaultless, shapes_told, faultless_at, grid_named, grid_is, same_grid, last_or_front, no_lines, shapes_in, verdicts_in, cells_are, verdicts_are, pairs}
-
--- ---- one fault of cells
-
-both_ways : (test : ℕ → Bool) (n at : ℕ) → AllHold test n → IsFirstFailure test n at → ⊥
-both_ways test n at all first = let e : true ≡ false = sym (all.all at first.below) ∙ first.fails in absurd cc
-
--- cells have one fault's number
-pub one_number : (g : Geometry) (xs : List Cell) (a b : ShapeFault) → IsFault g xs a → IsFault g xs b → number_of a ≡ number_of b
-one_number g xs Empty Empty f h = refl
-one_number g xs Empty TooMany f h = absurd (omega (arith, f, h))
-one_number g xs Empty (NotACell at) f h = absurd (omega (arith, f, h.0))
-one_number g xs Empty (Repeated at) f h = absurd (omega (arith, f, h.0))
-one_number g xs Empty (Apart at) f h = absurd (omega (arith, f, h.0))
-one_number g xs TooMany Empty f h = absurd (omega (arith, f, h))
-one_number g xs TooMany TooMany f h = refl
-one_number g xs TooMany (NotACell at) f h = absurd (omega (arith, f, h.1))
-one_number g xs TooMany (Repeated at) f h = absurd (omega (arith, f, h.1))
-one_number g xs TooMany (Apart at) f h = absurd (omega (arith, f, h.1))
-one_number g xs (NotACell at) Empty f h = absurd (omega (arith, h, f.0))
-one_number g xs (NotACell at) TooMany f h = absurd (omega (arith, h, f.1))
-one_number g xs (NotACell at) (NotACell other) f h = refl
-one_number g xs (NotACell at) (Repeated other) f h = absurd (both_ways _ (length xs) at h.2 f.2)
-one_number g xs (NotACell at) (Apart other) f h = absurd (both_ways _ (length xs) at h.2 f.2)
-one_number g xs (Repeated at) Empty f h = absurd (omega (arith, h, f.0))
-one_number g xs (Repeated at) TooMany f h = absurd (omega (arith, h, f.1))
-one_number g xs (Repeated at) (NotACell other) f h = absurd (both_ways _ (length xs) other f.2 h.2)
-one_number g xs (Repeated at) (Repeated other) f h = refl
-one_number g xs (Repeated at) (Apart other) f h = absurd (both_ways _ (length xs) at h.3 f.3)
-one_number g xs (Apart at) Empty f h = absurd (omega (arith, h, f.0))
-one_number g xs (Apart at) TooMany f h = absurd (omega (arith, h, f.1))
-one_number g xs (Apart at) (NotACell other) f h = absurd (both_ways _ (length xs) other f.2 h.2)
-one_number g xs (Apart at) (Repeated other) f h = absurd (both_ways _ (length xs) other f.3 h.3)
-one_number g xs (Apart at) (Apart other) f h = refl
+use Rattle.heesch_tabulate.proofs.Shapes.{Told, told, told_append, last_told, AreFaultless, shapes_told, faultless_at, same_grid, last_or_front}
+use Rattle.heesch_tabulate.proofs.CellFaults.{one_number}
 
 -- ---- the cut of each answer
 
@@ -96,7 +57,7 @@ short_cut front all line part f =
     open_cut front f.left (lines_of all ++ f.held) f.reached (f.stands.text ∙ ap (λ (x : List Item). text_of (lines_of x ++ f.held) ++ f.left) (sym f.after_is))
     (subst (λ (x : List Item). Lead stages.Start (lines_of x ++ f.held) f.reached) (sym f.after_is) f.stands.lead) f.one_line
 
-whole_cut : (input : List ℕ) (all : List Item) → (c : IsWholeCatalogue input all) → Cut input (lines_of all ++ []) [] c.reached
+pub whole_cut : (input : List ℕ) (all : List Item) → (c : IsWholeCatalogue input all) → Cut input (lines_of all ++ []) [] c.reached
 whole_cut input all c =
     let alone = append-nil (lines_of all) in
     open_cut input [] (lines_of all ++ []) c.reached (c.text ∙ ap text_of (sym alone) ∙ sym (append-nil (text_of (lines_of all ++ []))))
@@ -376,43 +337,3 @@ one_fault input line number at other (inr (inl s)) (inr (inr t)) = absurd (text_
 one_fault input line number at other (inr (inr s)) (inl t) = absurd (shape_or_length input at other line number t s)
 one_fault input line number at other (inr (inr s)) (inr (inl t)) = absurd (text_or_length input at other line number t s)
 one_fault input line number at other (inr (inr s)) (inr (inr t)) = two_lengths input line number at other s t
-
--- ---- one tally
-
--- the entries of two lists of items with the same lines are the same
-same_entries : (f g : List Item) → lines_of f ≡ lines_of g → entries_of f ≡ entries_of g
-same_entries f g e = pairs (entries_of f) (entries_of g) (cells_are f ∙ ap shapes_in e ∙ sym (cells_are g)) (verdicts_are f ∙ ap verdicts_in e ∙ sym (verdicts_are g))
-
-counted_once : (g : Geometry) (es : List (List Cell × Verdict)) (xs ys : List (Bool × Verdict)) → AllZip (IsCounted g) es xs → AllZip (IsCounted g) es ys → xs ≡ ys
-counted_once g [] [] [] h k = refl
-counted_once g [] [] (y ∷ ys) h k = absurd k
-counted_once g [] (x ∷ xs) ys h k = absurd h
-counted_once g (e ∷ es) [] ys h k = absurd h
-counted_once g (e ∷ es) (x ∷ xs) [] h k = absurd k
-counted_once g (e ∷ es) (x ∷ xs) (y ∷ ys) h k =
-    let holed : x.0 ≡ y.0 = one_holed g e.0 x.0 y.0 h.0.0 k.0.0 in
-    let verdict : x.1 ≡ y.1 = h.0.1 ∙ sym k.0.1 in
-    let one : x ≡ y = ap (λ (b : Bool). (b, x.1)) holed ∙ ap (λ (v : Verdict). (y.0, v)) verdict in
-    ap (λ (u : Bool × Verdict). u ∷ xs) one ∙ ap (λ (u : List (Bool × Verdict)). y ∷ u) (counted_once g es xs ys h.1 k.1)
-  where
-    one_holed : (g : Geometry) (cells : List Cell) (a b : Bool) → IsHoled g cells a → IsHoled g cells b → a ≡ b
-    one_holed g cells true true h k = refl
-    one_holed g cells false false h k = refl
-    one_holed g cells true false h k = absurd (h k)
-    one_holed g cells false true h k = absurd (k h)
-
-same_grids : (f g : List Item) (grid other : GridName) → (with_items none_appended f).ended ≡ true → IsOfGrid grid f → IsOfGrid other g → lines_of f ≡ lines_of g → grid ≡ other
-same_grids [] g grid other some h k e = absurd cc
-same_grids (x ∷ f) [] grid other some h k e = absurd (no_lines x f e)
-same_grids (x ∷ f) (y ∷ g) grid other some h k e = let t = sym (grid_is grid x f [] h) ∙ ap (λ (ls : List Line). grid_named (ls ++ [])) e ∙ grid_is other y g [] k in cc
-
-pub one_tally : (input text other : List ℕ) → IsTallied (Some input) text → IsTallied (Some input) other → text ≡ other
-one_tally input text other s t =
-    let a = whole_cut s.input s.all s.catalogue in
-    let b = subst (λ (x : List ℕ). Cut x (lines_of t.all ++ []) [] t.catalogue.reached) (t.all_of ∙ sym s.all_of) (whole_cut t.input t.all t.catalogue) in
-    let same = same_cut s.input (lines_of s.all ++ []) (lines_of t.all ++ []) [] [] s.catalogue.reached t.catalogue.reached a b in
-    let ls : lines_of s.all ≡ lines_of t.all = sym (append-nil (lines_of s.all)) ∙ same.0 ∙ append-nil (lines_of t.all) in
-    let grids = same_grids s.all t.all s.grid t.grid s.catalogue.ended s.of_grid t.of_grid ls in
-    let over = subst (λ (x : GridName). AllZip (IsCounted (geometry_of x)) (entries_of t.all) t.counted) (sym grids) t.counts in
-    let counted = counted_once (geometry_of s.grid) (entries_of s.all) s.counted t.counted s.counts (subst (λ (es : List (List Cell × Verdict)). AllZip (IsCounted (geometry_of s.grid)) es t.counted) (sym (same_entries s.all t.all ls)) over) in
-    s.text_is ∙ ap tally_text counted ∙ sym t.text_is

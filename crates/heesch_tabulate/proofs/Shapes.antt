@@ -15,7 +15,7 @@ use Rattle.heesch_reader.specs.declared.item.Item.TheVariants as items
 use Rattle.heesch_reader.specs.Items.{item_lines, lines_of, IsItemAt, AreItemsAt}
 use Rattle.heesch_reader.specs.Feeding.{IsInside}
 use Rattle.heesch_reader.proofs.EntryLines.{IsEvidence, body_lines, body_inside, evidence_inside}
-use Rattle.heesch_reader.proofs.Following.{lines_append}
+use Rattle.heesch_reader.proofs.ItemLines.{lines_append}
 use Rattle.heesch_tabulate.specs.Entries.{entries_of, IsEntryAt, IsOfGrid, AreShapes}
 
 -- a `shape` line's number and cells
@@ -167,41 +167,13 @@ verdicts_in (line ∷ ls) = verdicts_in ls
 
 shapes_append : (a b : List Line) → shapes_in (a ++ b) ≡ shapes_in a ++ shapes_in b
 shapes_append [] b = refl
-shapes_append (lines.Header header ∷ a) b = shapes_append a b
 shapes_append (lines.Shape cells ∷ a) b = ap (λ (x : List (List Cell)). cells ∷ x) (shapes_append a b)
-shapes_append (lines.Verdict verdict ∷ a) b = shapes_append a b
-shapes_append (lines.Lattice triple ∷ a) b = shapes_append a b
-shapes_append (lines.Tile place member ∷ a) b = shapes_append a b
-shapes_append (lines.Coronas count ∷ a) b = shapes_append a b
-shapes_append (lines.Layer places ∷ a) b = shapes_append a b
-shapes_append (lines.Wall level outcome ∷ a) b = shapes_append a b
-shapes_append (lines.Bare level outcome ∷ a) b = shapes_append a b
-shapes_append (lines.Open count ∷ a) b = shapes_append a b
-shapes_append (lines.Triple triple refuted ∷ a) b = shapes_append a b
-shapes_append (lines.Learn clause hints ∷ a) b = shapes_append a b
-shapes_append (lines.Cut cut ∷ a) b = shapes_append a b
-shapes_append (lines.Empty hints ∷ a) b = shapes_append a b
-shapes_append (lines.Spent ∷ a) b = shapes_append a b
-shapes_append (lines.End count ∷ a) b = shapes_append a b
+shapes_append (line ∷ a) b = shapes_append a b
 
 verdicts_append : (a b : List Line) → verdicts_in (a ++ b) ≡ verdicts_in a ++ verdicts_in b
 verdicts_append [] b = refl
-verdicts_append (lines.Header header ∷ a) b = verdicts_append a b
-verdicts_append (lines.Shape cells ∷ a) b = verdicts_append a b
 verdicts_append (lines.Verdict verdict ∷ a) b = ap (λ (x : List Verdict). verdict ∷ x) (verdicts_append a b)
-verdicts_append (lines.Lattice triple ∷ a) b = verdicts_append a b
-verdicts_append (lines.Tile place member ∷ a) b = verdicts_append a b
-verdicts_append (lines.Coronas count ∷ a) b = verdicts_append a b
-verdicts_append (lines.Layer places ∷ a) b = verdicts_append a b
-verdicts_append (lines.Wall level outcome ∷ a) b = verdicts_append a b
-verdicts_append (lines.Bare level outcome ∷ a) b = verdicts_append a b
-verdicts_append (lines.Open count ∷ a) b = verdicts_append a b
-verdicts_append (lines.Triple triple refuted ∷ a) b = verdicts_append a b
-verdicts_append (lines.Learn clause hints ∷ a) b = verdicts_append a b
-verdicts_append (lines.Cut cut ∷ a) b = verdicts_append a b
-verdicts_append (lines.Empty hints ∷ a) b = verdicts_append a b
-verdicts_append (lines.Spent ∷ a) b = verdicts_append a b
-verdicts_append (lines.End count ∷ a) b = verdicts_append a b
+verdicts_append (line ∷ a) b = verdicts_append a b
 
 -- evidence tells none of both
 no_shape : (line : Line) (ls : List Line) → IsEvidence line → (shapes_in (line ∷ ls) ≡ shapes_in ls) × (verdicts_in (line ∷ ls) ≡ verdicts_in ls)

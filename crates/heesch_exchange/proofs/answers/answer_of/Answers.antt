@@ -5,7 +5,7 @@ use Rattle.heesch_text.specs.Catalogue.{coronas_text}
 use Rattle.heesch_exchange.specs.Answers.{IsAnswerStop, IsModelStop, false_text}
 use Rattle.heesch_exchange.specs.Shapes.{encode_stop}
 use Rattle.heesch_exchange.proofs.ShapeLines.{self_canonical}
-use Rattle.heesch_exchange.proofs.Told.{as_error, answer_stop, model_stop, is_answer, spelled_of, tells_coronas}
+use Rattle.heesch_exchange.proofs.Told.{as_error, encoded_as, answer_stop, model_stop, is_answer, spelled_of, tells_coronas}
 use Rattle.heesch_exchange.proofs.answers.answer_of.Goals as goal
 use Rattle.heesch_exchange.proofs.answers.answer_of.Goals.{in-Some-first_false+in_ok-append_false-in-Some-first_false, in-None+in_ok-layers-in-None+in_ok-write_coronas-in-None}
 
@@ -18,7 +18,7 @@ returns-in_err-encoded-clause-stop g c =
     let geometry = g.G.Grid.geometry in
     let stop = c.in_err-encoded.field-0.0 in
     as_error c.from_residual-in_err-encoded.result (encode_stop stop) (IsAnswerStop a.version geometry a.level a.size a.input.now) c.from_residual-in_err-encoded.ensures.1
-    (answer_stop a.version geometry a.level a.size c.in-Some.line.now c.in_ok-shape.shape c.in_ok-shape.ensures.ok a.input.now c.in-Some.model.now c.in-Some.ensures.1 c.in-Some.ensures.0 stop (λ e. c.in_err-encoded.ensures.too_large (ap Err e)))
+    (answer_stop a.version geometry a.level a.size c.in-Some.line.now c.in_ok-shape.shape c.in_ok-shape.ensures.ok a.input.now c.in-Some.model.now (record { whole = c.in-Some.ensures.1; text = c.in-Some.ensures.0 }) stop (λ e. c.in_err-encoded.ensures.too_large (ap Err e)))
 
 pub returns-in_err-values-clause-stop : goal.returns-in_err-values-clause-stop
 returns-in_err-values-clause-stop g c =
@@ -26,11 +26,11 @@ returns-in_err-values-clause-stop g c =
     let geometry = g.G.Grid.geometry in
     let e = c.in_ok-encoded.ensures in
     let encoded = c.in_ok-encoded.encoded in
+    let whole = encoded_as a.version geometry a.level a.size c.in-Some.line.now c.in_ok-shape.shape c.in_ok-shape.ensures.ok encoded.universe.vars encoded.formula.vars encoded.formula.clauses e.formula e.fits in
     let stop = c.in_err-values.field-0.0 in
     let stops : IsModelStop encoded.formula.vars c.in-Some.model.now stop = subst (λ (n : ℕ). IsModelStop n c.in-Some.model.now stop) c.vars.ensures.vars c.in_err-values.ensures.stop in
     as_error c.from_residual-in_err-values.result stop (IsAnswerStop a.version geometry a.level a.size a.input.now) c.from_residual-in_err-values.ensures.1
-    (model_stop a.version geometry a.level a.size a.input.now c.in-Some.line.now c.in-Some.model.now c.in-Some.ensures.1 c.in-Some.ensures.0 c.in_ok-shape.shape c.in_ok-shape.ensures.ok
-    encoded.universe.vars encoded.formula.vars encoded.formula.clauses e.formula e.fits stop stops)
+    (model_stop a.version geometry a.level a.size a.input.now c.in-Some.line.now c.in-Some.model.now (record { whole = c.in-Some.ensures.1; text = c.in-Some.ensures.0 }) whole stop stops)
 
 pub returns-clause-ok : goal.returns-clause-ok
 returns-clause-ok g c =
@@ -38,12 +38,12 @@ returns-clause-ok g c =
     let geometry = g.G.Grid.geometry in
     let e = c.in_ok-encoded.ensures in
     let encoded = c.in_ok-encoded.encoded in
+    let whole = encoded_as a.version geometry a.level a.size c.in-Some.line.now c.in_ok-shape.shape c.in_ok-shape.ensures.ok encoded.universe.vars encoded.formula.vars encoded.formula.clauses e.formula e.fits in
     let values = c.as_slice.result.now in
     let same : c.vars.result ≡ encoded.formula.vars = c.vars.ensures.vars in
     let model : IsModel encoded.formula.vars c.in-Some.model.now values =
     subst (λ (n : ℕ). IsModel n c.in-Some.model.now values) same (subst (IsModel c.vars.result c.in-Some.model.now) (sym c.as_slice.ensures) c.in_ok-values.ensures.ok) in
-    is_answer a.version geometry a.level a.size a.input.now c.in-Some.line.now c.in-Some.model.now c.in-Some.ensures.1 c.in-Some.ensures.0 c.in_ok-shape.shape c.in_ok-shape.ensures.ok
-    encoded.universe.vars encoded.formula.vars encoded.formula.clauses e.formula e.fits values model c.match-first_false.text.items
+    is_answer a.version geometry a.level a.size a.input.now c.in-Some.line.now c.in-Some.model.now (record { whole = c.in-Some.ensures.1; text = c.in-Some.ensures.0 }) whole values model c.match-first_false.text.items
     (elim c.match-first_false.branch [
       | in-Some-first_false+in_ok-append_false-in-Some-first_false w ↦
           let number = w.in-Some-first_false.number in

@@ -3,7 +3,7 @@ use Rattle.heesch_dimacs.specs.Formulas.{clause_text}
 use Rattle.heesch_exchange.specs.Formulas.{IsFormulaStop}
 use Rattle.heesch_exchange.specs.Shapes.{encode_stop}
 use Rattle.heesch_exchange.proofs.ShapeLines.{self_canonical}
-use Rattle.heesch_exchange.proofs.Told.{not_empty, empty_is, as_error, formula_stop, second_line, is_formula}
+use Rattle.heesch_exchange.proofs.Told.{not_empty, empty_is, as_error, formula_stop, encoded_as, second_line, is_formula}
 use Rattle.heesch_exchange.proofs.formulas.formula_of.Goals as goal
 
 pub encode_flat-requires-clause-canonical : goal.encode_flat-requires-clause-canonical
@@ -22,10 +22,11 @@ pub returns-then-not-is_empty-clause-stop : goal.returns-then-not-is_empty-claus
 returns-then-not-is_empty-clause-stop g c =
     let a = c.args in
     let e = c.in_ok-encoded.ensures in
+    let encoded = encoded_as a.version g.G.Grid.geometry a.level a.size c.first_line.result.0.now c.in_ok-shape.shape c.in_ok-shape.ensures.ok
+    c.in_ok-encoded.encoded.universe.vars c.in_ok-encoded.encoded.formula.vars c.in_ok-encoded.encoded.formula.clauses e.formula e.fits in
     let more = not_empty c.first_line.result.1.now c.is_empty-2.result c.is_empty-2.ensures c.if-not-is_empty.true in
     inr (inr (
-      second_line a.version g.G.Grid.geometry a.level a.size a.input.now c.first_line.result.0.now c.first_line.result.1.now c.first_line.ensures c.in_ok-shape.shape c.in_ok-shape.ensures.ok
-          c.in_ok-encoded.encoded.universe.vars c.in_ok-encoded.encoded.formula.vars c.in_ok-encoded.encoded.formula.clauses e.formula e.fits more,
+      second_line a.version g.G.Grid.geometry a.level a.size a.input.now c.first_line.result.0.now c.first_line.result.1.now c.first_line.ensures encoded more,
       refl,
       refl,
     ))
@@ -34,10 +35,11 @@ pub returns-clause-ok : goal.returns-clause-ok
 returns-clause-ok g c =
     let a = c.args in
     let e = c.in_ok-encoded.ensures in
+    let encoded = encoded_as a.version g.G.Grid.geometry a.level a.size c.first_line.result.0.now c.in_ok-shape.shape c.in_ok-shape.ensures.ok
+    c.in_ok-encoded.encoded.universe.vars c.in_ok-encoded.encoded.formula.vars c.in_ok-encoded.encoded.formula.clauses e.formula e.fits in
     let some = not_empty a.input.now c.is_empty.result c.is_empty.ensures c.if-is_empty.false in
     let none = empty_is c.first_line.result.1.now c.is_empty-2.result c.is_empty-2.ensures c.if-not-is_empty.false in
     let written = c.in_ok-write_flat_cnf.ensures.ok in
     let from_nothing = c.new-text.ensures.items in
-    is_formula a.version g.G.Grid.geometry a.level a.size a.input.now c.first_line.result.0.now c.first_line.result.1.now c.first_line.ensures c.in_ok-shape.shape c.in_ok-shape.ensures.ok
-    c.in_ok-encoded.encoded.universe.vars c.in_ok-encoded.encoded.formula.vars c.in_ok-encoded.encoded.formula.clauses e.formula e.fits some none c.write_flat_cnf.new.out.items
+    is_formula a.version g.G.Grid.geometry a.level a.size a.input.now c.first_line.result.0.now c.first_line.result.1.now c.first_line.ensures encoded some none c.write_flat_cnf.new.out.items
     (written ∙ ap (λ (xs : List ℕ). xs ++ clause_text c.in_ok-encoded.encoded.formula.vars c.in_ok-encoded.encoded.formula.clauses) from_nothing) e.satisfiable

@@ -1,8 +1,8 @@
 use Rattle.std.proofs.Common.{refl, sym, subst, inl}
 use Rattle.heesch_given.specs.Given.{IsNoShape}
-use Rattle.heesch_given.proofs.Reading.{no_shape}
+use Rattle.heesch_given.proofs.Reading.{shape_line, no_shape}
 use Rattle.heesch_line.specs.Scanning.{IsLineOf}
-use Rattle.heesch_exchange.proofs.ShapeLines.{near, shape_line}
+use Rattle.heesch_exchange.proofs.ShapeLines.{near}
 use Rattle.heesch_exchange.proofs.shapes.shape_of.Goals as goal
 
 pub canonical_of-requires : goal.canonical_of-requires

@@ -1,5 +1,6 @@
 use Rattle.std.proofs.Common.{sym}
-use Rattle.heesch_reader.proofs.Following.{settles_at_end, completes, falls_short}
+use Rattle.heesch_reader.proofs.Following.{completes, falls_short}
+use Rattle.heesch_reader.proofs.Settling.{settles_at_end}
 use Rattle.heesch_reader.proofs.scanning.take_end.Goals as goal
 
 pub returns-then-is_complete : goal.returns-then-is_complete

@@ -1,5 +1,6 @@
 use Rattle.heesch_reader.proofs.Bytes.{line_ended, room_filled}
-use Rattle.heesch_reader.proofs.Following.{pushed_is, settles, settled_once, settled_room}
+use Rattle.heesch_reader.proofs.Following.{pushed_is}
+use Rattle.heesch_reader.proofs.Settling.{settles, settled_once, settled_room}
 use Rattle.heesch_reader.proofs.scanning.take_line.Goals as goal
 
 pub settle-requires : goal.settle-requires

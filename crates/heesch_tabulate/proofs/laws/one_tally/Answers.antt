@@ -1,4 +1,4 @@
-use Rattle.heesch_tabulate.proofs.OneTabulation.{one_tally}
+use Rattle.heesch_tabulate.proofs.OneTally.{one_tally}
 use Rattle.heesch_tabulate.proofs.laws.one_tally.Goals as goal
 
 pub returns : goal.returns

@@ -8,7 +8,7 @@ use Rattle.heesch_line.specs.Scanning.{IsScanned}
 use Rattle.heesch_shape.specs.Faults.{IsFault, IsFaultless}
 use Rattle.heesch_given.specs.Given.{IsCanonicalOf, IsNoShape}
 use Rattle.heesch_given.specs.Steps.{EndsLine}
-use Rattle.heesch_given.proofs.Reading.{adds_shape, no_shape}
+use Rattle.heesch_given.proofs.Reading.{shape_line, no_shape}
 use Rattle.heesch_given.proofs.lines.GivenLines.end_line.Goals as goal
 
 pub returns-in-Err-NotALine : goal.returns-in-Err-NotALine
@@ -42,6 +42,6 @@ returns g c = λ line scanned.
     let is = subst (λ (xs : List Cell). IsCanonicalOf g.G.Grid.geometry xs c.in-Ok-canonical_of.shape) cells c.in-Ok-canonical_of.ensures.ok in
     let faultless = subst (IsFaultless g.G.Grid.geometry) cells c.in-Ok-canonical_of.ensures.faultless in
     let added : c.push.new.self.items ≡ c.args.self.now.shapes.items ++ c.in-Ok-canonical_of.shape ∷ [] = search rules in (
-      adds_shape g.G.Grid.geometry line c.in-Ok.cells c.in-Ok-canonical_of.shape c.args.self.now.shapes.items c.push.new.self.items (c.in-Ok.ensures.ok line read) is faultless added,
+      record { canonical = c.in-Ok-canonical_of.shape; shape = shape_line g.G.Grid.geometry line c.in-Ok.cells c.in-Ok-canonical_of.shape (c.in-Ok.ensures.ok line read) is faultless; added = added },
       subst (IsScanned []) (sym c.replace-line.ensures.after) c.new.ensures,
     )
