@@ -6,6 +6,8 @@ mod catalogues;
 #[cfg(test)]
 mod checks;
 #[cfg(test)]
+mod effort;
+#[cfg(test)]
 mod exchanges;
 #[cfg(test)]
 mod given;
