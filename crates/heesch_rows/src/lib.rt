@@ -6,8 +6,6 @@ mod catalogues;
 #[cfg(test)]
 mod checks;
 #[cfg(test)]
-mod effort;
-#[cfg(test)]
 mod exchanges;
 #[cfg(test)]
 mod given;
@@ -23,7 +21,5 @@ mod plains;
 mod running;
 #[cfg(test)]
 mod shares;
-#[cfg(test)]
-mod solver;
 #[cfg(test)]
 mod tables;
