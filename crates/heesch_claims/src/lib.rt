@@ -8,8 +8,6 @@
 mod board;
 mod event;
 mod machine;
-#[cfg(test)]
-mod tests;
 mod view;
 
 pub use board::{Board, Drawn, Seat};

@@ -105,16 +105,21 @@ fn is_brief_line(line: &str) -> bool {
 #[test]
 fn full_texts_have_the_brief_lines_for_all_workers(rt: HostRuntime) -> Result<(), Fail> {
     let alloc = rt.alloc();
-    let words = "classify square 7 --domain 1 --levels 1 --turns 1";
-    let full = written(&rt, alloc, words)?;
-    let four = written(&rt, alloc, &format!(in alloc; "{words} --workers 4")?)?;
-    assert_eq!(rt; four.as_slice(), full.as_slice());
-    let brief = written(&rt, alloc, &format!(in alloc; "{words} --brief")?)?;
-    let brief = str::from_utf8(&brief)?;
-    let full = str::from_utf8(&full)?;
-    let shown = full.lines().filter(|line| is_brief_line(line));
-    assert!(rt; brief.lines().skip(1).eq(shown));
-    assert!(rt; brief.ends_with("end 108\n"));
+    for options in [
+        "--domain 1 --levels 1 --turns 1",
+        "--domain 2 --levels 1 --turns 200",
+    ] {
+        let words = format!(in alloc; "classify square 7 {options}")?;
+        let full = written(&rt, alloc, &words)?;
+        let four = written(&rt, alloc, &format!(in alloc; "{words} --workers 4")?)?;
+        assert_eq!(rt; four.as_slice(), full.as_slice(), "{options}");
+        let brief = written(&rt, alloc, &format!(in alloc; "{words} --brief")?)?;
+        let brief = str::from_utf8(&brief)?;
+        let full = str::from_utf8(&full)?;
+        let shown = full.lines().filter(|line| is_brief_line(line));
+        assert!(rt; brief.lines().skip(1).eq(shown), "{options}");
+        assert!(rt; brief.ends_with("end 108\n"), "{options}");
+    }
     Ok(())
 }
 

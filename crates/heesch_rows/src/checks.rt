@@ -33,6 +33,14 @@ bare 1 same
 end 1
 ";
 
+const OVER_SIZE: &str = "heesch 1 iamond 1 turns 20000 levels 1 domain 1 size 11
+shape 1,1
+verdict undecided size 0 free 1
+coronas 0
+wall 1 size
+end 1
+";
+
 const HEADER: &str = "heesch 1 square 4 turns 20000 levels 3 domain 4 size 60000000\n";
 
 /// The entries of the five tetrominoes.
@@ -76,9 +84,12 @@ pub(crate) fn told<T: Threads + Sync>(
 fn valid_catalogues_are_valid(rt: HostRuntime) -> Result<(), Fail> {
     let alloc = rt.alloc();
     let all = catalogue(alloc, &[0, 1, 2, 3, 4], "end 5\n")?;
+    let at_size = CORONA.replacen(alloc, "60000000", "12", 1)?;
     for (text, line) in [
         (TRIANGLE, "valid 1\n"),
         (CORONA, "valid 1\n"),
+        (at_size.as_str(), "valid 1\n"),
+        (OVER_SIZE, "valid 1\n"),
         (HOLED, "valid 1\n"),
         (all.as_str(), "valid 5\n"),
     ] {

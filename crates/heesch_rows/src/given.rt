@@ -9,25 +9,38 @@ const HEADER: &str = "turns 20000 levels 3 domain 4 size 60000000";
 #[test]
 fn given_shapes_are_classified_in_their_order(rt: HostRuntime) -> Result<(), Fail> {
     let alloc = rt.alloc();
-    for (grid, input, entries) in [
+    for (word, grid, options, input, entries) in [
         (
+            "heesch",
             "square",
+            "",
             "0,0 1,0 2,0 0,1 2,1 0,2 1,2",
             "shape 0,0 1,0 2,0 0,1 2,1 0,2 1,2\nverdict heesch 0 nontiler 1\ncoronas 0\nwall 1 refuted\nempty 9\nbare 1 same\nend 1\n",
         ),
         (
+            "brief",
+            "square",
+            "--brief",
+            "0,0 1,0 2,0 0,1 2,1 0,2 1,2\n",
+            "shape 0,0 1,0 2,0 0,1 2,1 0,2 1,2\nverdict heesch 0 nontiler 1\nend 1\n",
+        ),
+        (
+            "heesch",
             "hex",
+            "",
             "1,0 2,0 0,1 2,1 0,2 1,2\n",
             "shape 1,0 2,0 0,1 2,1 0,2 1,2\nverdict heesch 0 nontiler 1\ncoronas 0\nwall 1 refuted\nempty 7\nbare 1 same\nend 1\n",
         ),
         (
+            "heesch",
             "square",
+            "",
             "5,5 5,6 6,6 7,6 7,5\n",
             "shape 0,0 1,0 2,0 0,1 2,1\nverdict tiles halfturn domain 2 classes 1\nlattice 10 1 3\ntile 0 0 0 class 1 by 0 0 0\ntile 2 5 0 class 1 by 2 5 0\nend 1\n",
         ),
-        ("square", "", "end 0\n"),
+        ("heesch", "square", "", "", "end 0\n"),
     ] {
-        let line = format!(in alloc; "classify {grid} given")?;
+        let line = format!(in alloc; "classify {grid} given {options}")?;
         let (status, sink) = run_over(
             &rt,
             alloc,
@@ -35,19 +48,30 @@ fn given_shapes_are_classified_in_their_order(rt: HostRuntime) -> Result<(), Fai
             bytes_of(alloc, input)?,
             room(alloc, 1_000)?,
         )?;
-        let text = format!(in alloc; "heesch 2 {grid} given {HEADER}\n{entries}")?;
-        assert_eq!(rt; status, Status::Done, "{input}");
-        assert_eq!(rt; sink.held.as_slice(), text.as_bytes(), "{input}");
+        let text = format!(in alloc; "{word} 2 {grid} given {HEADER}\n{entries}")?;
+        assert_eq!(rt; status, Status::Done, "{line} over {input}");
+        assert_eq!(rt;
+            sink.held.as_slice(),
+            text.as_bytes(),
+            "{line} over {input}"
+        );
     }
     Ok(())
 }
 
+/// 33 cells in a row.
+const MANY_CELLS: &str =
+    "0,0 1,0 2,0 3,0 4,0 5,0 6,0 7,0 8,0 9,0 10,0 11,0 12,0 13,0 14,0 15,0 16,0 17,0 18,0 19,0 20,0 21,0 22,0 23,0 24,0 25,0 26,0 27,0 28,0 29,0 30,0 31,0 32,0";
+
 #[test]
 fn the_first_fault_is_told(rt: HostRuntime) -> Result<(), Fail> {
     let alloc = rt.alloc();
+    let many_lines = "0,0\n".repeat(alloc, 10_001)?;
     for (grid, input, told) in [
         ("square", "0,0 1,0\n0,0 1,0 0,0\n", "bad input 2 4\n"),
         ("square", "0,0 2,0\n", "bad input 1 5\n"),
+        ("square", MANY_CELLS, "bad input 1 2\n"),
+        ("square", &many_lines, "bad input 10001 7\n"),
         ("square", "0,0\n\n", "bad input 2 1\n"),
         ("square", "0,0 \n", "bad input 1 6\n"),
         ("square", "0,0\n0,0 5,5\nxx\n", "bad input 2 5\n"),
@@ -61,8 +85,8 @@ fn the_first_fault_is_told(rt: HostRuntime) -> Result<(), Fail> {
             bytes_of(alloc, input)?,
             room(alloc, 100)?,
         )?;
-        assert_eq!(rt; status, Status::BadInput, "{input}");
-        assert_eq!(rt; sink.held.as_slice(), told.as_bytes(), "{input}");
+        assert_eq!(rt; status, Status::BadInput, "{told}");
+        assert_eq!(rt; sink.held.as_slice(), told.as_bytes(), "{told}");
     }
     Ok(())
 }

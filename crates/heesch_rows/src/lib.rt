@@ -22,6 +22,4 @@ mod running;
 #[cfg(test)]
 mod shares;
 #[cfg(test)]
-mod solver;
-#[cfg(test)]
 mod tables;

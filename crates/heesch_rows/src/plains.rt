@@ -10,6 +10,8 @@ const FIVE_TETROMINOES: &str = "0,0 1,0 2,0 3,0 translation 4 1 0
 0,0 1,0 1,1 2,1 translation 2 2 0
 ";
 
+const PENTOMINO: &str = "\n0,0 1,0 2,0 0,1 2,1 halfturn 10 1 3 5 0\n";
+
 #[test]
 fn small_shapes_have_their_plain_tilings(rt: HostRuntime) -> Result<(), Fail> {
     let alloc = rt.alloc();
@@ -27,6 +29,8 @@ fn small_shapes_have_their_plain_tilings(rt: HostRuntime) -> Result<(), Fail> {
         assert_eq!(rt; status, Status::Done, "{line}");
         assert_eq!(rt; sink.held.as_slice(), text.as_bytes(), "{line}");
     }
+    let (_, sink) = run_into(&rt, alloc, "plain square 5", room(alloc, 1_000)?)?;
+    assert!(rt; str::from_utf8(&sink.held)?.contains(PENTOMINO));
     Ok(())
 }
 

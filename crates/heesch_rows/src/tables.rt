@@ -2,7 +2,7 @@
 ghost use Rattle.std.specs.Prelude.{◌≤◌};
 
 use crate::catalogues::FIVE_TETROMINOES;
-use crate::running::{bytes_of, room, run_over};
+use crate::running::{bytes_of, room, run_into, run_over};
 use heesch_app::Status;
 use heesch_grid::Square;
 use heesch_grow::{Draws, grown};
@@ -69,6 +69,44 @@ fn tallies_of_small_catalogues_are_those_worked_by_hand(rt: HostRuntime) -> Resu
     Ok(())
 }
 
+/// What stands behind the word in each of so many lines of a tally, from the third line on, in sum.
+fn sum_of(text: &str, lines: usize) -> u64 {
+    let mut sum: u64 = 0;
+    for line in text.lines().skip(2).take(lines) {
+        let count = line.split_whitespace().nth(1);
+        let count = count.and_then(|digits| digits.parse::<u64>().ok());
+        sum = sum.saturating_add(count.unwrap_or(0));
+    }
+    sum
+}
+
+/// Of all polyominoes of a size: their number, those with a hole, and how many tile by a translation or a half-turn (two
+/// lines), or by any cover (three).
+#[test]
+fn tallies_of_sizes_have_the_known_counts(rt: HostRuntime) -> Result<(), Fail> {
+    let alloc = rt.alloc();
+    for (options, begin, lines, least, most) in [
+        ("6 --brief", "shapes 35\nholed 0\n", 2, 35, 35),
+        (
+            "7 --brief --domain 2 --levels 1 --turns 50",
+            "shapes 108\nholed 1\n",
+            3,
+            101,
+            104,
+        ),
+    ] {
+        let words = format!(in alloc; "classify square {options}")?;
+        let (_, catalogue) = run_into(&rt, alloc, &words, room(alloc, 20_000)?)?;
+        let source = MemorySource::new(catalogue.held, 4096, Vec::new(alloc));
+        let held = tally(&rt, alloc, "table", source)?;
+        let text = str::from_utf8(&held)?;
+        assert!(rt; text.starts_with(begin), "{options}");
+        let tilings = sum_of(text, lines);
+        assert!(rt; least <= tilings && tilings <= most, "{options}: {tilings}");
+    }
+    Ok(())
+}
+
 /// The first faulty entry decides; in one entry a line that can't stand comes before a shape's fault.
 #[test]
 fn the_first_faulty_entry_is_told(rt: HostRuntime) -> Result<(), Fail> {
@@ -127,18 +165,22 @@ fn grown_list(alloc: Global, n: u32, count: u32, seed: u64) -> Result<Vec<u8>, N
 fn a_sample_is_the_tally_of_its_catalogue(rt: HostRuntime) -> Result<(), Fail> {
     let alloc = rt.alloc();
     let options = "--domain 2 --levels 1 --turns 200";
-    let words = format!(in alloc; "sample square 7 60 1 {options}")?;
-    let sampled = tally(&rt, alloc, &words, bytes_of(alloc, "")?)?;
-    let words = format!(in alloc; "sample square 7 60 1 {options} --workers 4")?;
-    let again = tally(&rt, alloc, &words, bytes_of(alloc, "")?)?;
-    assert_eq!(rt; again.as_slice(), sampled.as_slice());
-    let list = MemorySource::new(grown_list(alloc, 7, 60, 1)?, 4096, Vec::new(alloc));
-    let words = format!(in alloc; "classify square given {options}")?;
-    let (status, catalogue) = run_over(&rt, alloc, &words, list, room(alloc, 400_000)?)?;
-    assert_eq!(rt; status, Status::Done);
-    let source = MemorySource::new(catalogue.held, 4096, Vec::new(alloc));
-    let counted = tally(&rt, alloc, "table", source)?;
-    assert_eq!(rt; counted.as_slice(), sampled.as_slice());
-    assert!(rt; sampled.starts_with(b"shapes 60\n"));
+    for (n, count) in [(7, 200), (8, 40)] {
+        let words = format!(in alloc; "sample square {n} {count} 1 {options}")?;
+        let sampled = tally(&rt, alloc, &words, bytes_of(alloc, "")?)?;
+        let words = format!(in alloc; "{words} --workers 4")?;
+        let again = tally(&rt, alloc, &words, bytes_of(alloc, "")?)?;
+        assert_eq!(rt; again.as_slice(), sampled.as_slice(), "{words}");
+        assert!(rt; 1 <= n && n <= 32);
+        let list = MemorySource::new(grown_list(alloc, n, count, 1)?, 4096, Vec::new(alloc));
+        let words = format!(in alloc; "classify square given {options}")?;
+        let (status, catalogue) = run_over(&rt, alloc, &words, list, room(alloc, 400_000)?)?;
+        assert_eq!(rt; status, Status::Done, "{n}");
+        let source = MemorySource::new(catalogue.held, 4096, Vec::new(alloc));
+        let counted = tally(&rt, alloc, "table", source)?;
+        assert_eq!(rt; counted.as_slice(), sampled.as_slice(), "{n}");
+        let shapes = format!(in alloc; "shapes {count}\n")?;
+        assert!(rt; sampled.starts_with(shapes.as_bytes()), "{n}");
+    }
     Ok(())
 }

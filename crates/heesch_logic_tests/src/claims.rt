@@ -2,7 +2,7 @@
 ghost use Rattle.std.specs.Prelude.{◌≡◌, ◌+◌, ◌≤◌, OnOk, false};
 ghost use Rattle.heesch_claims.specs.Board.{BelongsTo};
 
-use crate::{Board, ClaimCore, Drawn, Event, Seat, Told};
+use heesch_claims::{Board, ClaimCore, Drawn, Event, Seat, Told};
 use heesch_io::NoMemory;
 use std::test::Fail;
 
