@@ -18,6 +18,7 @@ use heesch_lattice::Triple;
 use heesch_shape::Shape;
 use heesch_torus::{torus_formula, triples_up_to};
 use std::alloc::Global;
+use std::thread::Threads;
 
 /// Whether the verdict leaves open whether the shape tiles.
 fn is_undecided(verdict: Verdict) -> bool
@@ -62,7 +63,8 @@ fn flat_torus_formula<G: Grid>(
 }
 
 /// Whether the proof has no cut, and refutes the torus formula of its triple or is spent for so many turns over it.
-fn is_settled<G: Grid>(
+fn is_settled<G: Grid, R: Threads + Sync>(
+    rt: &R,
     alloc: Global,
     shape: &Shape<G>,
     turns: u32,
@@ -76,11 +78,12 @@ fn is_settled<G: Grid>(
         return Ok(false);
     };
     let formula = flat_torus_formula(alloc, shape, written.triple)?;
-    is_ended(alloc, &formula, &log, turns)
+    is_ended(rt, alloc, &formula, &log, turns)
 }
 
 /// Whether each triple is so settled.
-fn are_settled<G: Grid>(
+fn are_settled<G: Grid, R: Threads + Sync>(
+    rt: &R,
     alloc: Global,
     shape: &Shape<G>,
     turns: u32,
@@ -91,7 +94,7 @@ fn are_settled<G: Grid>(
     ensures { IfOk result (λ yes. IsTrue yes ↔ All (λ (x : Written). SettlesTriple G.geometry shape.now turns x.triple x.proof) written.now) }
 {
     for triple in written {
-        if !is_settled(alloc, shape, turns, triple)? {
+        if !is_settled(rt, alloc, shape, turns, triple)? {
             return Ok(false);
         }
     }
@@ -100,7 +103,8 @@ fn are_settled<G: Grid>(
 
 /// Whether for an undecided verdict all triples of the domains from 2 to the limit are written, in order, each settled, and for
 /// any other none.
-pub(crate) fn triples_hold<G: Grid>(
+pub(crate) fn triples_hold<G: Grid, R: Threads + Sync>(
+    rt: &R,
     alloc: Global,
     shape: &Shape<G>,
     limits: Limits,
@@ -126,5 +130,5 @@ pub(crate) fn triples_hold<G: Grid>(
     if !are_triples_of(written.as_slice(), all.as_slice()) {
         return Ok(false);
     }
-    are_settled(alloc, shape, limits.turns, written.as_slice())
+    are_settled(rt, alloc, shape, limits.turns, written.as_slice())
 }
