@@ -16,9 +16,10 @@ use std::alloc::Global;
 use std::marker::PhantomData;
 use std::thread::Threads;
 
-/// The job whose item is whether an entry is true.
+/// The job whose item is whether an entry is true. Threads may share what it borrows.
 #[derive(Drop)]
-struct AuditOf<'a, G: Grid> {
+struct AuditOf<'a, G: Grid, T> {
+    rt: &'a T,
     alloc: Global,
     items: &'a [Item],
     /// The number of the first of the items.
@@ -27,32 +28,40 @@ struct AuditOf<'a, G: Grid> {
     grid: PhantomData<G>,
 }
 
-impl<'a, G: Grid> Answer<bool> for AuditOf<'a, G> {
-    ghost use Rattle.std.specs.Prelude.{⊤, true, IfOk, ◌-◌};
+impl<'a, G: Grid, T: Threads + Sync> Answer<bool> for AuditOf<'a, G, T> {
+    ghost use Rattle.std.specs.Prelude.{true, IfOk, ◌-◌};
+    ghost use Rattle.std.specs.Thread.{IsSync};
     ghost use Rattle.heesch_check.specs.Judging.{IsAuditOf};
 
     ghost accepts = { λ _ _. true };
 
     ghost gives = { λ s number holds. IfOk holds (IsAuditOf G.geometry s.limits s.items.now (number - s.first)) };
 
-    ghost ready = { λ _. ⊤ };
+    ghost ready = { λ _. IsSync T.row };
 
     fn answer(&self, number: u32) -> Result<bool, NoMemory> {
         match self.items.get(number.saturating_sub(self.first) as usize) {
-            Some(Item::Entry { line: _, entry }) => is_true::<G>(self.alloc, entry, self.limits),
+            Some(Item::Entry { line: _, entry }) => {
+                is_true::<G, T>(self.rt, self.alloc, entry, self.limits)
+            }
             _ => Ok(false),
         }
     }
 }
 
 /// Whether an entry is true, where its coordinates lie near 0 and the limits in their ranges.
-fn is_true<G: Grid>(alloc: Global, entry: &Entry, limits: Limits) -> Result<bool, NoMemory>
+fn is_true<G: Grid, T: Threads + Sync>(
+    rt: &T,
+    alloc: Global,
+    entry: &Entry,
+    limits: Limits,
+) -> Result<bool, NoMemory>
     ensures { IfOk result (λ holds. AreLimits limits → IsNearEntry entry.now → (IsTrue holds ↔ IsTrueEntry G.geometry limits entry.now)) }
 {
     if !limits.valid() || !is_near(entry) {
         return Ok(false);
     }
-    match audit::<G>(alloc, entry, limits)? {
+    match audit::<G, T>(rt, alloc, entry, limits)? {
         EntryAnswer::Valid => Ok(true),
         EntryAnswer::Invalid { part: _ } => Ok(false),
     }
@@ -78,6 +87,7 @@ pub(crate) fn audits<G: Grid + Send + Sync, T: Threads + Sync, H: Gate + Sync>(
 {
     let job = Job::new(
         AuditOf {
+            rt,
             alloc,
             items,
             first: from,
