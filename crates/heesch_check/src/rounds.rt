@@ -6,6 +6,7 @@ ghost use Rattle.heesch_cert.specs.Limits.{AreLimits};
 ghost use Rattle.heesch_cert.specs.TrueEntry.{IsTrueEntry};
 ghost use Rattle.heesch_check.specs.Judging.{AreAudits};
 
+use crate::handle::SharedHandle;
 use heesch_audit::{EntryAnswer, audit, is_near};
 use heesch_cert::{Entry, Limits};
 use heesch_grid::Grid;
@@ -16,10 +17,10 @@ use std::alloc::Global;
 use std::marker::PhantomData;
 use std::thread::Threads;
 
-/// The job whose item is whether an entry is true. Threads may share what it borrows.
+/// The job whose item is whether an entry is true. Threads may share the handle that it has.
 #[derive(Drop)]
-struct AuditOf<'a, G: Grid, T> {
-    rt: &'a T,
+struct AuditOf<'a, G: Grid, R> {
+    rt: R,
     alloc: Global,
     items: &'a [Item],
     /// The number of the first of the items.
@@ -28,7 +29,7 @@ struct AuditOf<'a, G: Grid, T> {
     grid: PhantomData<G>,
 }
 
-impl<'a, G: Grid, T: Threads + Sync> Answer<bool> for AuditOf<'a, G, T> {
+impl<'a, G: Grid, R: Threads + Sync + Copy> Answer<bool> for AuditOf<'a, G, R> {
     ghost use Rattle.std.specs.Prelude.{true, IfOk, ◌-◌};
     ghost use Rattle.std.specs.Thread.{IsSync};
     ghost use Rattle.heesch_check.specs.Judging.{IsAuditOf};
@@ -37,12 +38,12 @@ impl<'a, G: Grid, T: Threads + Sync> Answer<bool> for AuditOf<'a, G, T> {
 
     ghost gives = { λ s number holds. IfOk holds (IsAuditOf G.geometry s.limits s.items.now (number - s.first)) };
 
-    ghost ready = { λ _. IsSync T.row };
+    ghost ready = { λ _. IsSync R.row };
 
     fn answer(&self, number: u32) -> Result<bool, NoMemory> {
         match self.items.get(number.saturating_sub(self.first) as usize) {
             Some(Item::Entry { line: _, entry }) => {
-                is_true::<G, T>(self.rt, self.alloc, entry, self.limits)
+                is_true::<G, R>(&self.rt, self.alloc, entry, self.limits)
             }
             _ => Ok(false),
         }
@@ -50,8 +51,8 @@ impl<'a, G: Grid, T: Threads + Sync> Answer<bool> for AuditOf<'a, G, T> {
 }
 
 /// Whether an entry is true, where its coordinates lie near 0 and the limits in their ranges.
-fn is_true<G: Grid, T: Threads + Sync>(
-    rt: &T,
+fn is_true<G: Grid, R: Threads + Sync>(
+    rt: &R,
     alloc: Global,
     entry: &Entry,
     limits: Limits,
@@ -61,10 +62,41 @@ fn is_true<G: Grid, T: Threads + Sync>(
     if !limits.valid() || !is_near(entry) {
         return Ok(false);
     }
-    match audit::<G, T>(rt, alloc, entry, limits)? {
+    match audit::<G, R>(rt, alloc, entry, limits)? {
         EntryAnswer::Valid => Ok(true),
         EntryAnswer::Invalid { part: _ } => Ok(false),
     }
+}
+
+/// `audits` by a handle that is copied.
+fn audits_by<G: Grid + Send + Sync, R: Threads + Sync + Copy, H: Gate + Sync>(
+    rt: &R,
+    alloc: Global,
+    items: &[Item],
+    from: u32,
+    until: u32,
+    limits: Limits,
+    workers: u32,
+    gate: &H,
+) -> Result<Vec<bool>, NoMemory>
+    requires span { from ≤ until }
+    requires workers { (1 ≤ workers) × (workers ≤ 64) }
+    ensures len { IfOk result (λ audits. from + vec_len audits ≡ until) }
+    ensures audits { IfOk result (λ audits. AreAudits G.geometry limits items.now audits.items) }
+{
+    let job = Job::new(
+        AuditOf {
+            rt: *rt,
+            alloc,
+            items,
+            first: from,
+            limits,
+            grid: PhantomData::<G>,
+        },
+        until,
+    );
+    let workers = workers.min(until - from).max(1);
+    run_span(rt, alloc, &job, from, until, workers, gate)
 }
 
 /// Whether each entry of the numbers from `from` to before `until` is true, in order, by as many workers as told. The first
@@ -85,19 +117,8 @@ pub(crate) fn audits<G: Grid + Send + Sync, T: Threads + Sync, H: Gate + Sync>(
     ensures len { IfOk result (λ audits. from + vec_len audits ≡ until) }
     ensures audits { IfOk result (λ audits. AreAudits G.geometry limits items.now audits.items) }
 {
-    let job = Job::new(
-        AuditOf {
-            rt,
-            alloc,
-            items,
-            first: from,
-            limits,
-            grid: PhantomData::<G>,
-        },
-        until,
-    );
-    let workers = workers.min(until - from).max(1);
-    run_span(rt, alloc, &job, from, until, workers, gate)
+    let handle = SharedHandle { rt };
+    audits_by::<G, SharedHandle<'_, T>, H>(&handle, alloc, items, from, until, limits, workers, gate)
 }
 
 /// How many of the audits from the first on say that an entry is true.
