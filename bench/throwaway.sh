@@ -12,7 +12,7 @@ for crate in heesch_io heesch_cnf heesch_rup heesch_trail heesch_cdcl heesch_gri
   mkdir "$work/crates/$crate"
   cp -r ../crates/$crate/src ../crates/$crate/specs ../crates/$crate/proofs "$work/crates/$crate"
 done
-grep -E '^heesch_(io|cnf|rup|trail|cdcl|grid|shape|lattice|cert|tiling|exact|torus):' ../crates.txt > "$work/crates.txt"
+grep -E '^heesch_(io|cnf|rup|trail|cdcl|grid|shape|lattice|cert|tiling|exact|torus)[: ]' ../crates.txt > "$work/crates.txt"
 uses='heesch_torus heesch_lattice heesch_shape heesch_grid heesch_rup heesch_cdcl heesch_trail heesch_cnf heesch_io'
 echo "bench: $uses anyhow" >> "$work/crates.txt"
 (cd "$work/crates/bench" && rt run < /dev/null > "$work/log" 2>&1) || { tail -n 20 "$work/log" >&2; exit 1; }

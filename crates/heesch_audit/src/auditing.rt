@@ -16,6 +16,7 @@ use heesch_cert::{Entry, Limits};
 use heesch_grid::Grid;
 use heesch_io::NoMemory;
 use std::alloc::Global;
+use std::thread::Threads;
 
 /// Whether an entry is true.
 #[derive(Clone, Copy, Debug, PartialEq, Eq)]
@@ -37,7 +38,12 @@ pub enum EntryAnswer {
 /// literals, besides the formula that it is over: that of a level is made once where both searches are of one level, and
 /// let go before the next is made, and its clauses stand in one array. A proof is read where it stands: while it is checked, its
 /// clauses stand once more in one array, and those of its cuts are made.
-pub fn audit<G: Grid>(alloc: Global, entry: &Entry, limits: Limits) -> Result<EntryAnswer, NoMemory>
+pub fn audit<G: Grid, R: Threads + Sync>(
+    rt: &R,
+    alloc: Global,
+    entry: &Entry,
+    limits: Limits,
+) -> Result<EntryAnswer, NoMemory>
     requires limits { AreLimits limits }
     requires near { IsNearEntry entry.now }
     ensures valid { IfOk result (λ answer. (answer ≡ EntryAnswer.Valid) ↔ IsTrueEntry G.geometry limits entry.now) }
@@ -59,10 +65,10 @@ pub fn audit<G: Grid>(alloc: Global, entry: &Entry, limits: Limits) -> Result<En
     if !free_holds(alloc, &shape, entry.verdict, &entry.evidence)? {
         return Ok(EntryAnswer::Invalid { part: 5 });
     }
-    if let Some(part) = failing_search(alloc, &shape, limits, entry.verdict, &entry.evidence)? {
+    if let Some(part) = failing_search(rt, alloc, &shape, limits, entry.verdict, &entry.evidence)? {
         return Ok(EntryAnswer::Invalid { part });
     }
-    if !triples_hold(alloc, &shape, limits, entry.verdict, &entry.evidence)? {
+    if !triples_hold(rt, alloc, &shape, limits, entry.verdict, &entry.evidence)? {
         return Ok(EntryAnswer::Invalid { part: 9 });
     }
     Ok(EntryAnswer::Valid)

@@ -14,6 +14,7 @@ use heesch_io::NoMemory;
 use heesch_rup::is_spent;
 use heesch_shape::Shape;
 use std::alloc::Global;
+use std::thread::Threads;
 
 /// The corona formula of a level, where it has no more literals than the limits allow.
 #[derive(Drop)]
@@ -59,8 +60,9 @@ pub(crate) fn level_formula<G: Grid>(
 
 impl<G: Grid> LevelFormula<G> {
     /// Whether the proof refutes the formula, and its cuts are lawful.
-    pub(crate) fn is_refuted_by(
+    pub(crate) fn is_refuted_by<R: Threads + Sync>(
         &self,
+        rt: &R,
         alloc: Global,
         shape: &Shape<G>,
         proof: &Proof,
@@ -76,12 +78,13 @@ impl<G: Grid> LevelFormula<G> {
         let Some(log) = lawful_log(alloc, shape, &encoded.universe, proof)? else {
             return Ok(false);
         };
-        is_refuted(alloc, &encoded.formula, &log)
+        is_refuted(rt, alloc, &encoded.formula, &log)
     }
 
     /// Whether the proof is spent for the limit on turns over the formula, and its cuts are lawful.
-    pub(crate) fn is_spent_by(
+    pub(crate) fn is_spent_by<R: Threads + Sync>(
         &self,
+        rt: &R,
         alloc: Global,
         shape: &Shape<G>,
         proof: &Proof,
@@ -97,7 +100,7 @@ impl<G: Grid> LevelFormula<G> {
         let Some(log) = lawful_log(alloc, shape, &encoded.universe, proof)? else {
             return Ok(false);
         };
-        is_spent(alloc, &encoded.formula, &log, self.limits.turns)
+        is_spent(rt, alloc, &encoded.formula, &log, self.limits.turns)
     }
 
     /// Whether the formula has more literals than the limits allow.

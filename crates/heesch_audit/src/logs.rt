@@ -16,6 +16,7 @@ use heesch_place::Universe;
 use heesch_rup::{LogAnswer, Steps, check_steps, is_spent};
 use heesch_shape::Shape;
 use std::alloc::Global;
+use std::thread::Threads;
 
 /// Whether no step of the proof is a cut.
 pub(crate) fn has_no_cut(proof: &Proof) -> bool
@@ -93,14 +94,15 @@ pub(crate) fn lawful_log<'a, G: Grid>(
 }
 
 /// Whether the log refutes the formula.
-pub(crate) fn is_refuted(
+pub(crate) fn is_refuted<R: Threads + Sync>(
+    rt: &R,
     alloc: Global,
     formula: &FlatFormula,
     log: &ProofLog<'_>,
 ) -> Result<bool, NoMemory>
     ensures { IfOk result (λ yes. IsTrue yes ↔ Refutes formula.now.vars formula.now.clauses log.now) }
 {
-    match check_steps(alloc, formula, log)? {
+    match check_steps(rt, alloc, formula, log)? {
         LogAnswer::Refuted => Ok(true),
         LogAnswer::Open => Ok(false),
         LogAnswer::BadLine { .. } => Ok(false),
@@ -108,7 +110,8 @@ pub(crate) fn is_refuted(
 }
 
 /// Whether the log refutes the formula, or is spent for so many turns over it. It is checked once.
-pub(crate) fn is_ended(
+pub(crate) fn is_ended<R: Threads + Sync>(
+    rt: &R,
     alloc: Global,
     formula: &FlatFormula,
     log: &ProofLog<'_>,
@@ -117,7 +120,7 @@ pub(crate) fn is_ended(
     ensures { IfOk result (λ yes. IsTrue yes ↔ (Refutes formula.now.vars formula.now.clauses log.now ⊎ IsSpent formula.now.vars formula.now.clauses turns log.now)) }
 {
     match log.last() {
-        Some(_) => is_refuted(alloc, formula, log),
-        None => is_spent(alloc, formula, log, turns),
+        Some(_) => is_refuted(rt, alloc, formula, log),
+        None => is_spent(rt, alloc, formula, log, turns),
     }
 }

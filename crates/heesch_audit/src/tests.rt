@@ -15,6 +15,7 @@ use heesch_lattice::Triple;
 use std::alloc::{AllocError, Global};
 use std::process::Abort;
 use std::test::Fail;
+use std::thread::Threads;
 
 const LIMITS: Limits = Limits {
     turns: 20_000,
@@ -85,8 +86,8 @@ fn isos(alloc: Global, tiles: &[(u32, i32, i32)]) -> Result<Isos, Fail> {
 }
 
 /// Asserts that the audit of the entry answers this: 0 for valid, else the part.
-fn expect<G: Grid>(
-    rt: &impl Abort,
+fn expect<G: Grid, R: Abort + Threads + Sync>(
+    rt: &R,
     alloc: Global,
     entry: &Entry,
     limits: Limits,
@@ -94,7 +95,7 @@ fn expect<G: Grid>(
 ) -> Result<(), Fail> {
     assert!(rt; limits.valid());
     assert!(rt; is_near(entry));
-    let answer = audit::<G>(alloc, entry, limits)?;
+    let answer = audit::<G, R>(rt, alloc, entry, limits)?;
     let expected = if part == 0 {
         EntryAnswer::Valid
     } else {
@@ -149,25 +150,25 @@ fn tilings(rt: HostRuntime) -> Result<(), Fail> {
     let places = [(0, 0, 0), (3, 0, 0)];
     let members = [(1, 0, 0, 0), (1, 1, 0, -1)];
     let entry = tiled(alloc, &TRIANGLE, UNIT, verdict, &places, &members)?;
-    expect::<Iamond>(&rt, alloc, &entry, LIMITS, 0)?;
+    expect::<Iamond, _>(&rt, alloc, &entry, LIMITS, 0)?;
     // The limit on domains doesn't admit it.
-    expect::<Iamond>(&rt, alloc, &entry, LEAST, 2)?;
+    expect::<Iamond, _>(&rt, alloc, &entry, LEAST, 2)?;
     let entry = tiled(alloc, &TRIANGLE, UNIT, verdict, &places[..1], &members[..1])?;
-    expect::<Iamond>(&rt, alloc, &entry, LIMITS, 2)?;
+    expect::<Iamond, _>(&rt, alloc, &entry, LIMITS, 2)?;
     let periodic = Verdict::Tiles {
         kind: Kind::Periodic,
         domain: 2,
         classes: 1,
     };
     let entry = tiled(alloc, &TRIANGLE, UNIT, periodic, &places, &members)?;
-    expect::<Iamond>(&rt, alloc, &entry, LIMITS, 2)?;
+    expect::<Iamond, _>(&rt, alloc, &entry, LIMITS, 2)?;
     let two = Verdict::Tiles {
         kind: Kind::HalfTurn,
         domain: 2,
         classes: 2,
     };
     let entry = tiled(alloc, &TRIANGLE, UNIT, two, &places, &members)?;
-    expect::<Iamond>(&rt, alloc, &entry, LIMITS, 4)?;
+    expect::<Iamond, _>(&rt, alloc, &entry, LIMITS, 4)?;
     let entry = tiled(
         alloc,
         &TRIANGLE,
@@ -176,7 +177,7 @@ fn tilings(rt: HostRuntime) -> Result<(), Fail> {
         &places,
         &[(1, 0, 0, 0), (2, 0, 0, 0)],
     )?;
-    expect::<Iamond>(&rt, alloc, &entry, LIMITS, 4)?;
+    expect::<Iamond, _>(&rt, alloc, &entry, LIMITS, 4)?;
     // A symmetry too, but not of the least turn; and a turn that there isn't.
     let entry = tiled(
         alloc,
@@ -186,7 +187,7 @@ fn tilings(rt: HostRuntime) -> Result<(), Fail> {
         &places,
         &[(1, 0, 0, 0), (1, 3, 0, 0)],
     )?;
-    expect::<Iamond>(&rt, alloc, &entry, LIMITS, 4)?;
+    expect::<Iamond, _>(&rt, alloc, &entry, LIMITS, 4)?;
     let entry = tiled(
         alloc,
         &TRIANGLE,
@@ -195,17 +196,17 @@ fn tilings(rt: HostRuntime) -> Result<(), Fail> {
         &places,
         &[(1, 0, 0, 0), (1, 12, 0, 0)],
     )?;
-    expect::<Iamond>(&rt, alloc, &entry, LIMITS, 4)?;
+    expect::<Iamond, _>(&rt, alloc, &entry, LIMITS, 4)?;
     // Not the grid's cell.
-    expect::<Square>(&rt, alloc, &entry, LIMITS, 1)?;
+    expect::<Square, _>(&rt, alloc, &entry, LIMITS, 1)?;
     // No cover, since a tile meets the other; and a turn that there isn't.
     let area = Triple { p: 14, q: 1, s: 0 };
     let places = [(0, 0, 0), (1, 0, 0)];
     let entry = tiled(alloc, &HEPTOMINO, area, periodic, &places, &members)?;
-    expect::<Square>(&rt, alloc, &entry, LIMITS, 3)?;
+    expect::<Square, _>(&rt, alloc, &entry, LIMITS, 3)?;
     let places = [(0, 0, 0), (8, 0, 0)];
     let entry = tiled(alloc, &HEPTOMINO, area, periodic, &places, &members)?;
-    expect::<Square>(&rt, alloc, &entry, LIMITS, 3)?;
+    expect::<Square, _>(&rt, alloc, &entry, LIMITS, 3)?;
     Ok(())
 }
 
@@ -240,34 +241,34 @@ fn coronas(rt: HostRuntime) -> Result<(), Fail> {
     let alloc = rt.alloc();
     let levels = Verdict::Levels { h: 1 };
     let entry = searched(alloc, levels, &[&LAYER], Wall::Absent)?;
-    expect::<Iamond>(&rt, alloc, &entry, LEAST, 0)?;
-    expect::<Iamond>(&rt, alloc, &entry, TIGHT, 0)?;
+    expect::<Iamond, _>(&rt, alloc, &entry, LEAST, 0)?;
+    expect::<Iamond, _>(&rt, alloc, &entry, TIGHT, 0)?;
     // The plain tiling is sought anew.
-    expect::<Iamond>(&rt, alloc, &entry, Limits { domain: 2, ..LEAST }, 2)?;
-    expect::<Iamond>(&rt, alloc, &entry, Limits { levels: 2, ..LEAST }, 2)?;
+    expect::<Iamond, _>(&rt, alloc, &entry, Limits { domain: 2, ..LEAST }, 2)?;
+    expect::<Iamond, _>(&rt, alloc, &entry, Limits { levels: 2, ..LEAST }, 2)?;
     let entry = searched(alloc, levels, &[&LAYER[..11]], Wall::Absent)?;
-    expect::<Iamond>(&rt, alloc, &entry, LEAST, 5)?;
+    expect::<Iamond, _>(&rt, alloc, &entry, LEAST, 5)?;
     let entry = searched(alloc, levels, &[&LAYER, &LAYER], Wall::Absent)?;
-    expect::<Iamond>(&rt, alloc, &entry, LEAST, 5)?;
+    expect::<Iamond, _>(&rt, alloc, &entry, LEAST, 5)?;
     // The first two in the other order, the first by a greater turn, and by none of the grid's.
     let mut layer = LAYER;
     layer.swap(0, 1);
     let entry = searched(alloc, levels, &[&layer], Wall::Absent)?;
-    expect::<Iamond>(&rt, alloc, &entry, LEAST, 5)?;
+    expect::<Iamond, _>(&rt, alloc, &entry, LEAST, 5)?;
     let mut layer = LAYER;
     layer[5] = (2, -1, 0);
     let entry = searched(alloc, levels, &[&layer], Wall::Absent)?;
-    expect::<Iamond>(&rt, alloc, &entry, LEAST, 5)?;
+    expect::<Iamond, _>(&rt, alloc, &entry, LEAST, 5)?;
     layer[5] = (12, -1, 0);
     let entry = searched(alloc, levels, &[&layer], Wall::Absent)?;
-    expect::<Iamond>(&rt, alloc, &entry, LEAST, 5)?;
+    expect::<Iamond, _>(&rt, alloc, &entry, LEAST, 5)?;
     let phase = Phase::Free;
     let size = Verdict::Size { h: 0, phase, at: 1 };
     let entry = searched(alloc, size, &[], Wall::Size)?;
-    expect::<Iamond>(&rt, alloc, &entry, TIGHT, 0)?;
-    expect::<Iamond>(&rt, alloc, &entry, LEAST, 6)?;
+    expect::<Iamond, _>(&rt, alloc, &entry, TIGHT, 0)?;
+    expect::<Iamond, _>(&rt, alloc, &entry, LEAST, 6)?;
     let entry = searched(alloc, size, &[], Wall::Absent)?;
-    expect::<Iamond>(&rt, alloc, &entry, TIGHT, 2)?;
+    expect::<Iamond, _>(&rt, alloc, &entry, TIGHT, 2)?;
     Ok(())
 }
 
@@ -316,34 +317,34 @@ fn refutations(rt: HostRuntime) -> Result<(), Fail> {
     let alloc = rt.alloc();
     let heesch = Verdict::Heesch { h: 0, m: 1 };
     let entry = refuted(alloc, heesch, proof(alloc, 0, 1, &[9])?, Bare::Same)?;
-    expect::<Square>(&rt, alloc, &entry, LIMITS, 0)?;
+    expect::<Square, _>(&rt, alloc, &entry, LIMITS, 0)?;
     let entry = refuted(alloc, heesch, proof(alloc, 0, 1, &[8])?, Bare::Same)?;
-    expect::<Square>(&rt, alloc, &entry, LIMITS, 6)?;
+    expect::<Square, _>(&rt, alloc, &entry, LIMITS, 6)?;
     let entry = refuted(
         alloc,
         Verdict::Heesch { h: 0, m: 2 },
         proof(alloc, 0, 1, &[9])?,
         Bare::Same,
     )?;
-    expect::<Square>(&rt, alloc, &entry, LIMITS, 2)?;
+    expect::<Square, _>(&rt, alloc, &entry, LIMITS, 2)?;
     let entry = refuted(alloc, heesch, proof(alloc, 1, 1, &[9])?, Bare::Same)?;
-    expect::<Square>(&rt, alloc, &entry, LIMITS, 8)?;
+    expect::<Square, _>(&rt, alloc, &entry, LIMITS, 8)?;
     let bare = Bare::Refuted {
         proof: proof(alloc, 0, 1, &[9])?,
     };
     let entry = refuted(alloc, heesch, proof(alloc, 1, 1, &[9])?, bare)?;
-    expect::<Square>(&rt, alloc, &entry, LIMITS, 0)?;
-    expect::<Square>(&rt, alloc, &entry, Limits { size: 1, ..LIMITS }, 6)?;
+    expect::<Square, _>(&rt, alloc, &entry, LIMITS, 0)?;
+    expect::<Square, _>(&rt, alloc, &entry, Limits { size: 1, ..LIMITS }, 6)?;
     let bare = Bare::Refuted {
         proof: proof(alloc, 1, 1, &[9])?,
     };
     let entry = refuted(alloc, heesch, proof(alloc, 1, 1, &[9])?, bare)?;
-    expect::<Square>(&rt, alloc, &entry, LIMITS, 8)?;
+    expect::<Square, _>(&rt, alloc, &entry, LIMITS, 8)?;
     let bare = Bare::Refuted {
         proof: proof(alloc, 0, 1, &[9])?,
     };
     let entry = refuted(alloc, heesch, proof(alloc, 1, 0, &[9])?, bare)?;
-    expect::<Square>(&rt, alloc, &entry, LIMITS, 6)?;
+    expect::<Square, _>(&rt, alloc, &entry, LIMITS, 6)?;
     Ok(())
 }
 
@@ -377,13 +378,18 @@ fn clauses_of_heptomino(rt: &impl Abort, alloc: Global) -> Result<u32, Fail>
 }
 
 /// Asserts what the audit answers where the final line of those steps has this hint.
-fn expect_final(rt: &impl Abort, alloc: Global, hint: u32, part: u32) -> Result<(), Fail> {
+fn expect_final<R: Abort + Threads + Sync>(
+    rt: &R,
+    alloc: Global,
+    hint: u32,
+    part: u32,
+) -> Result<(), Fail> {
     let heesch = Verdict::Heesch { h: 0, m: 1 };
     let bare = Bare::Refuted {
         proof: proof(alloc, 0, 1, &[9])?,
     };
     let entry = refuted(alloc, heesch, learnt_and_cuts(alloc, hint)?, bare)?;
-    expect::<Square>(rt, alloc, &entry, LIMITS, part)
+    expect::<Square, _>(rt, alloc, &entry, LIMITS, part)
 }
 
 /// The steps count on from the formula's clauses: the first is learnt, and the clauses of the cuts are empty, since no tile

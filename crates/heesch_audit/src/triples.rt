@@ -16,6 +16,7 @@ use heesch_lattice::Triple;
 use heesch_shape::Shape;
 use heesch_torus::{torus_formula, triples_up_to};
 use std::alloc::Global;
+use std::thread::Threads;
 
 /// Whether the verdict leaves open whether the shape tiles.
 fn is_undecided(verdict: Verdict) -> bool
@@ -46,7 +47,8 @@ fn are_triples_of(written: &[TripleProof], all: &[Triple]) -> bool
 }
 
 /// Whether the proof has no cut, and refutes the torus formula of its triple or is spent for so many turns over it.
-fn is_settled<G: Grid>(
+fn is_settled<G: Grid, R: Threads + Sync>(
+    rt: &R,
     alloc: Global,
     shape: &Shape<G>,
     turns: u32,
@@ -60,11 +62,12 @@ fn is_settled<G: Grid>(
         return Ok(false);
     };
     let formula = torus_formula(alloc, shape, written.triple)?;
-    is_ended(alloc, &formula, &log, turns)
+    is_ended(rt, alloc, &formula, &log, turns)
 }
 
 /// Whether each triple is so settled.
-fn are_settled<G: Grid>(
+fn are_settled<G: Grid, R: Threads + Sync>(
+    rt: &R,
     alloc: Global,
     shape: &Shape<G>,
     turns: u32,
@@ -75,7 +78,7 @@ fn are_settled<G: Grid>(
     ensures { IfOk result (λ yes. IsTrue yes ↔ All (λ (x : Written). SettlesTriple G.geometry shape.now turns x.triple x.proof) written.now) }
 {
     for triple in written {
-        if !is_settled(alloc, shape, turns, triple)? {
+        if !is_settled(rt, alloc, shape, turns, triple)? {
             return Ok(false);
         }
     }
@@ -84,7 +87,8 @@ fn are_settled<G: Grid>(
 
 /// Whether for an undecided verdict all triples of the domains from 2 to the limit are written, in order, each settled, and for
 /// any other none.
-pub(crate) fn triples_hold<G: Grid>(
+pub(crate) fn triples_hold<G: Grid, R: Threads + Sync>(
+    rt: &R,
     alloc: Global,
     shape: &Shape<G>,
     limits: Limits,
@@ -110,5 +114,5 @@ pub(crate) fn triples_hold<G: Grid>(
     if !are_triples_of(written.as_slice(), all.as_slice()) {
         return Ok(false);
     }
-    are_settled(alloc, shape, limits.turns, written.as_slice())
+    are_settled(rt, alloc, shape, limits.turns, written.as_slice())
 }

@@ -17,6 +17,7 @@ use heesch_grid::Grid;
 use heesch_io::NoMemory;
 use heesch_shape::Shape;
 use std::alloc::Global;
+use std::thread::Threads;
 
 /// The number of hole-free coronas of a verdict; a tiling has none.
 pub(crate) fn first_number(verdict: Verdict) -> u32
@@ -45,7 +46,8 @@ fn last_number(verdict: Verdict) -> u32
 }
 
 /// Whether the search for one corona more ended as is written.
-fn wall_shows<G: Grid>(
+fn wall_shows<G: Grid, R: Threads + Sync>(
+    rt: &R,
     alloc: Global,
     shape: &Shape<G>,
     formula: &LevelFormula<G>,
@@ -58,8 +60,8 @@ fn wall_shows<G: Grid>(
 {
     match wall {
         Wall::Absent => Ok(true),
-        Wall::Refuted { proof } => formula.is_refuted_by(alloc, shape, proof),
-        Wall::Spent { proof } => formula.is_spent_by(alloc, shape, proof),
+        Wall::Refuted { proof } => formula.is_refuted_by(rt, alloc, shape, proof),
+        Wall::Spent { proof } => formula.is_spent_by(rt, alloc, shape, proof),
         Wall::Size => Ok(formula.is_too_large(shape)),
     }
 }
@@ -82,7 +84,8 @@ fn fits_same(wall: &Wall, bare: &Bare) -> bool
 }
 
 /// Whether the search with holes allowed ended as is written, over the formula of its level. Its proofs have no cut.
-fn bare_shows<G: Grid>(
+fn bare_shows<G: Grid, R: Threads + Sync>(
+    rt: &R,
     alloc: Global,
     shape: &Shape<G>,
     formula: &LevelFormula<G>,
@@ -101,13 +104,13 @@ fn bare_shows<G: Grid>(
             if !has_no_cut(proof) {
                 return Ok(false);
             }
-            formula.is_refuted_by(alloc, shape, proof)
+            formula.is_refuted_by(rt, alloc, shape, proof)
         }
         Bare::Spent { proof } => {
             if !has_no_cut(proof) {
                 return Ok(false);
             }
-            formula.is_spent_by(alloc, shape, proof)
+            formula.is_spent_by(rt, alloc, shape, proof)
         }
         Bare::Size => Ok(formula.is_too_large(shape)),
     }
@@ -124,7 +127,8 @@ fn asks_formula(bare: &Bare) -> bool
 }
 
 /// Whether the search with holes allowed ended at level m as is written. The formula of another level, or of m, is at hand.
-fn bare_shows_at<G: Grid>(
+fn bare_shows_at<G: Grid, R: Threads + Sync>(
+    rt: &R,
     alloc: Global,
     shape: &Shape<G>,
     at_hand: LevelFormula<G>,
@@ -143,12 +147,13 @@ fn bare_shows_at<G: Grid>(
     }
     let limits = at_hand.limits;
     let formula = level_formula(alloc, shape, limits, m, Some(at_hand))?;
-    bare_shows(alloc, shape, &formula, bare)
+    bare_shows(rt, alloc, shape, &formula, bare)
 }
 
 /// Whether the search with holes allowed ended at level m as is written, and is the same as that with holes forbidden
 /// exactly where a refutation has no cut.
-fn bare_holds<G: Grid>(
+fn bare_holds<G: Grid, R: Threads + Sync>(
+    rt: &R,
     alloc: Global,
     shape: &Shape<G>,
     at_hand: LevelFormula<G>,
@@ -166,12 +171,13 @@ fn bare_holds<G: Grid>(
     if !fits_same(wall, bare) {
         return Ok(false);
     }
-    bare_shows_at(alloc, shape, at_hand, m, bare)
+    bare_shows_at(rt, alloc, shape, at_hand, m, bare)
 }
 
 /// The first of the parts 6 to 8 that fails, the form being right: the wall, the open coronas, the search behind the wall.
 /// The formula of the wall serves for the search behind it, where they are of one level.
-pub(crate) fn failing_search<G: Grid>(
+pub(crate) fn failing_search<G: Grid, R: Threads + Sync>(
+    rt: &R,
     alloc: Global,
     shape: &Shape<G>,
     limits: Limits,
@@ -197,13 +203,13 @@ pub(crate) fn failing_search<G: Grid>(
         return Ok(None);
     }
     let formula = level_formula(alloc, shape, limits, first_number(verdict) + 1, None)?;
-    if !wall_shows(alloc, shape, &formula, wall)? {
+    if !wall_shows(rt, alloc, shape, &formula, wall)? {
         return Ok(Some(6));
     }
     if !is_open(alloc, shape, wider)? {
         return Ok(Some(7));
     }
-    if !bare_holds(alloc, shape, formula, last_number(verdict), wall, bare)? {
+    if !bare_holds(rt, alloc, shape, formula, last_number(verdict), wall, bare)? {
         return Ok(Some(8));
     }
     Ok(None)

@@ -87,7 +87,12 @@ impl<G: Grid + Send + Sync> Judge<G> {
     }
 
     /// Judges an entry, which is audited once.
-    fn judge_entry(&mut self, alloc: Global, entry: &Entry) -> Result<Option<Checked>, NoMemory>
+    fn judge_entry<T: Threads + Sync>(
+        &mut self,
+        rt: &T,
+        alloc: Global,
+        entry: &Entry,
+    ) -> Result<Option<Checked>, NoMemory>
         requires grid { geometry_of self.old.header.grid ≡ G.geometry }
         requires shapes { HasShapes self.old.header self.old.header.subject self.old.shapes }
         requires limits { AreLimits self.old.header.limits }
@@ -99,7 +104,7 @@ impl<G: Grid + Send + Sync> Judge<G> {
         if !self.is_in_place(self.entries, entry.cells.as_slice()) {
             return Ok(Some(self.next_is_invalid()));
         }
-        match audit::<G>(alloc, entry, self.header.limits)? {
+        match audit::<G, T>(rt, alloc, entry, self.header.limits)? {
             EntryAnswer::Invalid { part: _ } => Ok(Some(self.next_is_invalid())),
             EntryAnswer::Valid => {
                 self.entries += 1;
@@ -120,7 +125,12 @@ impl<G: Grid + Send + Sync> Judge<G> {
     }
 
     /// Judges an item behind those so far: the answer where it is at fault.
-    fn judge(&mut self, alloc: Global, item: &Item) -> Result<Option<Checked>, NoMemory>
+    fn judge<T: Threads + Sync>(
+        &mut self,
+        rt: &T,
+        alloc: Global,
+        item: &Item,
+    ) -> Result<Option<Checked>, NoMemory>
         requires grid { geometry_of self.old.header.grid ≡ G.geometry }
         requires shapes { HasShapes self.old.header self.old.header.subject self.old.shapes }
         requires limits { AreLimits self.old.header.limits }
@@ -130,7 +140,7 @@ impl<G: Grid + Send + Sync> Judge<G> {
     {
         match item {
             Item::Header { header: _ } => Ok(Some(Checked::InvalidEnd)),
-            Item::Entry { line: _, entry } => self.judge_entry(alloc, entry),
+            Item::Entry { line: _, entry } => self.judge_entry(rt, alloc, entry),
             Item::Brief { .. } => Ok(Some(self.next_is_invalid())),
             Item::End { count: _ } => Ok(self.judge_end()),
         }
@@ -183,11 +193,16 @@ impl<G: Grid + Send + Sync> Judge<G> {
         if good < audits.len() {
             return Ok(Some(self.next_is_invalid()));
         }
-        self.judge_each(alloc, &items[good..])
+        self.judge_each(rt, alloc, &items[good..])
     }
 
     /// Judges items one after the other, up to the first at fault, and gives its answer.
-    fn judge_each(&mut self, alloc: Global, items: &[Item]) -> Result<Option<Checked>, NoMemory>
+    fn judge_each<T: Threads + Sync>(
+        &mut self,
+        rt: &T,
+        alloc: Global,
+        items: &[Item],
+    ) -> Result<Option<Checked>, NoMemory>
         requires grid { geometry_of self.old.header.grid ≡ G.geometry }
         requires shapes { HasShapes self.old.header self.old.header.subject self.old.shapes }
         requires limits { AreLimits self.old.header.limits }
@@ -196,7 +211,7 @@ impl<G: Grid + Send + Sync> Judge<G> {
         ensures kept { self.new ≡ record self.old { entries = self.new.entries } }
     {
         for item in items {
-            let answer = self.judge(alloc, item)?;
+            let answer = self.judge(rt, alloc, item)?;
             if answer.is_some() {
                 return Ok(answer);
             }

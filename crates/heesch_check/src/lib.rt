@@ -3,6 +3,7 @@
 
 mod answers;
 mod checking;
+mod handle;
 mod judging;
 pub mod laws;
 mod reading;

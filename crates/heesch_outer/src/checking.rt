@@ -15,6 +15,7 @@ use heesch_cert::{Bare, Entry, Evidence, Isos, Limits, Proof, Step, Verdict, Wal
 use heesch_grid::{Cell, Grid};
 use heesch_io::NoMemory;
 use std::alloc::Global;
+use std::thread::Threads;
 
 /// Whether each cut of the proof has level at most h.
 fn has_cuts_up_to(proof: &Proof, h: usize) -> bool
@@ -59,7 +60,8 @@ fn is_same_by(answer: &OuterAnswer, wall: &Proof) -> bool
 }
 
 /// Whether the proof is outer for the number of the layers, and refutes.
-fn refutes_outer<G: Grid>(
+fn refutes_outer<G: Grid, T: Threads + Sync>(
+    rt: &T,
     alloc: Global,
     cells: &[Cell],
     free: &[Isos],
@@ -74,11 +76,12 @@ fn refutes_outer<G: Grid>(
     if !has_cuts_up_to(proof, free.len()) {
         return Ok(false);
     }
-    is_refuted::<G>(alloc, cells, free, proof, limits)
+    is_refuted::<G, T>(rt, alloc, cells, free, proof, limits)
 }
 
 /// Whether the proof is outer for the number of the layers, and spent.
-fn is_spent_outer<G: Grid>(
+fn is_spent_outer<G: Grid, T: Threads + Sync>(
+    rt: &T,
     alloc: Global,
     cells: &[Cell],
     free: &[Isos],
@@ -93,11 +96,12 @@ fn is_spent_outer<G: Grid>(
     if !has_cuts_up_to(proof, free.len()) {
         return Ok(false);
     }
-    is_spent::<G>(alloc, cells, free, proof, limits)
+    is_spent::<G, T>(rt, alloc, cells, free, proof, limits)
 }
 
 /// Whether a search of its own may end with the answer, behind layers that were found and a wall that the proof refutes.
-fn is_searched<G: Grid>(
+fn is_searched<G: Grid, T: Threads + Sync>(
+    rt: &T,
     alloc: Global,
     cells: &[Cell],
     free: &[Isos],
@@ -113,9 +117,13 @@ fn is_searched<G: Grid>(
 {
     match answer {
         OuterAnswer::Tiles | OuterAnswer::Unknown => Ok(false),
-        OuterAnswer::More { layers } => are_outer::<G>(alloc, cells, free, wall, layers, limits),
-        OuterAnswer::Same { proof } => refutes_outer::<G>(alloc, cells, free, proof, limits),
-        OuterAnswer::Spent { proof } => is_spent_outer::<G>(alloc, cells, free, proof, limits),
+        OuterAnswer::More { layers } => are_outer::<G, T>(
+            rt, alloc, cells, free, wall, layers, limits,
+        ),
+        OuterAnswer::Same { proof } => refutes_outer::<G, T>(rt, alloc, cells, free, proof, limits),
+        OuterAnswer::Spent { proof } => is_spent_outer::<G, T>(
+            rt, alloc, cells, free, proof, limits,
+        ),
     }
 }
 
@@ -129,7 +137,8 @@ fn is_searched<G: Grid>(
 ///
 /// Proofs and layers are copied, and looked at as parts of an entry by `audit`, which has its cost; for More it checks the
 /// wall's proof once more.
-pub fn check_outer<G: Grid>(
+pub fn check_outer<G: Grid, T: Threads + Sync>(
+    rt: &T,
     alloc: Global,
     entry: &Entry,
     answer: &OuterAnswer,
@@ -158,7 +167,8 @@ pub fn check_outer<G: Grid>(
     if let Bare::Same = bare {
         return Ok(is_same_by(answer, proof));
     }
-    is_searched::<G>(
+    is_searched::<G, T>(
+        rt,
         alloc,
         entry.cells.as_slice(),
         free.layers.as_slice(),

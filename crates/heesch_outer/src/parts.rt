@@ -16,9 +16,11 @@ use heesch_cert::{Bare, Entry, Evidence, Isos, Layers, Limits, Phase, Proof, Ver
 use heesch_grid::{Cell, Grid};
 use heesch_io::{NoMemory, Seq};
 use std::alloc::Global;
+use std::thread::Threads;
 
 /// Whether a part of the entry holds, where those before it do.
-fn part_holds<G: Grid>(
+fn part_holds<G: Grid, T: Threads + Sync>(
+    rt: &T,
     alloc: Global,
     entry: &Entry,
     limits: Limits,
@@ -29,7 +31,7 @@ fn part_holds<G: Grid>(
     requires before { (k : ℕ) → k < part → PartHolds G.geometry limits entry.now k }
     ensures { IfOk result (λ yes. IsTrue yes ↔ PartHolds G.geometry limits entry.now part) }
 {
-    match audit::<G>(alloc, entry, limits)? {
+    match audit::<G, T>(rt, alloc, entry, limits)? {
         EntryAnswer::Valid => Ok(true),
         EntryAnswer::Invalid { part: failing } => Ok(failing != part),
     }
@@ -151,7 +153,8 @@ fn free_entry(alloc: Global, cells: &[Cell], free: &[Isos]) -> Result<Entry, NoM
 }
 
 /// Whether the proof refutes the corona formula of the level after the layers, and its cuts are lawful.
-pub(crate) fn is_refuted<G: Grid>(
+pub(crate) fn is_refuted<G: Grid, T: Threads + Sync>(
+    rt: &T,
     alloc: Global,
     cells: &[Cell],
     free: &[Isos],
@@ -164,11 +167,12 @@ pub(crate) fn is_refuted<G: Grid>(
     ensures { IfOk result (λ yes. IsTrue yes ↔ RefutesCoronas limits.version G.geometry cells.now (length free.now + 1) limits.size proof.now) }
 {
     let entry = refuted_entry(alloc, cells, free, proof)?;
-    part_holds::<G>(alloc, &entry, limits, 6)
+    part_holds::<G, T>(rt, alloc, &entry, limits, 6)
 }
 
 /// Whether the proof is spent for the limit on turns over that formula, and its cuts are lawful.
-pub(crate) fn is_spent<G: Grid>(
+pub(crate) fn is_spent<G: Grid, T: Threads + Sync>(
+    rt: &T,
     alloc: Global,
     cells: &[Cell],
     free: &[Isos],
@@ -181,11 +185,12 @@ pub(crate) fn is_spent<G: Grid>(
     ensures { IfOk result (λ yes. IsTrue yes ↔ IsSpentOnCoronas limits.version G.geometry cells.now (length free.now + 1) limits.turns limits.size proof.now) }
 {
     let entry = spent_entry(alloc, cells, free, proof)?;
-    part_holds::<G>(alloc, &entry, limits, 6)
+    part_holds::<G, T>(rt, alloc, &entry, limits, 6)
 }
 
 /// Whether the layers without the outermost are hole-free coronas.
-fn is_inner_free<G: Grid>(
+fn is_inner_free<G: Grid, T: Threads + Sync>(
+    rt: &T,
     alloc: Global,
     cells: &[Cell],
     inner: &[Isos],
@@ -202,11 +207,18 @@ fn is_inner_free<G: Grid>(
         return Ok(true);
     }
     let entry = free_entry(alloc, cells, inner)?;
-    part_holds::<G>(alloc, &entry, with_levels(limits, inner.len() as u32), 5)
+    part_holds::<G, T>(
+        rt,
+        alloc,
+        &entry,
+        with_levels(limits, inner.len() as u32),
+        5,
+    )
 }
 
 /// Whether the layers are coronas, holes allowed, one more than were found hole-free, behind a wall that the proof refutes.
-fn is_wider<G: Grid>(
+fn is_wider<G: Grid, T: Threads + Sync>(
+    rt: &T,
     alloc: Global,
     cells: &[Cell],
     free: &[Isos],
@@ -222,11 +234,18 @@ fn is_wider<G: Grid>(
     ensures { IfOk result (λ yes. IsTrue yes ↔ SpellCoronas G.geometry cells.now false layers.now) }
 {
     let entry = open_entry(alloc, cells, free, wall, layers)?;
-    part_holds::<G>(alloc, &entry, with_levels(limits, layers.len() as u32), 7)
+    part_holds::<G, T>(
+        rt,
+        alloc,
+        &entry,
+        with_levels(limits, layers.len() as u32),
+        7,
+    )
 }
 
 /// Whether the layers are outer coronas, one more than were found hole-free, behind a wall that the proof refutes.
-pub(crate) fn are_outer<G: Grid>(
+pub(crate) fn are_outer<G: Grid, T: Threads + Sync>(
+    rt: &T,
     alloc: Global,
     cells: &[Cell],
     free: &[Isos],
@@ -244,8 +263,8 @@ pub(crate) fn are_outer<G: Grid>(
     if layers.len() != free.len() + 1 {
         return Ok(false);
     }
-    if !is_inner_free::<G>(alloc, cells, &layers[..free.len()], limits)? {
+    if !is_inner_free::<G, T>(rt, alloc, cells, &layers[..free.len()], limits)? {
         return Ok(false);
     }
-    is_wider::<G>(alloc, cells, free, wall, layers, limits)
+    is_wider::<G, T>(rt, alloc, cells, free, wall, layers, limits)
 }

@@ -20,6 +20,7 @@ use heesch_levels::{LevelAnswer, WallAnswer, level, wall};
 use heesch_shape::{Shape, ShapeFault};
 use std::alloc::{AllocError, Global};
 use std::test::Fail;
+use std::thread::Threads;
 
 /// The limits under which nothing but one corona is sought.
 const LEAST: Limits = Limits {
@@ -88,7 +89,8 @@ fn canonical_of<G: Grid>(cells: &[Cell]) -> Result<Shape<G>, ShapeFault>
 }
 
 /// The answer for the entry, which has to be true, and whether the check accepts it and refuses the other one.
-fn checked_answer<G: Grid>(
+fn checked_answer<G: Grid, T: Threads + Sync>(
+    rt: &T,
     alloc: Global,
     entry: &Entry,
     other: &OuterAnswer,
@@ -99,12 +101,12 @@ fn checked_answer<G: Grid>(
     if !limits.valid() || !is_near(entry) {
         return Err(Fail::new("not near"));
     }
-    if audit::<G>(alloc, entry, limits)? != EntryAnswer::Valid {
+    if audit::<G, T>(rt, alloc, entry, limits)? != EntryAnswer::Valid {
         return Err(Fail::new("not true"));
     }
     let answer = outer::<G>(alloc, entry, limits)?;
-    let accepted = check_outer::<G>(alloc, entry, &answer, limits)?;
-    let refused = !check_outer::<G>(alloc, entry, other, limits)?;
+    let accepted = check_outer::<G, T>(rt, alloc, entry, &answer, limits)?;
+    let refused = !check_outer::<G, T>(rt, alloc, entry, other, limits)?;
     Ok((answer, accepted && refused))
 }
 
@@ -168,7 +170,13 @@ fn enclosed_cell(rt: HostRuntime) -> Result<(), Fail> {
         Bare::Same,
         None,
     )?;
-    let (answer, checked) = checked_answer::<Square>(alloc, &entry, &with_cut(alloc, 9)?, LEAST)?;
+    let (answer, checked) = checked_answer::<Square, _>(
+        &rt,
+        alloc,
+        &entry,
+        &with_cut(alloc, 9)?,
+        LEAST,
+    )?;
     assert!(rt; checked);
     match &answer {
         OuterAnswer::Same { proof } => {
@@ -204,7 +212,12 @@ fn free_layers<G: Grid>(alloc: Global, shape: &Shape<G>, h: u32) -> Result<Layer
 }
 
 /// How many outer coronas are found of a shape with Heesch number h that has h + 1 coronas with holes; fewer aren't accepted.
-fn count_outer<G: Grid>(alloc: Global, shape: &Shape<G>, h: u32) -> Result<usize, Fail>
+fn count_outer<G: Grid, T: Threads + Sync>(
+    rt: &T,
+    alloc: Global,
+    shape: &Shape<G>,
+    h: u32,
+) -> Result<usize, Fail>
     requires level { h ≤ 5 }
     requires canonical { IsCanonicalListOf G.geometry shape.now shape.now }
 {
@@ -235,7 +248,7 @@ fn count_outer<G: Grid>(alloc: Global, shape: &Shape<G>, h: u32) -> Result<usize
     let none = OuterAnswer::More {
         layers: no_layers(alloc),
     };
-    let (answer, checked) = checked_answer::<G>(alloc, &entry, &none, limits)?;
+    let (answer, checked) = checked_answer::<G, T>(rt, alloc, &entry, &none, limits)?;
     match answer {
         OuterAnswer::More { layers } if checked => Ok(layers.layers.len()),
         _ => Err(Fail::new("no outer coronas")),
@@ -246,7 +259,7 @@ fn count_outer<G: Grid>(alloc: Global, shape: &Shape<G>, h: u32) -> Result<usize
 #[test]
 fn surrounded_with_holes(rt: HostRuntime) -> Result<(), Fail> {
     let shape: Shape<Square> = canonical_of(&CROSSING)?;
-    assert_eq!(rt; count_outer(rt.alloc(), &shape, 0)?, 1);
+    assert_eq!(rt; count_outer(&rt, rt.alloc(), &shape, 0)?, 1);
     Ok(())
 }
 
@@ -254,7 +267,7 @@ fn surrounded_with_holes(rt: HostRuntime) -> Result<(), Fail> {
 #[test]
 fn surrounded_twice(rt: HostRuntime) -> Result<(), Fail> {
     let shape: Shape<Square> = canonical_of(&HOOKED)?;
-    assert_eq!(rt; count_outer(rt.alloc(), &shape, 1)?, 2);
+    assert_eq!(rt; count_outer(&rt, rt.alloc(), &shape, 1)?, 2);
     Ok(())
 }
 
@@ -278,7 +291,13 @@ fn unknown_number(rt: HostRuntime) -> Result<(), Fail> {
         Bare::Absent,
         None,
     )?;
-    let (answer, checked) = checked_answer::<Iamond>(alloc, &entry, &OuterAnswer::Tiles, limits)?;
+    let (answer, checked) = checked_answer::<Iamond, _>(
+        &rt,
+        alloc,
+        &entry,
+        &OuterAnswer::Tiles,
+        limits,
+    )?;
     assert!(rt; checked);
     match answer {
         OuterAnswer::Unknown => Ok(()),
@@ -316,7 +335,13 @@ fn square_that_tiles(rt: HostRuntime) -> Result<(), Fail> {
         },
         evidence: Evidence::Cover { tiling, classes },
     };
-    let (answer, checked) = checked_answer::<Square>(alloc, &entry, &OuterAnswer::Unknown, LEAST)?;
+    let (answer, checked) = checked_answer::<Square, _>(
+        &rt,
+        alloc,
+        &entry,
+        &OuterAnswer::Unknown,
+        LEAST,
+    )?;
     assert!(rt; checked);
     match answer {
         OuterAnswer::Tiles => Ok(()),

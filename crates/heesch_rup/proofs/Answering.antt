@@ -7,21 +7,23 @@ use Rattle.heesch_cnf.specs.declared.log.Line.TheVariants.{Given}
 use Rattle.heesch_cnf.specs.declared.log.Log.{Log}
 use Rattle.heesch_cnf.specs.Flat.{Clauses}
 use Rattle.heesch_cnf.specs.Lines.{IsShown, LineHolds, HoldsAtLine, LinesHold, LinesAreNew, HasFinal, Refutes, IsSpent, clause_of, clauses_of, clauses_with}
-use Rattle.heesch_rup.specs.Answer.{FailsAtLine, FinalFails, IsFirstBad}
+use Rattle.heesch_rup.specs.Answer.{AddsFirst, FailsAtLine, FinalFails, IsFirstBad, IsFirstFailing, IsFormless}
 use Rattle.heesch_rup.specs.Hints.{hints_of}
+use Rattle.heesch_rup.proofs.Forms.{added_all, before_line, line-form}
 
 -- whether the line of an index holds, by its clause and its hints
-pub holds_at : (vars : ℕ) (clauses : List (List Lit)) (lines : List Line) (i : ℕ) (added : Clauses) (clause : List Lit) (hints : Option (List ℕ)) (holds : Bool) → added ≡ record { vars = vars; clauses = clauses_of (take i lines) } →
+pub holds_among : (f added : Clauses) (lines : List Line) (i n : ℕ) (clause : List Lit) (hints : Option (List ℕ)) (holds : Bool) → AddsFirst f.vars lines added → i ≤ length added.clauses → n ≡ length f.clauses + i →
     ((d : Line) → clause ≡ clause_of (get_or lines i d)) → ((d : Line) → hints ≡ hints_of (get_or lines i d)) →
-    ((line : Line) → clause ≡ clause_of line → hints ≡ hints_of line → IsTrue holds ↔ LineHolds vars (clauses ++ added.clauses) line) →
-    (d : Line) → IsTrue holds ↔ LineHolds vars (clauses_with clauses (take i lines)) (get_or lines i d)
-holds_at vars clauses lines i added clause hints holds added_is clause_is hints_is judged d =
-    subst (λ (a : Clauses). IsTrue holds ↔ LineHolds vars (clauses ++ a.clauses) (get_or lines i d)) added_is (judged (get_or lines i d) (clause_is d) (hints_is d))
+    ((line : Line) → clause ≡ clause_of line → hints ≡ hints_of line → IsTrue holds ↔ LineHolds f.vars (take n (f.clauses ++ added.clauses)) line) →
+    (d : Line) → IsTrue holds ↔ LineHolds f.vars (clauses_with f.clauses (take i lines)) (get_or lines i d)
+holds_among f added lines i n clause hints holds first le n_is clause_is hints_is judged d =
+    subst (λ (cs : List (List Lit)). IsTrue holds ↔ LineHolds f.vars cs (get_or lines i d)) (before_line f added lines first i n le n_is) (judged (get_or lines i d) (clause_is d) (hints_is d))
 
 -- one line more holds
-pub hold_more : (vars : ℕ) (clauses : List (List Lit)) (lines : List Line) (i : ℕ) → ((k : ℕ) → k < i → HoldsAtLine vars clauses lines k) → HoldsAtLine vars clauses lines i → (k : ℕ) → k < i + 1 → HoldsAtLine vars clauses lines k
-hold_more vars clauses lines i before here k lt = elim (cases_lt k i) [
-  | inl less ↦ before k less
+pub hold_more : (vars : ℕ) (clauses : List (List Lit)) (lines : List Line) (from i : ℕ) → ((k : ℕ) → from ≤ k → k < i → HoldsAtLine vars clauses lines k) → HoldsAtLine vars clauses lines i →
+    (k : ℕ) → from ≤ k → k < i + 1 → HoldsAtLine vars clauses lines k
+hold_more vars clauses lines from i before here k le lt = elim (cases_lt k i) [
+  | inl less ↦ before k le less
   | inr past ↦ let same : i ≡ k = omega arith in subst (HoldsAtLine vars clauses lines) same here
 ]
 
@@ -35,6 +37,30 @@ first_bad vars clauses log i lt hold fails =
       before = λ k less. hold k (omega (arith, less));
       bad = inl (subst (FailsAtLine vars clauses log.lines) same (lt, fails));
     }
+
+-- what is known where the lines before the first that has no clause over the variables were checked
+module _ (f added : Clauses) (log : Log) (first : AddsFirst f.vars log.lines added) where
+  -- the first of them that fails is the first of all
+  pub bad_among : (at : ℕ) → IsFirstFailing f.vars f.clauses log.lines 0 (length added.clauses) (Some at) → IsFirstBad f.vars f.clauses log (at + 1)
+  bad_among at h = first_bad f.vars f.clauses log at h.3.0 (λ k lt. h.2 k (omega arith) lt) h.3.1
+
+  -- where all hold, the first without a clause is the first that fails
+  pub bad_form : IsFormless f.vars log.lines (length added.clauses) → length added.clauses < length log.lines → IsFirstFailing f.vars f.clauses log.lines 0 (length added.clauses) None → IsFirstBad f.vars f.clauses log (length added.clauses + 1)
+  bad_form formless lt hold =
+      first_bad f.vars f.clauses log (length added.clauses) lt (λ k less. hold k (omega arith) less) (λ d holds. formless lt d (line-form f.vars _ (get_or log.lines (length added.clauses) d) holds))
+
+  -- and where each has a clause, all hold and their clauses were added
+  pub all_hold : (length added.clauses < length log.lines → ⊥) → IsFirstFailing f.vars f.clauses log.lines 0 (length added.clauses) None → LinesHold f.vars f.clauses log.lines
+  all_hold whole hold i lt d = elim (cases_lt i (length added.clauses)) [
+    | inl less ↦ hold i (omega arith) less d
+    | inr past ↦ absurd (whole (omega arith))
+  ]
+
+  pub all_added : (length added.clauses < length log.lines → ⊥) → added ≡ record { vars = f.vars; clauses = clauses_of log.lines }
+  all_added whole = elim (cases_lt (length added.clauses) (length log.lines)) [
+    | inl less ↦ absurd (whole less)
+    | inr past ↦ added_all f.vars log.lines (length added.clauses) added past first.1
+  ]
 
 -- all lines hold, and so does the final line or it doesn't
 module _ (vars : ℕ) (clauses : List (List Lit)) (log : Log) (hold : LinesHold vars clauses log.lines) where

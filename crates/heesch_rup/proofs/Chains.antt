@@ -1,11 +1,9 @@
-use Rattle.std.proofs.Common.{inl, inr, ◌≡◌, ◌≢◌, ℕ, suc, ◌+◌, ◌*◌, ◌<◌, ◌≤◌, Bool, true, false, eqb, cond, Option, None, Some, List, [], ◌∷◌, ◌++◌, length, get_or, set, Decides, sym, ap, ◌∙◌, subst, refl, arith, get_or-set_same, get_or-set_other, length-append}
+use Rattle.std.proofs.Common.{inl, inr, ◌≡◌, ◌≢◌, ℕ, suc, ◌+◌, ◌<◌, ◌≤◌, Bool, true, false, eqb, Option, None, Some, List, [], ◌∷◌, ◌++◌, length, get_or, set, Decides, sym, ap, ◌∙◌, subst, refl, arith, get_or-set_same, get_or-set_other, length-append}
 use Rattle.std.proofs.lemmas.Bool.{cases_lt}
 use Rattle.std.proofs.lemmas.Bool.Decides.{Decides-eqb}
 use Rattle.std.proofs.lemmas.List.{get_or_append_left, get_or-append-add, get_or_default, length-set}
-use Rattle.std.proofs.lemmas.List.Elements.{All-head}
 use Rattle.heesch_cnf.specs.declared.literal.Lit.{Lit}
 use Rattle.heesch_cnf.specs.Literals.{Values}
-use Rattle.heesch_cnf.specs.Clauses.{IsClause}
 use Rattle.heesch_rup.specs.Listed.{slot_at, IsLastBelow, IsFalsified, NoneFalsifiedAt}
 
 -- how many places a walk can still read
@@ -83,24 +81,25 @@ module _ (counts : List ℕ) where
       subst (λ t. IsLastBelow counts clauses (length earlier) t o) place (subst (IsLastBelow counts clauses (length earlier) slot) (sym (o_is ∙ get_or_default last slot o None fits)) (before_last slot fits)) in
       subst (λ (xs : List (Option ℕ)). (k : ℕ) → k < length xs → IsLastBelow counts clauses k (slot_at counts clauses k) (get_or xs k None)) (sym after_is) (earlier_more clauses earlier o before here)
 
-  -- what a walk down a slot has still to read: all that could be falsified stands below a bound, and the next place is the last below it
-  pub record Walks (values : Values) (clauses : List (List Lit)) (n slot : ℕ) (next : Option ℕ) : Type 0 where
+  -- what a walk down a slot has still to read, of which only the first n clauses count: all of these that could be falsified stand
+  -- below a bound, and the next place is the last below it
+  pub record Walks (values : Values) (clauses : List (List Lit)) (size n slot : ℕ) (next : Option ℕ) : Type 0 where
     pub bound : ℕ
-    pub within : bound ≤ n
+    pub within : bound ≤ size
     pub last : IsLastBelow counts clauses bound slot next
     pub above : (k : ℕ) → bound ≤ k → k < n → slot_at counts clauses k ≡ slot → IsFalsified values (get_or clauses k []) → ⊥
 
-  pub walk_begins : (values : Values) (clauses : List (List Lit)) (n slot : ℕ) (next : Option ℕ) → IsLastBelow counts clauses n slot next → Walks values clauses n slot next
-  walk_begins values clauses n slot next last = record { bound = n; within = omega arith; last = last; above = λ k le lt. absurd (omega arith) }
+  pub walk_begins : (values : Values) (clauses : List (List Lit)) (size n slot : ℕ) (next : Option ℕ) → n ≤ size → IsLastBelow counts clauses size slot next → Walks values clauses size n slot next
+  walk_begins values clauses size n slot next few last = record { bound = size; within = omega arith; last = last; above = λ k le lt. absurd (omega arith) }
 
-  pub walk_at : (values : Values) (clauses : List (List Lit)) (n slot : ℕ) (next : Option ℕ) (i : ℕ) → next ≡ Some i → Walks values clauses n slot next → (i < n) × (slot_at counts clauses i ≡ slot)
-  walk_at values clauses n slot next i is walks =
+  pub walk_at : (values : Values) (clauses : List (List Lit)) (size n slot : ℕ) (next : Option ℕ) (i : ℕ) → next ≡ Some i → Walks values clauses size n slot next → (i < size) × (slot_at counts clauses i ≡ slot)
+  walk_at values clauses size n slot next i is walks =
       let last = subst (IsLastBelow counts clauses walks.bound slot) is walks.last in
       (omega (arith, last.0, walks.within), last.1)
 
-  pub walk_more : (values : Values) (clauses : List (List Lit)) (n slot : ℕ) (next : Option ℕ) (i : ℕ) (o : Option ℕ) → next ≡ Some i → Walks values clauses n slot next →
-      (IsFalsified values (get_or clauses i []) → ⊥) → IsLastBelow counts clauses i (slot_at counts clauses i) o → Walks values clauses n slot o
-  walk_more values clauses n slot next i o is walks fresh earlier =
+  pub walk_more : (values : Values) (clauses : List (List Lit)) (size n slot : ℕ) (next : Option ℕ) (i : ℕ) (o : Option ℕ) → next ≡ Some i → Walks values clauses size n slot next →
+      (i < n → IsFalsified values (get_or clauses i []) → ⊥) → IsLastBelow counts clauses i (slot_at counts clauses i) o → Walks values clauses size n slot o
+  walk_more values clauses size n slot next i o is walks fresh earlier =
       let last = subst (IsLastBelow counts clauses walks.bound slot) is walks.last in
       record {
         bound = i;
@@ -109,7 +108,7 @@ module _ (counts : List ℕ) where
         above = λ k le lt same falsified. elim (cases_lt k walks.bound) [
           | inl below ↦ elim (cases_lt i k) [
             | inl past ↦ last.2 k past below same
-            | inr upto ↦ let here : k ≡ i = omega arith in fresh (subst (λ m. IsFalsified values (get_or clauses m [])) here falsified)
+            | inr upto ↦ let here : k ≡ i = omega arith in fresh (omega (arith, lt)) (subst (λ m. IsFalsified values (get_or clauses m [])) here falsified)
           ]
           | inr over ↦ walks.above k over lt same falsified
         ];
@@ -119,7 +118,7 @@ module _ (counts : List ℕ) where
   walk_smaller clauses i slot next None is last = subst (λ (p : Option ℕ). 0 < places_left p) (sym is) (omega arith)
   walk_smaller clauses i slot next (Some j) is last = subst (λ (p : Option ℕ). suc j < places_left p) (sym is) (let lt : j < i = last.0 in omega arith)
 
-  pub walk_ends : (values : Values) (clauses : List (List Lit)) (n slot : ℕ) (next : Option ℕ) → next ≡ None → Walks values clauses n slot next → NoneFalsifiedAt counts values clauses n slot
-  walk_ends values clauses n slot next is walks k lt same falsified =
+  pub walk_ends : (values : Values) (clauses : List (List Lit)) (size n slot : ℕ) (next : Option ℕ) → next ≡ None → Walks values clauses size n slot next → NoneFalsifiedAt counts values clauses n slot
+  walk_ends values clauses size n slot next is walks k lt same falsified =
       let last = subst (IsLastBelow counts clauses walks.bound slot) is walks.last in
       elim (cases_lt k walks.bound) [ inl below ↦ last k below same | inr over ↦ walks.above k over lt same falsified ]

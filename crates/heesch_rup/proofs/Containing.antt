@@ -1,20 +1,21 @@
-use Rattle.std.proofs.Common.{inl, inr, ◌≡◌, ℕ, zero, suc, ◌+◌, ◌<◌, ◌≤◌, Bool, true, false, not, cond, eqb, None, Some, List, [], ◌∷◌, ◌++◌, length, get_or, take, IsTrue, ◌↔◌, MatchBool, sym, ap, ◌∙◌, subst, refl, arith, get_or-take, length-take-le}
+use Rattle.std.proofs.Common.{inl, inr, ◌≡◌, ℕ, ◌+◌, ◌<◌, ◌≤◌, Bool, true, false, not, cond, eqb, None, Some, List, [], ◌∷◌, ◌++◌, length, get_or, take, IsTrue, ◌↔◌, MatchBool, sym, ap, ◌∙◌, subst, refl, arith, get_or-take, length-take-le, length-append}
 use Rattle.std.specs.List.{Contains}
-use Rattle.std.proofs.Math.Seq.{take-append-add}
 use Rattle.std.proofs.lemmas.Bool.{cases_lt}
 use Rattle.std.proofs.lemmas.Bool.Decides.{Decides-eqb}
-use Rattle.std.proofs.lemmas.List.{get_or_default}
+use Rattle.std.proofs.lemmas.List.{get_or_default, get_or-append-add, get_or-map, length-map}
 use Rattle.std.proofs.lemmas.List.Elements.{All-head, All-tail, All-weaker, All-contains}
 use Rattle.heesch_cnf.specs.declared.literal.Lit.{Lit}
 use Rattle.heesch_cnf.specs.declared.log.Line.{Line}
 use Rattle.heesch_cnf.specs.declared.log.Line.TheVariants.{Given}
 use Rattle.heesch_cnf.specs.Literals.{Values, lit_value, signed}
-use Rattle.heesch_cnf.specs.Clauses.{IsClause, IsNew, IsWithin}
-use Rattle.heesch_cnf.specs.Lines.{refuting, clause_of, clauses_of, clauses_with, LinesAreNew}
+use Rattle.heesch_cnf.specs.Clauses.{IsClause, AreClauses, IsNew, IsWithin}
+use Rattle.heesch_cnf.specs.Lines.{refuting, clause_of, clauses_of, clauses_with}
 use Rattle.heesch_cnf.proofs.Lists.{Contains-none, Contains-here, Contains-there, Contains-cases}
 use Rattle.heesch_cnf.proofs.Rising.{Rises, Rises-from_adjacent}
 use Rattle.heesch_cnf.specs.Flat.{code_of}
+use Rattle.heesch_rup.specs.Answer.{AreNewBetween}
 use Rattle.heesch_rup.specs.Listed.{slot_of, IsFalsified, SomeFalsified, NoneFalsifiedAt}
+use Rattle.heesch_rup.proofs.Forms.{take-clauses_with}
 use Rattle.heesch_rup.proofs.Rarest.{rarest-of}
 
 same_literal : (x l : Lit) → x.var ≡ l.var → signed l.positive (Some (not x.positive)) ≡ Some false → x ≡ l
@@ -105,16 +106,6 @@ pub new_by_cases : (contains : Bool) (Some_ New : Type 0) → MatchBool contains
 new_by_cases true Some_ New h apart = (λ e. absurd (let bad : false ≡ true = e in cc), λ fresh. absurd (apart h fresh))
 new_by_cases false Some_ New h apart = (λ e. h, λ fresh. refl)
 
--- the first clauses of the formula and the lines are those of the formula and the first lines
-take-map : (i : ℕ) (lines : List Line) → take i (clauses_of lines) ≡ clauses_of (take i lines)
-take-map zero lines = refl
-take-map (suc i) [] = refl
-take-map (suc i) (x ∷ xs) = ap (λ cs. clause_of x ∷ cs) (take-map i xs)
-
-pub take-clauses_with : (clauses : List (List Lit)) (lines : List Line) (n i : ℕ) → n ≡ length clauses + i → take n (clauses_with clauses lines) ≡ clauses_with clauses (take i lines)
-take-clauses_with clauses lines n i is =
-    ap (λ m. take m (clauses_with clauses lines)) is ∙ take-append-add clauses (clauses_of lines) i ∙ ap (λ cs. clauses ++ cs) (take-map i lines)
-
 -- one line more is new
 pub fresh_more : (clauses : List (List Lit)) (lines : List Line) (i : ℕ) (clause : List Lit) → ((d : Line) → clause ≡ clause_of (get_or lines i d)) →
     ((k : ℕ) (d : Line) → k < i → IsNew (clauses_with clauses (take k lines)) (clause_of (get_or lines k d))) → IsNew (clauses_with clauses (take i lines)) clause →
@@ -133,8 +124,27 @@ fresh_line clauses added lines n i clause same n_is fresh =
     subst (λ (cs : List (List Lit)). IsNew cs clause) (take-clauses_with clauses lines n i n_is) (subst (λ (cs : List (List Lit)). IsNew (take n (clauses ++ cs)) clause) same fresh)
 
 pub line_of_new : (clauses added : List (List Lit)) (lines : List Line) (n i : ℕ) (clause : List Lit) → added ≡ clauses_of lines → n ≡ length clauses + i → ((d : Line) → clause ≡ clause_of (get_or lines i d)) →
-    i < length lines → LinesAreNew clauses lines → IsNew (take n (clauses ++ added)) clause
-line_of_new clauses added lines n i clause same n_is is lt fresh =
+    ((d : Line) → IsNew (clauses_with clauses (take i lines)) (clause_of (get_or lines i d))) → IsNew (take n (clauses ++ added)) clause
+line_of_new clauses added lines n i clause same n_is is fresh =
     let d : Line = Given [] in
-    let here = subst (λ (c : List Lit). IsNew (clauses_with clauses (take i lines)) c) (sym (is d)) (fresh i d lt) in
+    let here = subst (λ (c : List Lit). IsNew (clauses_with clauses (take i lines)) c) (sym (is d)) (fresh d) in
     subst (λ (cs : List (List Lit)). IsNew (take n (clauses ++ cs)) clause) (sym same) (subst (λ (cs : List (List Lit)). IsNew cs clause) (sym (take-clauses_with clauses lines n i n_is)) here)
+
+-- one line more of those from a first one is new
+pub between_more : (clauses : List (List Lit)) (lines : List Line) (from i : ℕ) (clause : List Lit) → ((d : Line) → clause ≡ clause_of (get_or lines i d)) → AreNewBetween clauses lines from i →
+    IsNew (clauses_with clauses (take i lines)) clause → AreNewBetween clauses lines from (i + 1)
+between_more clauses lines from i clause is before here k d le lt = elim (cases_lt k i) [
+  | inl less ↦ before k d le less
+  | inr past ↦
+      let same : i ≡ k = omega arith in
+      subst (λ n. IsNew (clauses_with clauses (take n lines)) (clause_of (get_or lines n d))) same (subst (λ (c : List Lit). IsNew (clauses_with clauses (take i lines)) c) (is d) here)
+]
+
+-- the clause of a line, which was added, is one over the variables
+pub line_clause : (vars : ℕ) (clauses added : List (List Lit)) (lines : List Line) (i : ℕ) → AreClauses vars (clauses ++ added) → added ≡ clauses_of lines → i < length added → (d : Line) → IsClause vars (clause_of (get_or lines i d))
+line_clause vars clauses added lines i form is lt d =
+    let n : ℕ = length clauses + i in
+    let e : List Lit = clause_of d in
+    let at = form n e (omega (arith, lt, length-append clauses added)) in
+    let few : i < length lines = omega (arith, lt, ap length is, length-map lines clause_of) in
+    subst (IsClause vars) (get_or-append-add clauses added i e ∙ (ap (λ (cs : List (List Lit)). get_or cs i e) is ∙ get_or-map clause_of lines i d e few)) at

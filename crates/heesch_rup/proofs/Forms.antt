@@ -1,12 +1,14 @@
-use Rattle.std.proofs.Common.{◌≡◌, ◌≢◌, ℕ, ◌+◌, ◌<◌, ◌≤◌, Bool, IsTrue, ◌↔◌, Option, None, Some, List, [], ◌∷◌, ◌++◌, length, get_or, take, map, All, sym, ap, ◌∙◌, subst, arith, get_or-take, length-take-le}
+use Rattle.std.proofs.Common.{refl, zero, suc, ◌≡◌, ◌≢◌, ℕ, ◌+◌, ◌<◌, ◌≤◌, Bool, IsTrue, ◌↔◌, None, Some, List, [], ◌∷◌, ◌++◌, length, get_or, take, map, All, sym, ap, ◌∙◌, subst, arith, get_or-take, length-take-le, length-append}
+use Rattle.std.proofs.Math.Seq.{take-append-add}
 use Rattle.std.proofs.lemmas.List.Elements.{All-append, All-map}
-use Rattle.std.proofs.lemmas.List.{take_all as take_whole, take_more, map-append}
+use Rattle.std.proofs.lemmas.List.{take_all as take_whole, take-take, take_more, map-append, length-map}
 use Rattle.heesch_cnf.specs.declared.literal.Lit.{Lit}
 use Rattle.heesch_cnf.specs.declared.log.Line.{Line}
 use Rattle.heesch_cnf.specs.declared.log.Line.TheVariants.{Learn, Given}
 use Rattle.heesch_cnf.specs.Clauses.{IsClause, AreClauses}
 use Rattle.heesch_cnf.specs.Flat.{Clauses}
 use Rattle.heesch_cnf.specs.Lines.{IsShown, LineHolds, HoldsAtLine, LinesHold, clause_of, clauses_of, clauses_with}
+use Rattle.heesch_rup.specs.Answer.{AddsFirst}
 use Rattle.heesch_rup.specs.Hints.{hints_of}
 
 -- the clause of a line that holds is one over the variables
@@ -70,3 +72,37 @@ added_more vars lines i clause before after lt is before_is after_is =
 -- the flat clauses of the first lines, once all are read
 pub added_all : (vars : ℕ) (lines : List Line) (i : ℕ) (added : Clauses) → length lines ≤ i → added ≡ record { vars = vars; clauses = clauses_of (take i lines) } → added ≡ record { vars = vars; clauses = clauses_of lines }
 added_all vars lines i added le is = subst (λ (ls : List Line). added ≡ record { vars = vars; clauses = clauses_of ls }) (take_whole i lines le) is
+
+-- the first clauses of the formula and the lines are those of the formula and the first lines
+take-map : (i : ℕ) (lines : List Line) → take i (clauses_of lines) ≡ clauses_of (take i lines)
+take-map zero lines = refl
+take-map (suc i) [] = refl
+take-map (suc i) (x ∷ xs) = ap (λ cs. clause_of x ∷ cs) (take-map i xs)
+
+pub take-clauses_with : (clauses : List (List Lit)) (lines : List Line) (n i : ℕ) → n ≡ length clauses + i → take n (clauses_with clauses lines) ≡ clauses_with clauses (take i lines)
+take-clauses_with clauses lines n i is =
+    ap (λ m. take m (clauses_with clauses lines)) is ∙ take-append-add clauses (clauses_of lines) i ∙ ap (λ cs. clauses ++ cs) (take-map i lines)
+
+-- clauses of the first lines, as many as were read
+pub adds_first : (vars : ℕ) (lines : List Line) (i : ℕ) (added : Clauses) → i ≤ length lines → added ≡ record { vars = vars; clauses = clauses_of (take i lines) } → (length added.clauses ≡ i) × AddsFirst vars lines added
+adds_first vars lines i added le is =
+    let long : length added.clauses ≡ i = ap (λ (a : Clauses). length a.clauses) is ∙ (length-map (take i lines) clause_of ∙ length-take-le i lines le) in
+    (long, (omega (arith, long), subst (λ n. added ≡ record { vars = vars; clauses = clauses_of (take n lines) }) (sym long) is))
+
+module _ (f added : Clauses) (lines : List Line) (first : AddsFirst f.vars lines added) where
+  pub added-vars : added.vars ≡ f.vars
+  added-vars = ap (λ (a : Clauses). a.vars) first.1
+
+  -- the clauses of the formula and those that were added
+  pub AreClauses-first : AreClauses f.vars f.clauses → AreClauses added.vars added.clauses → AreClauses f.vars (f.clauses ++ added.clauses)
+  AreClauses-first form more = All-append (IsClause f.vars) f.clauses added.clauses form (subst (λ n. AreClauses n added.clauses) added-vars more)
+
+  -- the clauses before a line are the first of the formula's and the added ones
+  pub before_line : (i n : ℕ) → i ≤ length added.clauses → n ≡ length f.clauses + i → take n (f.clauses ++ added.clauses) ≡ clauses_with f.clauses (take i lines)
+  before_line i n le n_is =
+      let m = length added.clauses in
+      ap (λ (a : Clauses). take n (f.clauses ++ a.clauses)) first.1
+      ∙ (take-clauses_with f.clauses (take m lines) n i n_is ∙ ap (clauses_with f.clauses) (take-take i m lines le))
+
+  pub few_before : (i : ℕ) → i ≤ length added.clauses → length f.clauses + i ≤ length (f.clauses ++ added.clauses)
+  few_before i le = omega (arith, length-append f.clauses added.clauses)

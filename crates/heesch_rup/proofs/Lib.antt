@@ -6,3 +6,4 @@ pub mod Answering
 pub mod Rarest
 pub mod Chains
 pub mod Containing
+pub mod Chunked

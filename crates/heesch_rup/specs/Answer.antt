@@ -3,7 +3,9 @@ use Rattle.std.specs.Prelude.{◌≡◌, ℕ, ◌+◌, ◌-◌, ◌<◌, ◌≤�
 use Rattle.heesch_cnf.specs.declared.literal.Lit.{Lit}
 use Rattle.heesch_cnf.specs.declared.log.Line.{Line}
 use Rattle.heesch_cnf.specs.declared.log.Log.{Log}
-use Rattle.heesch_cnf.specs.Lines.{LineHolds, FinalHolds, LinesHold, HoldsAtLine, Refutes, clauses_with}
+use Rattle.heesch_cnf.specs.Clauses.{IsClause, IsNew}
+use Rattle.heesch_cnf.specs.Flat.{Clauses}
+use Rattle.heesch_cnf.specs.Lines.{LineHolds, clause_of, clauses_of, FinalHolds, LinesHold, HoldsAtLine, Refutes, clauses_with}
 use Rattle.heesch_rup.specs.declared.check.LogAnswer.{LogAnswer}
 use Rattle.heesch_rup.specs.declared.check.LogAnswer.TheVariants.{Refuted, Open, BadLine}
 
@@ -11,6 +13,21 @@ use Rattle.heesch_rup.specs.declared.check.LogAnswer.TheVariants.{Refuted, Open,
 abbrev pub FailsAtLine : ℕ → List (List Lit) → List Line → ℕ → Type 0
 FailsAtLine vars clauses lines i =
     (i < length lines) × ((d : Line) → LineHolds vars (clauses_with clauses (take i lines)) (slice_index_or lines i d) → ⊥)
+
+-- of the lines from one to before another, which count from 0, the first that doesn't hold, or that there is none
+abbrev pub IsFirstFailing : ℕ → List (List Lit) → List Line → ℕ → ℕ → Option ℕ → Type 0
+IsFirstFailing vars clauses lines from until None = (i : ℕ) → from ≤ i → i < until → HoldsAtLine vars clauses lines i
+IsFirstFailing vars clauses lines from until (Some at) =
+    (from ≤ at) × (at < until) × ((i : ℕ) → from ≤ i → i < at → HoldsAtLine vars clauses lines i) × FailsAtLine vars clauses lines at
+
+-- these are clauses of the first lines, over the variables
+abbrev pub AddsFirst : ℕ → List Line → Clauses → Type 0
+AddsFirst vars lines added =
+    (length added.clauses ≤ length lines) × (added ≡ record { vars = vars; clauses = clauses_of (take (length added.clauses) lines) })
+
+-- line i, which counts from 0, isn't there or has no clause over the variables
+abbrev pub IsFormless : ℕ → List Line → ℕ → Type 0
+IsFormless vars lines i = i < length lines → (d : Line) → IsClause vars (clause_of (slice_index_or lines i d)) → ⊥
 
 -- the final line is there and doesn't hold
 abbrev pub FinalFails : List (List Lit) → Option (List ℕ) → Type 0
@@ -28,3 +45,8 @@ abbrev pub IsLogAnswer : ℕ → List (List Lit) → Log → LogAnswer → Type 
 IsLogAnswer vars clauses log Refuted = Refutes vars clauses log
 IsLogAnswer vars clauses log Open = LinesHold vars clauses log.lines × (log.last ≡ None)
 IsLogAnswer vars clauses log (BadLine at) = IsFirstBad vars clauses log at
+
+-- the lines from one to before another, which count from 0, are new
+abbrev pub AreNewBetween : List (List Lit) → List Line → ℕ → ℕ → Type 0
+AreNewBetween clauses lines from until =
+    (i : ℕ) (d : Line) → from ≤ i → i < until → IsNew (clauses_with clauses (take i lines)) (clause_of (slice_index_or lines i d))

@@ -1,10 +1,11 @@
 //! The clauses that lines add to a formula, flat.
-ghost use Rattle.std.specs.Prelude.{◌≡◌, ◌<◌, ◌^◌, ◌∷◌, ◌++◌, [], All, IfOk, OnOk};
+ghost use Rattle.std.specs.Prelude.{◌≡◌, ◌<◌, ◌^◌, ◌∷◌, ◌++◌, [], All, IfOk, OnOk, length};
 ghost use Rattle.heesch_cnf.specs.Clauses.{IsClause};
 ghost use Rattle.heesch_cnf.specs.Lines.{clause_of, clauses_of};
+ghost use Rattle.heesch_rup.specs.Answer.{AddsFirst, IsFormless};
 
 use crate::steps::Steps;
-use heesch_cnf::{FlatFormula, Lit};
+use heesch_cnf::{FlatFormula, Lit, is_clause};
 use heesch_io::NoMemory;
 use std::alloc::Global;
 
@@ -30,4 +31,22 @@ pub fn clauses_of<S: Steps>(alloc: Global, vars: u32, steps: &S) -> Result<FlatF
         add_clause(&mut added, steps.clause(i))?;
     }
     Ok(added)
+}
+
+/// Adds the clauses of the lines before the first whose clause isn't one over the variables, or of all lines. It reads their
+/// clauses once.
+pub fn add_formed<S: Steps>(added: &mut FlatFormula, steps: &S) -> Result<(), NoMemory>
+    requires none { added.old.clauses ≡ [] }
+    ensures first { OnOk result (AddsFirst added.old.vars (S.written steps.now).lines added.new) }
+    ensures formless { OnOk result (IsFormless added.old.vars (S.written steps.now).lines (length added.new.clauses)) }
+{
+    let vars = added.vars();
+    for i in 0..steps.count() {
+        let clause = steps.clause(i);
+        if !is_clause(vars, clause) {
+            return Ok(());
+        }
+        add_clause(added, clause)?;
+    }
+    Ok(())
 }

@@ -4,6 +4,7 @@
 mod added;
 mod assignment;
 mod check;
+mod chunks;
 mod hints;
 mod newness;
 mod numbers;

@@ -1,6 +1,6 @@
 //! The clauses of a formula and those that lines added, by their numbers.
 ghost use Rattle.std.specs.Prelude.{◌≡◌, ◌++◌, ◌<◌, [], length, All, IsTrue, ◌↔◌, slice_index_or};
-ghost use Rattle.heesch_cnf.specs.Lines.{IsNumber, AreNumbers};
+ghost use Rattle.heesch_rup.specs.Hints.{IsNumberUpTo};
 
 use heesch_cnf::{FlatFormula, PackedLit};
 
@@ -21,16 +21,16 @@ pub fn clause_at<'a>(
     }
 }
 
-fn is_number(formula: &FlatFormula, added: &FlatFormula, number: u32) -> bool
-    ensures { IsTrue result ↔ IsNumber (formula.now.clauses ++ added.now.clauses) number }
+fn is_number(count: usize, number: u32) -> bool
+    ensures { IsTrue result ↔ IsNumberUpTo count number }
 {
     let number = number as usize;
-    1 <= number && number <= formula.len() + added.len()
+    1 <= number && number <= count
 }
 
-/// Whether the hints are numbers, from 1, of clauses of the formula and then of those that lines added.
-pub fn are_numbers(formula: &FlatFormula, added: &FlatFormula, hints: &[u32]) -> bool
-    ensures { IsTrue result ↔ AreNumbers (formula.now.clauses ++ added.now.clauses) hints.now }
+/// Whether the hints are numbers, from 1, of so many clauses.
+pub fn are_numbers(count: usize, hints: &[u32]) -> bool
+    ensures { IsTrue result ↔ All (IsNumberUpTo count) hints.now }
 {
-    hints.iter().all(|hint| is_number(formula, added, *hint))
+    hints.iter().all(|hint| is_number(count, *hint))
 }

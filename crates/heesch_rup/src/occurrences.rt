@@ -83,26 +83,28 @@ impl Occurrences {
         Ok(())
     }
 
-    /// Whether a listed clause of this slot has all its literals false. It reads the clauses of the slot.
+    /// Whether one of the first clauses, of which so many are listed at least, is of this slot and has all its literals false. It
+    /// passes over the clauses of the slot that stand later, and reads the others.
     pub fn any_falsified(
         &self,
         assignment: &Assignment,
         formula: &FlatFormula,
         added: &FlatFormula,
+        count: usize,
         slot: usize,
     ) -> bool
         requires slot { slot < vec_len self.now.last }
         requires room { formula.now.vars < vec_len assignment.now.values }
         requires form { AreClauses formula.now.vars (formula.now.clauses ++ added.now.clauses) }
         requires lists { ListsFirst (formula.now.clauses ++ added.now.clauses) self.now }
+        requires count { count ≤ vec_len self.now.earlier }
         ensures { let clauses = formula.now.clauses ++ added.now.clauses in
             let values = held assignment.now.values.items in
-            let count = vec_len self.now.earlier in
             MatchBool result (SomeFalsified values clauses count) (NoneFalsifiedAt self.now.counts.items values clauses count slot) }
     {
         let mut next = self.last[slot];
         while let Some(place) = next {
-            if is_falsified(assignment, clause_at(formula, added, place)) {
+            if place < count && is_falsified(assignment, clause_at(formula, added, place)) {
                 return true;
             }
             next = self.earlier[place];

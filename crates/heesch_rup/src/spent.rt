@@ -9,11 +9,13 @@ use crate::steps::Steps;
 use heesch_cnf::FlatFormula;
 use heesch_io::NoMemory;
 use std::alloc::Global;
+use std::thread::Threads;
 
 /// Whether the log is spent for so many turns over the formula, wherever its lines stand: it has just so many lines, each of
 /// which holds and is new, and no final line. It costs what `check_steps` and `all_new_steps` cost, but the clauses of the lines
 /// are copied once.
-pub fn is_spent<S: Steps>(
+pub fn is_spent<R: Threads + Sync, S: Steps + Sync>(
+    rt: &R,
     alloc: Global,
     formula: &FlatFormula,
     steps: &S,
@@ -30,8 +32,8 @@ pub fn is_spent<S: Steps>(
     let vars = formula.vars();
     let mut assignment = Assignment::new(alloc, vars)?;
     let mut added = FlatFormula::new(alloc, vars);
-    match bad_line(&mut assignment, formula, &mut added, steps)? {
+    match bad_line(rt, alloc, &mut assignment, formula, &mut added, steps)? {
         Some(_) => Ok(false),
-        None => are_new(alloc, &mut assignment, formula, &added, steps),
+        None => are_new(rt, alloc, &mut assignment, formula, &added, steps),
     }
 }

@@ -31,7 +31,7 @@ returns-then-not-are_triples_of g c =
     true≢false (sym (c.are_triples_of.ensures.1 here) ∙ fails))
 
 pub are_settled-requires-clause-domains : goal.are_settled-requires-clause-domains
-are_settled-requires-clause-domains g c =
+are_settled-requires-clause-domains g c κs within =
     let geometry = g.G.Grid.geometry in
     let shape = c.args.shape.now in
     let limits = c.args.limits in

@@ -23,6 +23,6 @@ returns-then-is_empty g c =
     ((λ t. subst (SpellCoronas g.G.Grid.geometry c.args.cells.now true) (sym none) (no_layers g.G.Grid.geometry c.args.cells.now)), (λ h. refl))
 
 pub part_holds-requires-clause-near : goal.part_holds-requires-clause-near
-part_holds-requires-clause-near g c =
+part_holds-requires-clause-near g c κs within =
     let a = c.args in
     subst IsNearEntry (sym c.in_ok-entry.ensures) (near_free a.cells.now a.inner.now (cells_near g.G.Grid.geometry g.met.G.Grid.laws a.cells.now c.requires.shape) c.requires.near)

@@ -6,7 +6,7 @@ use Rattle.heesch_outer.proofs.Entries.{cells_near, free_near, near_spent}
 use Rattle.heesch_outer.proofs.parts.is_spent.Goals as goal
 
 pub part_holds-requires-clause-near : goal.part_holds-requires-clause-near
-part_holds-requires-clause-near g c =
+part_holds-requires-clause-near g c κs within =
     let a = c.args in
     let law = g.met.G.Grid.laws in
     let shape = c.requires.found.shape in

@@ -8,7 +8,7 @@ use Rattle.heesch_outer.proofs.Entries.{before_open, cells_near, free_near, near
 use Rattle.heesch_outer.proofs.parts.is_wider.Goals as goal
 
 pub part_holds-requires-clause-near : goal.part_holds-requires-clause-near
-part_holds-requires-clause-near g c =
+part_holds-requires-clause-near g c κs within =
     let a = c.args in
     let geometry = g.G.Grid.geometry in
     let law = g.met.G.Grid.laws in
@@ -20,7 +20,7 @@ part_holds-requires-clause-near g c =
     a.wall.now a.layers.now (proof_near geometry law a.cells.now found.shape a.limits (length a.free.now + 1) a.wall.now (omega arith) (omega (arith, level, most)) c.requires.wall) c.requires.near)
 
 pub part_holds-requires-clause-before : goal.part_holds-requires-clause-before
-part_holds-requires-clause-before g c =
+part_holds-requires-clause-before g c κs within =
     let a = c.args in
     let geometry = g.G.Grid.geometry in
     subst (λ (limits : Limits). (k : ℕ) → k < 7 → PartHolds geometry limits c.in_ok-entry.entry k) (sym c.with_levels.ensures)

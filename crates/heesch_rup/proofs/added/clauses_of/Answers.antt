@@ -1,10 +1,8 @@
-use Rattle.std.proofs.Common.{◌≡◌, ◌<◌, [], length, sym, ap, subst, arith}
-use Rattle.heesch_cnf.specs.declared.literal.Lit.{Lit}
+use Rattle.std.proofs.Common.{[], sym, ap, subst, arith}
 use Rattle.heesch_cnf.specs.declared.log.Line.{Line}
 use Rattle.heesch_cnf.specs.declared.log.Line.TheVariants.{Given}
 use Rattle.heesch_cnf.specs.Clauses.{IsClause}
 use Rattle.heesch_cnf.specs.Flat.{Clauses}
-use Rattle.heesch_cnf.specs.Lines.{clause_of}
 use Rattle.heesch_rup.proofs.Forms.{added_more, added_all}
 use Rattle.heesch_rup.proofs.added.clauses_of.Goals as goal
 

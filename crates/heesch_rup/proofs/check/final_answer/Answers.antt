@@ -1,6 +1,6 @@
-use Rattle.std.proofs.Common.{◌≡◌, ◌++◌, ◌+◌, false, true, List, [], Some, length, sym, ap, ◌∙◌, subst, arith}
+use Rattle.std.proofs.Common.{◌≡◌, ◌++◌, ◌+◌, ◌≤◌, false, true, List, [], Some, length, sym, ap, ◌∙◌, subst, arith, length-append}
 use Rattle.std.specs.Option.{option_copied}
-use Rattle.std.proofs.lemmas.List.{length-map}
+use Rattle.std.proofs.lemmas.List.{length-map, take_all as take_whole}
 use Rattle.heesch_cnf.specs.declared.literal.Lit.{Lit}
 use Rattle.heesch_cnf.specs.Flat.{Clauses}
 use Rattle.heesch_cnf.specs.Lines.{IsShown, clause_of}
@@ -20,8 +20,9 @@ returns-else-branch g c =
     let last : log.last ≡ Some hints = sym c.last.ensures ∙ ap option_copied c.in-Some.is in
     let same = ap (λ (x : Clauses). x.clauses) c.requires.added in
     let long = ap length same in
-    final_bad f.vars f.clauses log c.requires.lines hints (c.len.result + 1) last
+    let few : length (f.clauses ++ c.args.added.now.clauses) ≤ c.len.result + c.len-2.result = omega (arith, length-append f.clauses c.args.added.now.clauses, c.len.ensures.count, c.len-2.ensures.count) in
+    final_bad f.vars f.clauses log c.requires.lines hints (c.len-else-branch.result + 1) last
     (λ shown.
-    let there = subst (λ (cs : List (List Lit)). IsShown (f.clauses ++ cs) [] hints) (sym same) shown in
+    let there = subst (λ (cs : List (List Lit)). IsShown cs [] hints) (sym (take_whole (c.len.result + c.len-2.result) (f.clauses ++ c.args.added.now.clauses) few)) (subst (λ (cs : List (List Lit)). IsShown (f.clauses ++ cs) [] hints) (sym same) shown) in
     let bad : false ≡ true = sym c.if-branch.false ∙ c.in_ok-is_shown.ensures.shown.1 there in cc)
-    (omega (arith, c.len.ensures.count, long, length-map log.lines clause_of))
+    (omega (arith, c.len-else-branch.ensures.count, long, length-map log.lines clause_of))

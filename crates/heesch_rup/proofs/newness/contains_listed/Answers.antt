@@ -1,4 +1,4 @@
-use Rattle.std.proofs.Common.{◌++◌, vec_len, MatchBool, subst, arith}
+use Rattle.std.proofs.Common.{◌++◌, MatchBool, subst, arith}
 use Rattle.heesch_cnf.specs.Literals.{held}
 use Rattle.heesch_rup.specs.Listed.{SomeFalsified, NoneFalsifiedAt}
 use Rattle.heesch_rup.proofs.Containing.{new_when_none}
@@ -8,8 +8,8 @@ pub returns : goal.returns
 returns c =
     let clauses = c.args.formula.now.clauses ++ c.args.added.now.clauses in
     let values = held c.args.assignment.now.values.items in
-    let n = vec_len c.args.occurrences.now.earlier in
+    let n = c.args.count in
     let counts = c.args.occurrences.now.counts.items in
     let none_empty = subst (λ b. MatchBool b (SomeFalsified values clauses n) (NoneFalsifiedAt counts values clauses n 0)) c.if-any_falsified.false c.any_falsified.ensures in
-    new_when_none counts c.args.formula.now.vars values clauses n c.args.clause.now c.requires.refuted c.requires.clause (omega (arith, c.requires.lists.within)) none_empty
+    new_when_none counts c.args.formula.now.vars values clauses n c.args.clause.now c.requires.refuted c.requires.clause (omega (arith, c.requires.count, c.requires.lists.within)) none_empty
     (λ j d lt. c.loop-lit.invariant j d (omega arith))

@@ -1,4 +1,4 @@
-use Rattle.std.proofs.Common.{◌++◌, ℕ, ◌<◌, get_or, vec_len}
+use Rattle.std.proofs.Common.{◌++◌, ℕ, ◌<◌, get_or}
 use Rattle.heesch_cnf.specs.declared.literal.Lit.{Lit}
 use Rattle.heesch_cnf.specs.Literals.{held}
 use Rattle.heesch_cnf.specs.Flat.{code_of}
@@ -7,4 +7,4 @@ use Rattle.heesch_rup.proofs.newness.contains_listed.Given as goal
 
 abbrev pub invariant-loop-lit : goal.invariant-loop-lit
 invariant-loop-lit l =
-    (j : ℕ) (d : Lit) → j < l.lit-index → NoneFalsifiedAt l.occurrences.counts.items (held l.assignment.values.items) (l.formula.clauses ++ l.added.clauses) (vec_len l.occurrences.earlier) (code_of (get_or l.clause j d))
+    (j : ℕ) (d : Lit) → j < l.lit-index → NoneFalsifiedAt l.occurrences.counts.items (held l.assignment.values.items) (l.formula.clauses ++ l.added.clauses) l.count (code_of (get_or l.clause j d))

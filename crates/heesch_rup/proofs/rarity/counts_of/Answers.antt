@@ -1,4 +1,4 @@
-use Rattle.std.proofs.Common.{◌≡◌, ◌+◌, ◌*◌, ◌<◌, [], List, All, ap, get_or, length, sym, subst, arith, rules}
+use Rattle.std.proofs.Common.{◌+◌, ◌*◌, ◌<◌, [], List, All, get_or, length, sym, subst, arith}
 use Rattle.heesch_cnf.specs.declared.literal.Lit.{Lit}
 use Rattle.heesch_cnf.specs.Flat.{code_of}
 use Rattle.heesch_rup.proofs.Rarest.{codes-lt}

@@ -1,4 +1,4 @@
-use Rattle.std.proofs.Common.{◌≡◌, ℕ, false, true, None, Option, IsTrue, ◌↔◌, length, sym, ap, ◌∙◌, subst, arith, MatchOption}
+use Rattle.std.proofs.Common.{◌≡◌, ℕ, false, true, None, Option, IsTrue, ◌↔◌, sym, ap, ◌∙◌, subst, arith, MatchOption}
 use Rattle.std.specs.Option.{option_copied}
 use Rattle.std.proofs.lemmas.Result.{IfOk-weaker}
 use Rattle.heesch_cnf.specs.Lines.{IsSpent, LinesHold, LinesAreNew}

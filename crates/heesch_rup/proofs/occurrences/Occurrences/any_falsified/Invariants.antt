@@ -4,7 +4,7 @@ use Rattle.heesch_rup.proofs.Chains.{Walks, places_left}
 use Rattle.heesch_rup.proofs.occurrences.Occurrences.any_falsified.Given as goal
 
 abbrev pub invariant-loop-next : goal.invariant-loop-next
-invariant-loop-next l = Walks l.self.counts.items (held l.assignment.values.items) (l.formula.clauses ++ l.added.clauses) (vec_len l.self.earlier) l.slot l.next
+invariant-loop-next l = Walks l.self.counts.items (held l.assignment.values.items) (l.formula.clauses ++ l.added.clauses) (vec_len l.self.earlier) l.count l.slot l.next
 
 abbrev pub decreases-loop-next : goal.decreases-loop-next
 decreases-loop-next l = places_left l.next

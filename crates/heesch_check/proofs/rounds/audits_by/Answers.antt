@@ -2,7 +2,7 @@ use Rattle.std.proofs.Common.{ap}
 use Rattle.std.proofs.lemmas.Result.{IfOk-weaker}
 use Rattle.heesch_check.specs.Judging.{AreAudits}
 use Rattle.heesch_check.proofs.Audits.{audits_from}
-use Rattle.heesch_check.proofs.rounds.audits.Goals as goal
+use Rattle.heesch_check.proofs.rounds.audits_by.Goals as goal
 
 pub returns-clause-audits : goal.returns-clause-audits
 returns-clause-audits g c =

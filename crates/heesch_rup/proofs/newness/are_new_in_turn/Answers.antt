@@ -1,12 +1,11 @@
-use Rattle.std.proofs.Common.{◌≡◌, ◌++◌, ◌<◌, true, false, List, [], length, take, vec_len, refl, sym, ap, ◌∙◌, subst, arith}
-use Rattle.heesch_cnf.specs.declared.literal.Lit.{Lit}
+use Rattle.std.proofs.Common.{◌≡◌, ◌+◌, true, false, [], refl, sym, ap, ◌∙◌, subst, arith}
 use Rattle.heesch_cnf.specs.declared.log.Line.{Line}
 use Rattle.heesch_cnf.specs.declared.log.Line.TheVariants.{Given}
 use Rattle.heesch_cnf.specs.Clauses.{IsClause}
 use Rattle.heesch_cnf.specs.Flat.{Clauses}
 use Rattle.heesch_rup.proofs.Forms.{AreClauses-added, lines-form}
 use Rattle.heesch_rup.proofs.Containing.{fresh_more, fresh_line, line_of_new}
-use Rattle.heesch_rup.proofs.newness.are_new.Goals as goal
+use Rattle.heesch_rup.proofs.newness.are_new_in_turn.Goals as goal
 
 pub occurrences_of-requires-clause-form : goal.occurrences_of-requires-clause-form
 occurrences_of-requires-clause-form g c =
@@ -29,11 +28,11 @@ is_new-requires-clause-clause g c =
 pub returns-then-not-branch : goal.returns-then-not-branch
 returns-then-not-branch g c =
     let f = c.args.formula.now in
-    let n = vec_len c.loop-i.occurrences.earlier in
+    let n = c.len-given.result + c.loop-i.i in
     let same = ap (λ (x : Clauses). x.clauses) c.requires.added in (
       λ e. absurd (let bad : false ≡ true = e in cc),
       λ h.
-          let fresh = line_of_new f.clauses c.args.added.now.clauses (g.S.Steps.written c.args.steps.now).lines n c.loop-i.i c.clause.result.now same c.loop-i.invariant.count c.clause.ensures (omega arith) h in
+          let fresh = line_of_new f.clauses c.args.added.now.clauses (g.S.Steps.written c.args.steps.now).lines n c.loop-i.i c.clause.result.now same (omega (arith, c.len-given.ensures.count)) c.clause.ensures (λ d. h c.loop-i.i d (omega arith)) in
           absurd (let bad : false ≡ true = sym c.if-not-branch.true ∙ c.in_ok-is_new.ensures.fresh.1 fresh in cc),
     )
 
@@ -41,10 +40,10 @@ pub loop-i-preserved : goal.loop-i-preserved
 loop-i-preserved g c =
     let f = c.args.formula.now in
     let lines = (g.S.Steps.written c.args.steps.now).lines in
-    let n = vec_len c.loop-i.occurrences.earlier in
+    let n = c.len-given.result + c.loop-i.i in
     let before = c.loop-i.invariant in
     let same = ap (λ (x : Clauses). x.clauses) c.requires.added in
-    let here = fresh_line f.clauses c.args.added.now.clauses lines n c.loop-i.i c.clause.result.now same before.count (c.in_ok-is_new.ensures.fresh.0 c.if-not-branch.false) in
+    let here = fresh_line f.clauses c.args.added.now.clauses lines n c.loop-i.i c.clause.result.now same (omega (arith, c.len-given.ensures.count)) (c.in_ok-is_new.ensures.fresh.0 c.if-not-branch.false) in
     record {
       slots = c.in_ok-list_next.ensures.room ∙ before.slots;
       counts = c.in_ok-list_next.ensures.counts ∙ before.counts;
