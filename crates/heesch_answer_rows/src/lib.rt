@@ -1,4 +1,4 @@
-//! Rows of the calls that answer shapes: lists, plain tilings and formulas, and of sinks that fail. There are tests here alone.
+//! Rows of lists, plain tilings and formulas, and of sinks that fail. There are tests here alone.
 #![tactic(auto)]
 
 #[cfg(test)]

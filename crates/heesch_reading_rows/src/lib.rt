@@ -1,5 +1,5 @@
-//! Rows of the calls that read: `check` and lists of given shapes, over altered texts and failing sources too. There are
-//! tests here alone.
+//! Rows of the calls that read: `check` and given shapes, over altered texts and failing sources too. There are tests
+//! here alone.
 #![tactic(auto)]
 
 #[cfg(test)]

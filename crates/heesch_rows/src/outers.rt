@@ -3,8 +3,8 @@ use crate::first_other;
 use heesch_app::Status;
 use std::test::Fail;
 
-/// A tiling and an open Heesch number have no outer number; a hole that no tile fills leaves none more, by the wall's own
-/// refutation; and a list text has the faults that `classify` tells.
+/// A tiling and an open Heesch number have no outer number; a hole that no tile fills leaves none more, by the wall's
+/// own refutation; and a list text has the faults that `classify` tells.
 #[test]
 fn each_entry_has_its_answer_behind_it(rt: HostRuntime) -> Result<(), Fail> {
     let rows = [

@@ -3,8 +3,8 @@ use crate::{first_other, written};
 use heesch_app::Status;
 use std::test::Fail;
 
-/// A share without shapes is its line, the header and the end; the texts of both shares, joined, are the catalogue, and one of
-/// them alone, or none, has its fault.
+/// A share without shapes is its line, the header and the end; the texts of both shares, joined, are the catalogue, and
+/// one of them alone, or none, has its fault.
 #[test]
 fn shares_are_joined_to_their_catalogue(rt: HostRuntime) -> Result<(), Fail> {
     let alloc = rt.alloc();

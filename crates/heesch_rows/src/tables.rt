@@ -64,8 +64,8 @@ fn sum_of(text: &str, lines: usize) -> u64 {
     sum
 }
 
-/// Of all polyominoes of a size: their number, those with a hole, and how many tile by a translation or a half-turn (two
-/// lines), or by any cover (three).
+/// Of all polyominoes of a size: their number, those with a hole, and how many tile by a translation or a half-turn
+/// (two lines), or by any cover (three).
 #[test]
 fn tallies_of_sizes_have_the_known_counts(rt: HostRuntime) -> Result<(), Fail> {
     let alloc = rt.alloc();
