@@ -3,8 +3,6 @@
 
 mod entries;
 mod rounds;
-#[cfg(test)]
-mod tests;
 mod texts;
 
 pub use entries::{canonical_of, entries_between};

@@ -3,8 +3,6 @@
 
 mod answers;
 mod rounds;
-#[cfg(test)]
-mod tests;
 mod texts;
 
 pub use answers::OuterEntry;

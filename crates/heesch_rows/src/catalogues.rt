@@ -1,64 +1,41 @@
 //! `heesch classify`: the catalogue of a size.
-use crate::running::{room, run_into};
+use crate::{first_other, written};
 use heesch_app::Status;
-use heesch_io::NoMemory;
-use std::alloc::Global;
 use std::test::Fail;
-use std::thread::Threads;
-
-/// What the words write, or nothing where they don't end Done.
-pub(crate) fn written<T: Threads + Sync>(
-    rt: &T,
-    alloc: Global,
-    line: &str,
-) -> Result<Vec<u8>, NoMemory> {
-    let (status, sink) = run_into(rt, alloc, line, room(alloc, 400_000)?)?;
-    if status == Status::Done {
-        Ok(sink.held)
-    } else {
-        Ok(Vec::new(alloc))
-    }
-}
 
 #[test]
 fn single_triangles_have_the_entries_worked_by_hand(rt: HostRuntime) -> Result<(), Fail> {
-    let alloc = rt.alloc();
-    let corona =
-        "coronas 1\nlayer 0,0,-1 0,1,-1 1,0,-1 1,1,-1 1,2,-1 0,-1,0 0,1,0 1,0,0 1,1,0 0,-1,1 0,0,1 1,0,1\nend 1\n";
-    for (options, limits, lines) in [
+    let rows = [
         (
+            "classify iamond 1",
             "",
-            "turns 20000 levels 3 domain 4 size 60000000",
-            "verdict tiles halfturn domain 2 classes 1\nlattice 1 1 0\ntile 0 0 0 class 1 by 0 0 0\ntile 3 0 0 class 1 by 1 0 -1\nend 1\n",
+            Status::Done,
+            "heesch 2 iamond 1 turns 20000 levels 3 domain 4 size 60000000\nshape 1,1\nverdict tiles halfturn domain 2 classes 1\nlattice 1 1 0\ntile 0 0 0 class 1 by 0 0 0\ntile 3 0 0 class 1 by 1 0 -1\nend 1\n",
         ),
         (
-            "--domain 1 --levels 1 --version 1",
-            "turns 20000 levels 1 domain 1 size 60000000",
-            "verdict undecided levels 1\n",
+            "classify iamond 1 --domain 1 --levels 1 --version 1",
+            "",
+            Status::Done,
+            "heesch 1 iamond 1 turns 20000 levels 1 domain 1 size 60000000\nshape 1,1\nverdict undecided levels 1\ncoronas 1\nlayer 0,0,-1 0,1,-1 1,0,-1 1,1,-1 1,2,-1 0,-1,0 0,1,0 1,0,0 1,1,0 0,-1,1 0,0,1 1,0,1\nend 1\n",
         ),
         (
-            "--size 12 --domain 1 --levels 1",
-            "turns 20000 levels 1 domain 1 size 12",
-            "verdict undecided levels 1\n",
+            "classify iamond 1 --size 12 --domain 1 --levels 1",
+            "",
+            Status::Done,
+            "heesch 2 iamond 1 turns 20000 levels 1 domain 1 size 12\nshape 1,1\nverdict undecided levels 1\ncoronas 1\nlayer 0,0,-1 0,1,-1 1,0,-1 1,1,-1 1,2,-1 0,-1,0 0,1,0 1,0,0 1,1,0 0,-1,1 0,0,1 1,0,1\nend 1\n",
         ),
         (
-            "--size 11 --domain 1 --levels 1",
-            "turns 20000 levels 1 domain 1 size 11",
-            "verdict undecided size 0 free 1\ncoronas 0\nwall 1 size\nend 1\n",
+            "classify iamond 1 --size 11 --domain 1 --levels 1",
+            "",
+            Status::Done,
+            "heesch 2 iamond 1 turns 20000 levels 1 domain 1 size 11\nshape 1,1\nverdict undecided size 0 free 1\ncoronas 0\nwall 1 size\nend 1\n",
         ),
-    ] {
-        let line = format!(in alloc; "classify iamond 1 {options}")?;
-        let rest = if lines.contains("end") { "" } else { corona };
-        let version = if options.ends_with("version 1") { 1 } else { 2 };
-        let text = format!(in alloc;
-            "heesch {version} iamond 1 {limits}\nshape 1,1\n{lines}{rest}"
-        )?;
-        let held = written(&rt, alloc, &line)?;
-        assert_eq!(rt; held.as_slice(), text.as_bytes(), "{line}");
-    }
+    ];
+    assert_eq!(rt; first_other(&rt, rt.alloc(), &rows)?, None);
     Ok(())
 }
 
+/// The brief catalogue of the five tetrominoes.
 pub(crate) const FIVE_TETROMINOES: &str =
     "brief 2 square 4 turns 20000 levels 3 domain 4 size 60000000
 shape 0,0 1,0 2,0 3,0
@@ -83,13 +60,21 @@ end 1
 #[test]
 fn brief_texts_have_shapes_and_verdicts(rt: HostRuntime) -> Result<(), Fail> {
     let alloc = rt.alloc();
-    for (line, text) in [
-        ("classify square 4 --brief", FIVE_TETROMINOES),
-        ("classify kite 1 --domain 6 --brief", ONE_KITE),
-    ] {
-        let held = written(&rt, alloc, line)?;
-        assert_eq!(rt; held.as_slice(), text.as_bytes(), "{line}");
-    }
+    let rows = [
+        (
+            "classify square 4 --brief",
+            "",
+            Status::Done,
+            FIVE_TETROMINOES,
+        ),
+        (
+            "classify kite 1 --domain 6 --brief",
+            "",
+            Status::Done,
+            ONE_KITE,
+        ),
+    ];
+    assert_eq!(rt; first_other(&rt, alloc, &rows)?, None);
     let held = written(&rt, alloc, "classify kite 1 --levels 1 --brief")?;
     assert!(rt; str::from_utf8(&held)?.contains("\nverdict undecided levels 1\n"));
     Ok(())

@@ -1,25 +1,17 @@
-//! Rows that the program must write, and what its crates must answer together. There are tests here alone.
+//! Runs of the program over a source and a sink in memory, and the rows of catalogues, tallies and outer numbers.
 #![tactic(auto)]
 
 #[cfg(test)]
 mod catalogues;
 #[cfg(test)]
-mod checks;
-#[cfg(test)]
-mod exchanges;
-#[cfg(test)]
-mod given;
-#[cfg(test)]
-mod hostile;
-#[cfg(test)]
-mod lists;
-#[cfg(test)]
 mod outers;
-#[cfg(test)]
-mod plains;
-#[cfg(test)]
 mod running;
 #[cfg(test)]
 mod shares;
 #[cfg(test)]
 mod tables;
+
+pub use running::{
+    Row, bytes_of, first_other, room, run_into, run_over, run_past, written,
+    written_over,
+};

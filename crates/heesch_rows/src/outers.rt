@@ -1,22 +1,18 @@
 //! `heesch outer`: the outer numbers of the shapes of a size, or of given shapes.
-use crate::running::{bytes_of, room, run_over};
+use crate::first_other;
 use heesch_app::Status;
 use std::test::Fail;
 
-/// A tiling and an open Heesch number have no outer number; a hole that no tile fills leaves none more, by the wall's own
-/// refutation; and a list text has the faults that `classify` tells.
+/// A tiling and an open Heesch number have no outer number; a hole that no tile fills leaves none more, by the wall's
+/// own refutation; and a list text has the faults that `classify` tells.
 #[test]
 fn each_entry_has_its_answer_behind_it(rt: HostRuntime) -> Result<(), Fail> {
-    let alloc = rt.alloc();
-    let hole =
-        "shape 0,0 1,0 2,0 0,1 2,1 0,2 1,2\nverdict heesch 0 nontiler 1\ncoronas 0\nwall 1 refuted\nempty 9\nbare 1 same\n";
-    let refuted = format!(in alloc; "{hole}hc 0\nhh 0\nempty 9\nend 1\n")?;
-    for (line, input, status, text) in [
+    let rows = [
         (
             "outer square given",
             "0,0 1,0 2,0 0,1 2,1 0,2 1,2\n",
             Status::Done,
-            refuted.as_str(),
+            "shape 0,0 1,0 2,0 0,1 2,1 0,2 1,2\nverdict heesch 0 nontiler 1\ncoronas 0\nwall 1 refuted\nempty 9\nbare 1 same\nhc 0\nhh 0\nempty 9\nend 1\n",
         ),
         (
             "outer square given",
@@ -36,16 +32,7 @@ fn each_entry_has_its_answer_behind_it(rt: HostRuntime) -> Result<(), Fail> {
             Status::BadInput,
             "bad input 2 5\n",
         ),
-    ] {
-        let (ended, sink) = run_over(
-            &rt,
-            alloc,
-            line,
-            bytes_of(alloc, input)?,
-            room(alloc, 1_000)?,
-        )?;
-        assert_eq!(rt; ended, status, "{line}");
-        assert_eq!(rt; sink.held.as_slice(), text.as_bytes(), "{line}");
-    }
+    ];
+    assert_eq!(rt; first_other(&rt, rt.alloc(), &rows)?, None);
     Ok(())
 }

@@ -2,7 +2,7 @@
 ghost use Rattle.std.specs.Prelude.{◌≤◌};
 
 use crate::catalogues::FIVE_TETROMINOES;
-use crate::running::{bytes_of, room, run_into, run_over};
+use crate::{first_other, written, written_over};
 use heesch_app::Status;
 use heesch_grid::Square;
 use heesch_grow::{Draws, grown};
@@ -10,22 +10,6 @@ use heesch_io::{MemorySource, NoMemory};
 use heesch_text::write_shape;
 use std::alloc::Global;
 use std::test::Fail;
-use std::thread::Threads;
-
-/// What the words write over a source, or nothing where they don't end Done.
-fn tally<T: Threads + Sync>(
-    rt: &T,
-    alloc: Global,
-    line: &str,
-    source: MemorySource,
-) -> Result<Vec<u8>, NoMemory> {
-    let (status, sink) = run_over(rt, alloc, line, source, room(alloc, 1_000)?)?;
-    if status == Status::Done {
-        Ok(sink.held)
-    } else {
-        Ok(Vec::new(alloc))
-    }
-}
 
 const LIMITS: &str = "turns 20000 levels 3 domain 4 size 60000000";
 
@@ -62,9 +46,9 @@ fn tallies_of_small_catalogues_are_those_worked_by_hand(rt: HostRuntime) -> Resu
             "shapes 4\nholed 0\ntranslation 4\nhalfturn 0\nperiodic 0\nisohedral 4\n",
         ),
     ] {
-        let held = tally(&rt, alloc, line, bytes_of(alloc, input)?)?;
         let text = format!(in alloc; "{counts}{UNDECIDED}")?;
-        assert_eq!(rt; held.as_slice(), text.as_bytes(), "{line}");
+        let rows = [(line, input, Status::Done, text.as_str())];
+        assert_eq!(rt; first_other(&rt, alloc, &rows)?, None);
     }
     Ok(())
 }
@@ -80,8 +64,8 @@ fn sum_of(text: &str, lines: usize) -> u64 {
     sum
 }
 
-/// Of all polyominoes of a size: their number, those with a hole, and how many tile by a translation or a half-turn (two
-/// lines), or by any cover (three).
+/// Of all polyominoes of a size: their number, those with a hole, and how many tile by a translation or a half-turn
+/// (two lines), or by any cover (three).
 #[test]
 fn tallies_of_sizes_have_the_known_counts(rt: HostRuntime) -> Result<(), Fail> {
     let alloc = rt.alloc();
@@ -96,9 +80,9 @@ fn tallies_of_sizes_have_the_known_counts(rt: HostRuntime) -> Result<(), Fail> {
         ),
     ] {
         let words = format!(in alloc; "classify square {options}")?;
-        let (_, catalogue) = run_into(&rt, alloc, &words, room(alloc, 20_000)?)?;
-        let source = MemorySource::new(catalogue.held, 4096, Vec::new(alloc));
-        let held = tally(&rt, alloc, "table", source)?;
+        let catalogue = written(&rt, alloc, &words)?;
+        let source = MemorySource::new(catalogue, 4096, Vec::new(alloc));
+        let held = written_over(&rt, alloc, "table", source)?;
         let text = str::from_utf8(&held)?;
         assert!(rt; text.starts_with(begin), "{options}");
         let tilings = sum_of(text, lines);
@@ -132,19 +116,11 @@ fn the_first_faulty_entry_is_told(rt: HostRuntime) -> Result<(), Fail> {
         ("end 0", "bad input 2 6\n"),
     ] {
         let text = format!(in alloc; "brief 1 square given {LIMITS}\n{rest}")?;
-        let (status, sink) = run_over(
-            &rt,
-            alloc,
-            "table",
-            bytes_of(alloc, &text)?,
-            room(alloc, 100)?,
-        )?;
-        assert_eq!(rt; sink.held.as_slice(), line.as_bytes(), "{text}");
-        assert_eq!(rt; status, Status::BadInput, "{text}");
+        let rows = [("table", text.as_str(), Status::BadInput, line)];
+        assert_eq!(rt; first_other(&rt, alloc, &rows)?, None);
     }
-    let (status, sink) = run_over(&rt, alloc, "table", bytes_of(alloc, "")?, room(alloc, 100)?)?;
-    assert_eq!(rt; sink.held.as_slice(), b"bad input 1 6\n".as_slice());
-    assert_eq!(rt; status, Status::BadInput);
+    let rows = [("table", "", Status::BadInput, "bad input 1 6\n")];
+    assert_eq!(rt; first_other(&rt, alloc, &rows)?, None);
     Ok(())
 }
 
@@ -167,17 +143,16 @@ fn a_sample_is_the_tally_of_its_catalogue(rt: HostRuntime) -> Result<(), Fail> {
     let options = "--domain 2 --levels 1 --turns 200";
     for (n, count) in [(7, 200), (8, 40)] {
         let words = format!(in alloc; "sample square {n} {count} 1 {options}")?;
-        let sampled = tally(&rt, alloc, &words, bytes_of(alloc, "")?)?;
+        let sampled = written(&rt, alloc, &words)?;
         let words = format!(in alloc; "{words} --workers 4")?;
-        let again = tally(&rt, alloc, &words, bytes_of(alloc, "")?)?;
+        let again = written(&rt, alloc, &words)?;
         assert_eq!(rt; again.as_slice(), sampled.as_slice(), "{words}");
         assert!(rt; 1 <= n && n <= 32);
         let list = MemorySource::new(grown_list(alloc, n, count, 1)?, 4096, Vec::new(alloc));
         let words = format!(in alloc; "classify square given {options}")?;
-        let (status, catalogue) = run_over(&rt, alloc, &words, list, room(alloc, 400_000)?)?;
-        assert_eq!(rt; status, Status::Done, "{n}");
-        let source = MemorySource::new(catalogue.held, 4096, Vec::new(alloc));
-        let counted = tally(&rt, alloc, "table", source)?;
+        let catalogue = written_over(&rt, alloc, &words, list)?;
+        let source = MemorySource::new(catalogue, 4096, Vec::new(alloc));
+        let counted = written_over(&rt, alloc, "table", source)?;
         assert_eq!(rt; counted.as_slice(), sampled.as_slice(), "{n}");
         let shapes = format!(in alloc; "shapes {count}\n")?;
         assert!(rt; sampled.starts_with(shapes.as_bytes()), "{n}");

@@ -2,7 +2,5 @@
 #![tactic(auto)]
 
 mod samples;
-#[cfg(test)]
-mod tests;
 
 pub use samples::sample;

@@ -4,8 +4,6 @@
 mod answers;
 mod newlines;
 mod stream;
-#[cfg(test)]
-mod tests;
 
 pub use answers::{StreamStop, Taken};
 pub use stream::{INPUT_MAX, Stream};

@@ -6,8 +6,6 @@ mod counting;
 pub mod laws;
 mod table;
 mod tabulation;
-#[cfg(test)]
-mod tests;
 
 pub use answers::{TableStop, Tabulated};
 pub use tabulation::tabulate;

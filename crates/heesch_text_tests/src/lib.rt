@@ -18,6 +18,12 @@ mod parts;
 #[cfg(test)]
 mod reader;
 #[cfg(test)]
+mod stream;
+#[cfg(test)]
 mod table;
 #[cfg(test)]
+mod tabulate;
+#[cfg(test)]
 mod text;
+#[cfg(test)]
+mod words;

@@ -7,7 +7,5 @@ mod options;
 mod requests;
 mod shared_forms;
 mod subjects;
-#[cfg(test)]
-mod tests;
 
 pub use requests::{Request, Usage, parse};

@@ -1,10 +1,9 @@
 //! `heesch check`: whether a catalogue is valid, else its first invalid part.
-use crate::running::{bytes_of, room, run_into, run_over};
 use heesch_app::Status;
 use heesch_io::{MemorySource, NoMemory};
+use heesch_rows::{first_other, written, written_over};
 use std::alloc::Global;
 use std::test::Fail;
-use std::thread::Threads;
 
 pub(crate) const TRIANGLE: &str = "heesch 1 iamond 1 turns 20000 levels 3 domain 4 size 60000000
 shape 1,1
@@ -64,39 +63,20 @@ fn catalogue(alloc: Global, numbers: &[usize], end: &str) -> Result<String, NoMe
     Ok(text)
 }
 
-/// How `check` of a text ended, and what it wrote.
-pub(crate) fn told<T: Threads + Sync>(
-    rt: &T,
-    alloc: Global,
-    text: &str,
-) -> Result<(Status, Vec<u8>), NoMemory> {
-    let (status, sink) = run_over(
-        rt,
-        alloc,
-        "check",
-        bytes_of(alloc, text)?,
-        room(alloc, 100)?,
-    )?;
-    Ok((status, sink.held))
-}
-
 #[test]
 fn valid_catalogues_are_valid(rt: HostRuntime) -> Result<(), Fail> {
     let alloc = rt.alloc();
     let all = catalogue(alloc, &[0, 1, 2, 3, 4], "end 5\n")?;
     let at_size = CORONA.replacen(alloc, "60000000", "12", 1)?;
-    for (text, line) in [
-        (TRIANGLE, "valid 1\n"),
-        (CORONA, "valid 1\n"),
-        (at_size.as_str(), "valid 1\n"),
-        (OVER_SIZE, "valid 1\n"),
-        (HOLED, "valid 1\n"),
-        (all.as_str(), "valid 5\n"),
-    ] {
-        let (status, held) = told(&rt, alloc, text)?;
-        assert_eq!(rt; held.as_slice(), line.as_bytes(), "{text}");
-        assert_eq!(rt; status, Status::Done, "{text}");
-    }
+    let rows = [
+        ("check", TRIANGLE, Status::Done, "valid 1\n"),
+        ("check", CORONA, Status::Done, "valid 1\n"),
+        ("check", at_size.as_str(), Status::Done, "valid 1\n"),
+        ("check", OVER_SIZE, Status::Done, "valid 1\n"),
+        ("check", HOLED, Status::Done, "valid 1\n"),
+        ("check", all.as_str(), Status::Done, "valid 5\n"),
+    ];
+    assert_eq!(rt; first_other(&rt, alloc, &rows)?, None);
     Ok(())
 }
 
@@ -124,9 +104,8 @@ fn the_first_invalid_part_is_told(rt: HostRuntime) -> Result<(), Fail> {
         ([0, 1].as_slice(), "shape ", "invalid entry 3\n"),
     ] {
         let text = catalogue(alloc, numbers, end)?;
-        let (status, held) = told(&rt, alloc, &text)?;
-        assert_eq!(rt; held.as_slice(), line.as_bytes(), "{text}");
-        assert_eq!(rt; status, Status::Invalid, "{text}");
+        let rows = [("check", text.as_str(), Status::Invalid, line)];
+        assert_eq!(rt; first_other(&rt, alloc, &rows)?, None);
     }
     Ok(())
 }
@@ -145,12 +124,10 @@ fn what_classify_wrote_is_valid(rt: HostRuntime) -> Result<(), Fail> {
             "valid 4\n",
         ),
     ] {
-        let (status, written) = run_into(&rt, alloc, words, room(alloc, 400_000)?)?;
-        assert_eq!(rt; status, Status::Done, "{words}");
-        let source = MemorySource::new(written.held, 4096, Vec::new(alloc));
-        let (status, sink) = run_over(&rt, alloc, "check --workers 2", source, room(alloc, 100)?)?;
-        assert_eq!(rt; sink.held.as_slice(), line.as_bytes(), "{words}");
-        assert_eq!(rt; status, Status::Done, "{words}");
+        let text = written(&rt, alloc, words)?;
+        let source = MemorySource::new(text, 4096, Vec::new(alloc));
+        let told = written_over(&rt, alloc, "check --workers 2", source)?;
+        assert_eq!(rt; told.as_slice(), line.as_bytes(), "{words}");
     }
     Ok(())
 }

@@ -1,61 +1,44 @@
 //! `heesch classify GRID given`: shapes from input.
-use crate::running::{bytes_of, room, run_over};
 use heesch_app::Status;
 use heesch_io::MemorySource;
+use heesch_rows::{first_other, room, run_over};
 use std::test::Fail;
-
-const HEADER: &str = "turns 20000 levels 3 domain 4 size 60000000";
 
 #[test]
 fn given_shapes_are_classified_in_their_order(rt: HostRuntime) -> Result<(), Fail> {
-    let alloc = rt.alloc();
-    for (word, grid, options, input, entries) in [
+    let rows = [
         (
-            "heesch",
-            "square",
-            "",
+            "classify square given",
             "0,0 1,0 2,0 0,1 2,1 0,2 1,2",
-            "shape 0,0 1,0 2,0 0,1 2,1 0,2 1,2\nverdict heesch 0 nontiler 1\ncoronas 0\nwall 1 refuted\nempty 9\nbare 1 same\nend 1\n",
+            Status::Done,
+            "heesch 2 square given turns 20000 levels 3 domain 4 size 60000000\nshape 0,0 1,0 2,0 0,1 2,1 0,2 1,2\nverdict heesch 0 nontiler 1\ncoronas 0\nwall 1 refuted\nempty 9\nbare 1 same\nend 1\n",
         ),
         (
-            "brief",
-            "square",
-            "--brief",
+            "classify square given --brief",
             "0,0 1,0 2,0 0,1 2,1 0,2 1,2\n",
-            "shape 0,0 1,0 2,0 0,1 2,1 0,2 1,2\nverdict heesch 0 nontiler 1\nend 1\n",
+            Status::Done,
+            "brief 2 square given turns 20000 levels 3 domain 4 size 60000000\nshape 0,0 1,0 2,0 0,1 2,1 0,2 1,2\nverdict heesch 0 nontiler 1\nend 1\n",
         ),
         (
-            "heesch",
-            "hex",
-            "",
+            "classify hex given",
             "1,0 2,0 0,1 2,1 0,2 1,2\n",
-            "shape 1,0 2,0 0,1 2,1 0,2 1,2\nverdict heesch 0 nontiler 1\ncoronas 0\nwall 1 refuted\nempty 7\nbare 1 same\nend 1\n",
+            Status::Done,
+            "heesch 2 hex given turns 20000 levels 3 domain 4 size 60000000\nshape 1,0 2,0 0,1 2,1 0,2 1,2\nverdict heesch 0 nontiler 1\ncoronas 0\nwall 1 refuted\nempty 7\nbare 1 same\nend 1\n",
         ),
         (
-            "heesch",
-            "square",
-            "",
+            "classify square given",
             "5,5 5,6 6,6 7,6 7,5\n",
-            "shape 0,0 1,0 2,0 0,1 2,1\nverdict tiles halfturn domain 2 classes 1\nlattice 10 1 3\ntile 0 0 0 class 1 by 0 0 0\ntile 2 5 0 class 1 by 2 5 0\nend 1\n",
+            Status::Done,
+            "heesch 2 square given turns 20000 levels 3 domain 4 size 60000000\nshape 0,0 1,0 2,0 0,1 2,1\nverdict tiles halfturn domain 2 classes 1\nlattice 10 1 3\ntile 0 0 0 class 1 by 0 0 0\ntile 2 5 0 class 1 by 2 5 0\nend 1\n",
         ),
-        ("heesch", "square", "", "", "end 0\n"),
-    ] {
-        let line = format!(in alloc; "classify {grid} given {options}")?;
-        let (status, sink) = run_over(
-            &rt,
-            alloc,
-            &line,
-            bytes_of(alloc, input)?,
-            room(alloc, 1_000)?,
-        )?;
-        let text = format!(in alloc; "{word} 2 {grid} given {HEADER}\n{entries}")?;
-        assert_eq!(rt; status, Status::Done, "{line} over {input}");
-        assert_eq!(rt;
-            sink.held.as_slice(),
-            text.as_bytes(),
-            "{line} over {input}"
-        );
-    }
+        (
+            "classify square given",
+            "",
+            Status::Done,
+            "heesch 2 square given turns 20000 levels 3 domain 4 size 60000000\nend 0\n",
+        ),
+    ];
+    assert_eq!(rt; first_other(&rt, rt.alloc(), &rows)?, None);
     Ok(())
 }
 
@@ -78,15 +61,8 @@ fn the_first_fault_is_told(rt: HostRuntime) -> Result<(), Fail> {
         ("iamond", "2,1\n", "bad input 1 3\n"),
     ] {
         let line = format!(in alloc; "classify {grid} given")?;
-        let (status, sink) = run_over(
-            &rt,
-            alloc,
-            &line,
-            bytes_of(alloc, input)?,
-            room(alloc, 100)?,
-        )?;
-        assert_eq!(rt; status, Status::BadInput, "{told}");
-        assert_eq!(rt; sink.held.as_slice(), told.as_bytes(), "{told}");
+        let rows = [(line.as_str(), input, Status::BadInput, told)];
+        assert!(rt; first_other(&rt, alloc, &rows)?.is_none(), "{told}");
     }
     Ok(())
 }

@@ -1,9 +1,9 @@
 //! Samples worked by hand.
-use crate::sample;
 use heesch_cert::Limits;
 use heesch_cnf::Version;
 use heesch_grid::GridName;
 use heesch_pool::Open;
+use heesch_sample::sample;
 use std::test::Fail;
 
 /// Of a single square, which tiles by translations, with one class of tiles, and has no hole.

@@ -1,6 +1,6 @@
 //! Tallies of small catalogues, worked by hand.
-use crate::{TableStop, Tabulated, tabulate};
 use heesch_io::MemorySource;
+use heesch_tabulate::{TableStop, Tabulated, tabulate};
 use std::alloc::Global;
 use std::test::Fail;
 

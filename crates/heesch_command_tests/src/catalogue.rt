@@ -1,5 +1,5 @@
 //! How many calls a catalogue takes, and what stands written where one fails.
-use crate::{WriteStop, write_catalogue_of_size};
+use heesch_catalogue::{WriteStop, write_catalogue_of_size};
 use heesch_cert::{Header, Limits, Subject};
 use heesch_cnf::Version;
 use heesch_grid::GridName;

@@ -1,12 +1,11 @@
-//! `heesch` over altered catalogues and failing devices.
-use crate::checks::{CORONA, HOLED, TRIANGLE, told};
-use crate::lists::FIVE_TETROMINOES;
-use crate::running::{bytes_of, room, run_into, run_over, run_past};
+//! `heesch` over altered catalogues and failing sources.
+use crate::checks::{CORONA, HOLED, TRIANGLE};
 use heesch_app::Status;
-use heesch_io::{MemorySink, MemorySource};
-use heesch_pool::Gate;
-use std::sync::atomic::{AtomicU64, Ordering};
+use heesch_io::{MemorySource, NoMemory};
+use heesch_rows::{first_other, room, run_over};
+use std::alloc::Global;
 use std::test::Fail;
+use std::thread::Threads;
 
 /// What `check` tells of the first bytes of the catalogue of the triangle, where these are fewer than so many.
 const FRONTS: [(usize, &str); 6] = [
@@ -26,9 +25,8 @@ fn every_front_of_a_catalogue_is_invalid(rt: HostRuntime) -> Result<(), Fail> {
     for (until, line) in FRONTS {
         for len in from..until {
             let front = str::from_utf8(&bytes[..len.min(bytes.len())])?;
-            let (status, held) = told(&rt, alloc, front)?;
-            assert_eq!(rt; held.as_slice(), line.as_bytes(), "{len}");
-            assert_eq!(rt; status, Status::Invalid, "{len}");
+            let rows = [("check", front, Status::Invalid, line)];
+            assert_eq!(rt; first_other(&rt, alloc, &rows)?, None, "{len}");
         }
         from = until;
     }
@@ -48,11 +46,29 @@ end 1
 const MANY_CELLS: &str =
     "shape 0,0 1,0 2,0 3,0 4,0 5,0 6,0 7,0 8,0 9,0 10,0 11,0 12,0 13,0 14,0 15,0 16,0 17,0 18,0 19,0 20,0 21,0 22,0 23,0 24,0 25,0 26,0 27,0 28,0 29,0 30,0 31,0 32,0";
 
+/// One line of a text, another in its place, and what `check` tells then.
+type Alteration = (&'static str, &'static str, &'static str, &'static str);
+
+/// The first of the alterations that isn't found so, with what happened.
+fn first_lost<T: Threads + Sync>(
+    rt: &T,
+    alloc: Global,
+    alterations: &[Alteration],
+) -> Result<Option<String>, NoMemory> {
+    for (text, old, new, line) in alterations {
+        let altered = text.replacen(alloc, *old, *new, 1)?;
+        let rows = [("check", altered.as_str(), Status::Invalid, *line)];
+        if let Some(other) = first_other(rt, alloc, &rows)? {
+            return Ok(Some(other));
+        }
+    }
+    Ok(None)
+}
+
 /// One line of a valid text that says what stands in it, and another in its place.
 #[test]
 fn an_altered_line_is_found(rt: HostRuntime) -> Result<(), Fail> {
-    let alloc = rt.alloc();
-    for (text, old, new, line) in [
+    let alterations = [
         (SQUARE, "heesch 1", "brief 1", "invalid header\n"),
         (
             TRIANGLE,
@@ -88,20 +104,15 @@ fn an_altered_line_is_found(rt: HostRuntime) -> Result<(), Fail> {
             "domain 1 size",
             "invalid entry 1\n",
         ),
-    ] {
-        let altered = text.replacen(alloc, old, new, 1)?;
-        let (status, held) = told(&rt, alloc, &altered)?;
-        assert_eq!(rt; held.as_slice(), line.as_bytes(), "{altered}");
-        assert_eq!(rt; status, Status::Invalid, "{altered}");
-    }
+    ];
+    assert_eq!(rt; first_lost(&rt, rt.alloc(), &alterations)?, None);
     Ok(())
 }
 
 /// One line of a tiling, and another in its place.
 #[test]
 fn an_altered_tiling_is_found(rt: HostRuntime) -> Result<(), Fail> {
-    let alloc = rt.alloc();
-    for (text, old, new, line) in [
+    let alterations = [
         (
             TRIANGLE,
             "lattice 1 1 0",
@@ -137,20 +148,15 @@ fn an_altered_tiling_is_found(rt: HostRuntime) -> Result<(), Fail> {
         (TRIANGLE, "tile 0 0 0", "tile 0 0  0", "invalid entry 1\n"),
         (TRIANGLE, "by 0 0 0", "by 0 0 -0", "invalid entry 1\n"),
         (SQUARE, "tile 0 0 0", "tile 8 0 0", "invalid entry 1\n"),
-    ] {
-        let altered = text.replacen(alloc, old, new, 1)?;
-        let (status, held) = told(&rt, alloc, &altered)?;
-        assert_eq!(rt; held.as_slice(), line.as_bytes(), "{altered}");
-        assert_eq!(rt; status, Status::Invalid, "{altered}");
-    }
+    ];
+    assert_eq!(rt; first_lost(&rt, rt.alloc(), &alterations)?, None);
     Ok(())
 }
 
 /// One line of a refutation or of a corona, and another in its place.
 #[test]
 fn an_altered_refutation_is_found(rt: HostRuntime) -> Result<(), Fail> {
-    let alloc = rt.alloc();
-    for (text, old, new, line) in [
+    let alterations = [
         (CORONA, " 1,0,1\n", "\n", "invalid entry 1\n"),
         (HOLED, "empty 9", "empty 8", "invalid entry 1\n"),
         (HOLED, "empty 9", "empty 0", "invalid entry 1\n"),
@@ -165,12 +171,8 @@ fn an_altered_refutation_is_found(rt: HostRuntime) -> Result<(), Fail> {
         (HOLED, "bare 1 same", "bare 2 same", "invalid entry 1\n"),
         (HOLED, "bare 1 same\n", "", "invalid entry 1\n"),
         (HOLED, "nontiler 1", "nontiler 2", "invalid entry 1\n"),
-    ] {
-        let altered = text.replacen(alloc, old, new, 1)?;
-        let (status, held) = told(&rt, alloc, &altered)?;
-        assert_eq!(rt; held.as_slice(), line.as_bytes(), "{altered}");
-        assert_eq!(rt; status, Status::Invalid, "{altered}");
-    }
+    ];
+    assert_eq!(rt; first_lost(&rt, rt.alloc(), &alterations)?, None);
     Ok(())
 }
 
@@ -189,78 +191,5 @@ fn a_source_that_fails_gets_no_answer(rt: HostRuntime) -> Result<(), Fail> {
             assert_eq!(rt; sink.held.as_slice(), b"valid 1\n".as_slice());
         }
     }
-    Ok(())
-}
-
-/// The five tetrominoes are written in 5 calls of at most 16 bytes: each that fails leaves what was written before.
-#[test]
-fn a_sink_that_fails_keeps_a_prefix(rt: HostRuntime) -> Result<(), Fail> {
-    let alloc = rt.alloc();
-    let text = FIVE_TETROMINOES.as_bytes();
-    for call in 1..=5 {
-        let sink = MemorySink::new(alloc, 100, 16, [call].to_vec(alloc)?)?;
-        let (status, sink) = run_into(&rt, alloc, "list square 4", sink)?;
-        assert_eq!(rt; status, Status::WriteFault, "{call}");
-        let held = sink.held.as_slice();
-        assert!(rt;
-            text.starts_with(held) && held.len() as u64 <= 16 * (call - 1),
-            "{call}"
-        );
-    }
-    Ok(())
-}
-
-/// Counts the tickets that pass it.
-struct Passes {
-    count: AtomicU64,
-}
-
-impl Passes {
-    fn new() -> Passes {
-        Passes {
-            count: AtomicU64::new(0),
-        }
-    }
-
-    fn count(&self) -> u64 {
-        self.count.load(Ordering::SeqCst)
-    }
-}
-
-impl Gate for Passes {
-    fn pass(&self, _worker: u32, _ticket: u32) {
-        self.count.fetch_add(1, Ordering::SeqCst);
-    }
-}
-
-impl Drop for Passes {
-    fn drop(self) {
-        let Self { count: _ } = self;
-    }
-}
-
-/// There are 369 octominoes. A sink that fails its second call holds the header's text alone, and 256 were classified.
-#[test]
-fn a_catalogue_ends_where_its_sink_fails(rt: HostRuntime) -> Result<(), Fail> {
-    let alloc = rt.alloc();
-    let listed = Passes::new();
-    let list = "list square 8";
-    let (status, _sink) = run_past(
-        &rt,
-        alloc,
-        list,
-        bytes_of(alloc, "")?,
-        room(alloc, 20_000)?,
-        &listed,
-    )?;
-    assert_eq!(rt; status, Status::Done);
-    let passed = Passes::new();
-    let classify = "classify square 8 --domain 1 --levels 1 --turns 1 --workers 2";
-    let sink = MemorySink::new(alloc, 20_000, 20_000, [2].to_vec(alloc)?)?;
-    let (status, sink) = run_past(&rt, alloc, classify, bytes_of(alloc, "")?, sink, &passed)?;
-    assert_eq!(rt; status.number(), 5);
-    let header = b"heesch 2 square 8 turns 1 levels 1 domain 1 size 60000000\n";
-    assert_eq!(rt; sink.held.as_slice(), header.as_slice());
-    assert_eq!(rt; passed.count().checked_sub(listed.count()), Some(256));
     Ok(())
 }

@@ -1,7 +1,8 @@
-use crate::{Request, Usage, parse};
+//! Command lines, and what they ask for.
 use heesch_cert::{Limits, Subject};
 use heesch_cnf::Version;
 use heesch_grid::GridName;
+use heesch_words::{Request, Usage, parse};
 use std::alloc::{AllocError, Global};
 use std::test::Fail;
 

@@ -1,10 +1,8 @@
 //! `heesch list`: what is written, and what is refused.
-use crate::running::{room, run_into};
+use crate::FIVE_TETROMINOES;
 use heesch_app::Status;
+use heesch_rows::{first_other, written};
 use std::test::Fail;
-
-pub(crate) const FIVE_TETROMINOES: &str =
-    "0,0 1,0 2,0 3,0\n0,0 1,0 2,0 0,1\n0,0 1,0 2,0 1,1\n0,0 1,0 0,1 1,1\n0,0 1,0 1,1 2,1\n";
 
 /// How many free polyominoes, polyhexes, polyiamonds and polykites there are of 1 cell, 2 cells and so on.
 const COUNTS: [(&str, [usize; 10]); 4] = [
@@ -16,21 +14,27 @@ const COUNTS: [(&str, [usize; 10]); 4] = [
 
 #[test]
 fn small_lists_are_written(rt: HostRuntime) -> Result<(), Fail> {
-    let alloc = rt.alloc();
-    for (line, text) in [
-        ("list square 1", "0,0\n"),
-        ("list square 4", FIVE_TETROMINOES),
-        ("list square 4 --workers 3", FIVE_TETROMINOES),
-        ("list hex 3", "0,0 1,0 2,0\n0,0 1,0 0,1\n0,0 1,0 1,1\n"),
-        ("list iamond 1", "1,1\n"),
-        ("list iamond 3", "1,1 4,1 2,2\n"),
-        ("list kite 1", "1,1\n"),
-        ("list kite 2", "1,1 4,1\n4,1 5,2\n"),
-    ] {
-        let (status, sink) = run_into(&rt, alloc, line, room(alloc, 100)?)?;
-        assert_eq!(rt; status, Status::Done, "{line}");
-        assert_eq!(rt; sink.held.as_slice(), text.as_bytes(), "{line}");
-    }
+    let rows = [
+        ("list square 1", "", Status::Done, "0,0\n"),
+        ("list square 4", "", Status::Done, FIVE_TETROMINOES),
+        (
+            "list square 4 --workers 3",
+            "",
+            Status::Done,
+            FIVE_TETROMINOES,
+        ),
+        (
+            "list hex 3",
+            "",
+            Status::Done,
+            "0,0 1,0 2,0\n0,0 1,0 0,1\n0,0 1,0 1,1\n",
+        ),
+        ("list iamond 1", "", Status::Done, "1,1\n"),
+        ("list iamond 3", "", Status::Done, "1,1 4,1 2,2\n"),
+        ("list kite 1", "", Status::Done, "1,1\n"),
+        ("list kite 2", "", Status::Done, "1,1 4,1\n4,1 5,2\n"),
+    ];
+    assert_eq!(rt; first_other(&rt, rt.alloc(), &rows)?, None);
     Ok(())
 }
 
@@ -43,9 +47,8 @@ fn lists_have_the_known_lengths(rt: HostRuntime) -> Result<(), Fail> {
                 continue;
             }
             let line = format!(in alloc; "list {grid} {}", below + 1)?;
-            let (status, sink) = run_into(&rt, alloc, &line, room(alloc, 300_000)?)?;
-            assert_eq!(rt; status, Status::Done, "{line}");
-            let lines = sink.held.iter().filter(|byte| **byte == b'\n').count();
+            let held = written(&rt, alloc, &line)?;
+            let lines = held.iter().filter(|byte| **byte == b'\n').count();
             assert_eq!(rt; lines, *count, "{line}");
         }
     }
@@ -55,19 +58,19 @@ fn lists_have_the_known_lengths(rt: HostRuntime) -> Result<(), Fail> {
 #[test]
 fn workers_change_no_byte(rt: HostRuntime) -> Result<(), Fail> {
     let alloc = rt.alloc();
-    let (_, one) = run_into(&rt, alloc, "list square 7", room(alloc, 10_000)?)?;
+    let line = "list square 7";
+    let one = written(&rt, alloc, line)?;
+    assert!(rt; !one.is_empty());
     for workers in [1, 2, 5, 64] {
-        let line = format!(in alloc; "list square 7 --workers {workers}")?;
-        let (status, sink) = run_into(&rt, alloc, &line, room(alloc, 10_000)?)?;
-        assert_eq!(rt; status, Status::Done, "{line}");
-        assert_eq!(rt; sink.held.as_slice(), one.held.as_slice(), "{line}");
+        let line = format!(in alloc; "{line} --workers {workers}")?;
+        let held = written(&rt, alloc, &line)?;
+        assert_eq!(rt; held.as_slice(), one.as_slice(), "{line}");
     }
     Ok(())
 }
 
 #[test]
 fn other_words_are_refused_and_nothing_is_written(rt: HostRuntime) -> Result<(), Fail> {
-    let alloc = rt.alloc();
     for line in [
         "",
         "list",
@@ -85,9 +88,8 @@ fn other_words_are_refused_and_nothing_is_written(rt: HostRuntime) -> Result<(),
         "list square 4 --workers 2 --workers 2",
         "table --brief",
     ] {
-        let (status, sink) = run_into(&rt, alloc, line, room(alloc, 100)?)?;
-        assert_eq!(rt; status, Status::Usage, "{line}");
-        assert_eq!(rt; sink.calls, 0, "{line}");
+        let rows = [(line, "", Status::Usage, "")];
+        assert_eq!(rt; first_other(&rt, rt.alloc(), &rows)?, None);
     }
     Ok(())
 }

@@ -1,10 +1,10 @@
 //! What an outer text has, how many calls it takes, and what stands written where one fails.
-use crate::write_outers_of_size;
 use heesch_catalogue::WriteStop;
 use heesch_cert::Limits;
 use heesch_cnf::Version;
 use heesch_grid::GridName;
 use heesch_io::MemorySink;
+use heesch_outers::write_outers_of_size;
 use heesch_pool::Open;
 use std::test::Fail;
 

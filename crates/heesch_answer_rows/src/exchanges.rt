@@ -1,14 +1,13 @@
 //! `heesch formula` and `heesch answer`: formulas for other solvers, and their models.
-use crate::running::{bytes_of, room, run_over};
 use heesch_app::Status;
+use heesch_rows::{bytes_of, first_other, written_over};
 use std::test::Fail;
 
 const CORONA: &str = "coronas 1\nlayer 0,-1,-1 0,0,-1 0,1,-1 0,-1,0 0,1,0 0,-1,1 0,0,1 0,1,1\n";
 
 #[test]
 fn formulas_and_answers_over_the_single_square(rt: HostRuntime) -> Result<(), Fail> {
-    let alloc = rt.alloc();
-    for (line, input, status, text) in [
+    let rows = [
         (
             "formula square 1",
             "0,0",
@@ -65,15 +64,8 @@ fn formulas_and_answers_over_the_single_square(rt: HostRuntime) -> Result<(), Fa
             Status::BadInput,
             "bad input 1 6\n",
         ),
-    ] {
-        let (ended, sink) = run_over(&rt, alloc, line, bytes_of(alloc, input)?, room(alloc, 200)?)?;
-        assert_eq!(rt; ended, status, "{line} over {input}");
-        assert_eq!(rt;
-            sink.held.as_slice(),
-            text.as_bytes(),
-            "{line} over {input}"
-        );
-    }
+    ];
+    assert_eq!(rt; first_other(&rt, rt.alloc(), &rows)?, None);
     Ok(())
 }
 
@@ -81,15 +73,9 @@ fn formulas_and_answers_over_the_single_square(rt: HostRuntime) -> Result<(), Fa
 #[test]
 fn an_empty_clause_is_written(rt: HostRuntime) -> Result<(), Fail> {
     let alloc = rt.alloc();
-    let (status, sink) = run_over(
-        &rt,
-        alloc,
-        "formula square 1",
-        bytes_of(alloc, "0,0 1,0 2,0 0,1 2,1 0,2 1,2\n")?,
-        room(alloc, 1_000_000)?,
-    )?;
-    assert_eq!(rt; status, Status::Done);
-    let line = sink.held.as_slice().split(|byte| *byte == b'\n').nth(9);
+    let shape = bytes_of(alloc, "0,0 1,0 2,0 0,1 2,1 0,2 1,2\n")?;
+    let held = written_over(&rt, alloc, "formula square 1", shape)?;
+    let line = held.as_slice().split(|byte| *byte == b'\n').nth(9);
     assert_eq!(rt; line, Some(b"0".as_slice()));
     Ok(())
 }

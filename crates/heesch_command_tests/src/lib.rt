@@ -1,0 +1,9 @@
+//! The calls that write catalogues, tallies and outer texts, tried on values from outside. There are tests here alone.
+#![tactic(auto)]
+
+#[cfg(test)]
+mod catalogue;
+#[cfg(test)]
+mod outers;
+#[cfg(test)]
+mod sample;
