@@ -1,5 +1,5 @@
 //! The torus formulas of shapes, as a plain Rust program builds them by the same method: residue sets in an ordered
-//! map, lists of variables by cells, and marks for the pairs. Reads lines of cells as `A,B`, and prints for each shape
+//! map, lists of variables by cells, marks for the pairs, and clauses in one array. Reads lines of cells as `A,B`, and prints for each shape
 //! the variables, clauses and literals of its formulas for all triples of domain 4, and the time.
 use std::collections::BTreeMap;
 use std::io::BufRead;
@@ -41,9 +41,18 @@ struct Iso {
     db: i32,
 }
 
-struct Lit {
-    var: u32,
-    positive: bool,
+/// Clauses one after another: each literal is twice its variable, and one more where it is positive.
+#[derive(Default)]
+struct Formula {
+    literals: Vec<u32>,
+    ends: Vec<u32>,
+}
+
+impl Formula {
+    fn add(&mut self, clause: impl IntoIterator<Item = u32>) {
+        self.literals.extend(clause);
+        self.ends.push(self.literals.len() as u32);
+    }
 }
 
 #[derive(Clone, Copy)]
@@ -106,7 +115,7 @@ fn variables(cells: &[Cell], triple: Triple) -> Vec<(Residues, Iso)> {
     found.into_iter().collect()
 }
 
-fn formula(cells: &[Cell], triple: Triple) -> (usize, Vec<Vec<Lit>>) {
+fn formula(cells: &[Cell], triple: Triple) -> (usize, Formula) {
     let variables = variables(cells, triple);
     let number = |c: &Cell| (c.0 * triple.p + c.1) as usize;
     let mut lists: Vec<Vec<u32>> = vec![Vec::new(); (triple.p * triple.q) as usize];
@@ -115,9 +124,9 @@ fn formula(cells: &[Cell], triple: Triple) -> (usize, Vec<Vec<Lit>>) {
             lists[number(c)].push(before as u32 + 1);
         }
     }
-    let mut clauses: Vec<Vec<Lit>> = Vec::new();
+    let mut formula = Formula::default();
     for list in &lists {
-        clauses.push(list.iter().map(|var| Lit { var: *var, positive: true }).collect());
+        formula.add(list.iter().map(|var| 2 * var + 1));
     }
     let mut marks = vec![0; variables.len() + 1];
     for (before, (set, _)) in variables.iter().enumerate() {
@@ -129,12 +138,11 @@ fn formula(cells: &[Cell], triple: Triple) -> (usize, Vec<Vec<Lit>>) {
         }
         for second in first + 1..marks.len() as u32 {
             if marks[second as usize] == first {
-                let literal = |var| Lit { var, positive: false };
-                clauses.push(vec![literal(first), literal(second)]);
+                formula.add([2 * first, 2 * second]);
             }
         }
     }
-    (variables.len(), clauses)
+    (variables.len(), formula)
 }
 
 fn main() {
@@ -152,12 +160,10 @@ fn main() {
         for p in (1..=area).filter(|p| area % p == 0) {
             for s in 0..p {
                 let triple = Triple { p, q: area / p, s };
-                let (vars, clauses) = formula(&cells, triple);
+                let (vars, formula) = formula(&cells, triple);
                 counts.0 += vars;
-                counts.1 += clauses.len();
-                for clause in &clauses {
-                    counts.2 += clause.iter().filter(|lit| lit.positive || lit.var > 0).count();
-                }
+                counts.1 += formula.ends.len();
+                counts.2 += formula.literals.iter().filter(|literal| **literal > 1).count();
             }
         }
         println!("{} {} {}: {} ms", counts.0, counts.1, counts.2, start.elapsed().as_millis());

@@ -1,6 +1,6 @@
 -- One line after the other, as the loop goes.
 use Rattle.std.proofs.Common.{◌≡◌, ℕ, ◌+◌, ◌<◌, ◌^◌, List, [], ◌∷◌, ◌++◌, length, Result, Ok, Err, refl, sym, ap, subst, ◌∙◌, append_assoc, arith, inl, inr}
-use Rattle.std.proofs.lemmas.List.{append-nil, length-append}
+use Rattle.std.proofs.lemmas.List.{length-append}
 use Rattle.heesch_text.specs.Lines.{text_of}
 use Rattle.heesch_line.specs.Forms.{HasNoNewline}
 use Rattle.heesch_reader.specs.declared.item.Item.{Item}

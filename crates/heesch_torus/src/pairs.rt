@@ -69,11 +69,7 @@ fn pair_clause(first: u32, second: u32) -> [Lit; 2]
 }
 
 /// Adds the clauses of a variable with each later one that is marked with its number.
-fn add_marked(
-    formula: &mut FlatFormula,
-    marks: &[u32],
-    number: u32,
-) -> Result<(), NoMemory>
+fn add_marked(formula: &mut FlatFormula, marks: &[u32], number: u32) -> Result<(), NoMemory>
     requires some { 1 ≤ number }
     requires below { number < length marks.now }
     requires few { length marks.now ≤ 4609 }
