@@ -118,7 +118,9 @@ pub(crate) fn audits<G: Grid + Send + Sync, T: Threads + Sync, H: Gate + Sync>(
     ensures audits { IfOk result (λ audits. AreAudits G.geometry limits items.now audits.items) }
 {
     let handle = SharedHandle { rt };
-    audits_by::<G, SharedHandle<'_, T>, H>(&handle, alloc, items, from, until, limits, workers, gate)
+    audits_by::<G, SharedHandle<'_, T>, H>(
+        &handle, alloc, items, from, until, limits, workers, gate,
+    )
 }
 
 /// How many of the audits from the first on say that an entry is true.
