@@ -12,6 +12,5 @@ mod shares;
 mod tables;
 
 pub use running::{
-    Row, bytes_of, first_other, room, run_into, run_over, run_past, written,
-    written_over,
+    Row, bytes_of, first_other, room, run_into, run_over, run_past, written, written_over,
 };
