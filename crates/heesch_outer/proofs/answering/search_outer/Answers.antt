@@ -1,4 +1,4 @@
-use Rattle.std.proofs.Common.{subst}
+use Rattle.std.proofs.Common.{◌+◌, subst}
 use Rattle.heesch_levels.specs.UpTo.{IsAnswerUpTo}
 use Rattle.heesch_outer.proofs.OuterLayers.{outer_spelled}
 use Rattle.heesch_outer.proofs.answering.search_outer.Goals as goal
