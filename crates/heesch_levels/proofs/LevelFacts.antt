@@ -1,13 +1,14 @@
 -- What the end of a search says of the level.
 use Rattle.std.proofs.Common.{◌≡◌, refl, sym, ap, subst, ◌∙◌, ℕ, ◌≤◌, ◌^◌, List, [], ◌∷◌, length, map, Bool, true, false, All, arith}
-use Rattle.std.specs.Prelude.{IfSome, IsTrue, MatchOption, Option, Some, None}
+use Rattle.std.specs.Prelude.{IfSome, MatchOption, Option, Some, None}
 use Rattle.std.specs.List.{AllZip, range_with_len}
 use Rattle.std.proofs.lemmas.List.{length-map}
-use Rattle.std.proofs.lemmas.List.FromFn.{length-range_with_len}
+use Rattle.std.proofs.lemmas.List.FromFn.{length-range_with_len, take-map-range_with_len}
 use Rattle.std.proofs.lemmas.Slice.Zip.{AllZip-long}
 use Rattle.heesch_grid.specs.declared.Cell.{Cell}
 use Rattle.heesch_grid.specs.declared.isometries.Iso.{Iso}
 use Rattle.heesch_grid.specs.Geometry.{Geometry, IsGrid}
+use Rattle.heesch_grid.specs.Corona.{StaysHoleFree}
 use Rattle.heesch_grid.specs.Polyform.{IsPolyform}
 use Rattle.heesch_grid.specs.Placement.{IsLeastIsometry}
 use Rattle.heesch_grid.specs.Clauses.{formula_size}
@@ -24,103 +25,27 @@ use Rattle.heesch_cdcl.specs.Searching.{NoFinal}
 use Rattle.heesch_cdcl.proofs.Counting.{few_lines}
 use Rattle.heesch_cert.specs.declared.proof.Proof.{Proof}
 use Rattle.heesch_cert.specs.declared.proof.Step.{Step}
-use Rattle.heesch_cert.specs.declared.proof.Cut.{Cut}
 use Rattle.heesch_cert.specs.declared.entry.Layers.{Layers}
 use Rattle.heesch_cert.specs.Formulas.{IsCountedFormula}
 use Rattle.heesch_cert.specs.TrueEntry.{Spells}
-use Rattle.heesch_cert.specs.Proofs.{log_of, line_of_step, IsLawfulStep, HasNoCut, RefutesCoronas, IsTooLarge}
+use Rattle.heesch_cert.specs.Proofs.{log_of, line_of_step, IsLawfulStep, HasNoCut, RefutesCoronas, IsSpentOnCoronas, IsTooLarge}
 use Rattle.heesch_cert.proofs.Models.{models_are_coronas}
-use Rattle.heesch_cert.proofs.CutSound.{refuted_means_none}
 use Rattle.heesch_cert.proofs.Exactly.{too_large_exactly}
 use Rattle.heesch_place.specs.Universes.{Levels}
-use Rattle.heesch_cuts.specs.Chosen.{IsOpen}
 use Rattle.heesch_levels.specs.Wall.{RefutesWithoutCut, ShowsHoles, level_answer}
 use Rattle.heesch_levels.specs.declared.answer.LevelAnswer.{LevelAnswer}
 use Rattle.heesch_levels.specs.declared.answer.WallAnswer.{WallAnswer}
-use Rattle.heesch_levels.specs.declared.answer.LevelAnswer.TheVariants.{Refuted}
+use Rattle.heesch_levels.specs.declared.answer.LevelAnswer.TheVariants.{Coronas, Refuted, Spent}
 use Rattle.heesch_levels.specs.declared.searching.Ending.{Ending}
-use Rattle.heesch_levels.specs.declared.searching.Ending.TheVariants.{Refuted as Refuted-end}
-use Rattle.heesch_levels.specs.Searching.{IsSearch, IsEnded, IsUnder, IsAtOnce, EndsAtOnce}
-use Rattle.heesch_levels.specs.Answer.{IsLevelAnswer, HasNewSteps, SpellsCoronas, RefutesLevel, IsSpentLevel, NamesEmptyClause, NamesEmptyClauses}
-
-module _ (version : Version) (g : Geometry) (law : IsGrid g) (hole_free : Bool) (turns : ℕ) (u : Levels) (form : IsPolyform g u.shape) (some : 1 ≤ u.level) (p : Problem) (cuts : List Cut) (holed : Option (List Bool)) (search : IsSearch g hole_free turns u p cuts holed) (formula : IsCountedFormula version g u.shape u.level u.vars p.vars p.clauses) where
-  -- the layers of a model are coronas, hole-free where it leaves no hole
-  pub spells_coronas : (values : List Bool) → IsModel p.vars p.clauses values → (layers : Layers) →
-      Spells g u.shape layers.layers (chosen_layers (assignment_of values) u.vars u.level) → (is_free : Bool) → (IsTrue is_free → IsOpen g u values) → SpellsCoronas g u.shape u.level is_free layers
-  spells_coronas values model layers spelled is_free free =
-      let tiles = chosen_layers (assignment_of values) u.vars u.level in
-      let long : length tiles ≡ length layers.layers = AllZip-long (λ (layer : List Iso) (placed : List (List Cell)). AllZip (λ by tile. IsLeastIsometry g u.shape tile by) layer placed) layers.layers tiles spelled.isometries in
-      let coronas = models_are_coronas version g u.shape u.level u.vars p.vars p.clauses (assignment_of values) law form some formula model.satisfies in
-      record {
-        count = sym long ∙ length-map (range_with_len 1 u.level) (chosen_layer (assignment_of values) u.vars) ∙ length-range_with_len 1 u.level;
-        tiles = tiles;
-        spelled = spelled;
-        coronas = coronas;
-        free = λ t. (coronas, free t);
-      }
-
-  module _ (size : ℕ) (fits : formula_size p.clauses ≤ size) (proof : Proof) (same : log_of u.vars proof ≡ p.log) (lawful : All (IsLawfulStep g u.shape u.level u.vars) proof.steps) (no_cut : cuts ≡ [] → HasNoCut proof) where
-    -- a log that refutes, as a proof
-    pub refutes_level : Refutes p.vars p.clauses p.log → RefutesLevel version g u.shape u.level hole_free size proof
-    refutes_level r =
-        let refutes : RefutesCoronas version g u.shape u.level size proof = record {
-          vars = u.vars;
-          count = p.vars;
-          clauses = p.clauses;
-          formula = formula;
-          fits = fits;
-          lawful = lawful;
-          refutes = subst (Refutes p.vars p.clauses) (sym same) r;
-        } in
-        let new_steps : HasNewSteps version g u.shape u.level proof = record {
-          vars = u.vars;
-          count = p.vars;
-          clauses = p.clauses;
-          formula = formula;
-          new_lines = subst (λ (log : Log). LinesAreNew p.clauses log.lines) (sym same) search.valid.fresh;
-        } in
-        let none = refuted_means_none version g u.shape u.level size proof law form some refutes in
-        record { refutes = refutes; new_steps = new_steps; none_free = none.0; none = none.1; no_cut = λ f. no_cut (search.no_cut f) }
-
-    -- a log that is spent, as a proof
-    pub spent_level : IsSpent p.vars p.clauses p.turns p.log × NoFinal (clauses_with p.clauses p.log.lines) → IsSpentLevel version g u.shape u.level hole_free turns size proof
-    spent_level (s, none) = record {
-      is_spent = record {
-        vars = u.vars;
-        count = p.vars;
-        clauses = p.clauses;
-        formula = formula;
-        fits = fits;
-        lawful = lawful;
-        is_spent = subst (λ n. IsSpent p.vars p.clauses n (log_of u.vars proof)) search.turns_are (subst (IsSpent p.vars p.clauses p.turns) (sym same) s);
-      };
-      open_still = record {
-        vars = u.vars;
-        count = p.vars;
-        clauses = p.clauses;
-        formula = formula;
-        no_final = subst (λ (log : Log). NoFinal (clauses_with p.clauses log.lines)) (sym same) none;
-        few = subst (λ n. n ≤ 3 ^ p.vars) (s.used ∙ search.turns_are) (few_lines p.vars p.clauses p.log.lines search.valid.hold search.valid.fresh);
-      };
-      no_cut = λ f. no_cut (search.no_cut f);
-    }
-
--- a formula that fits isn't too large
-never_too_large : (version : Version) (g : Geometry) → IsGrid g → (shape : List Cell) → IsPolyform g shape → (j : ℕ) (vars : List Variable) (count : ℕ) (clauses : List (List Lit)) → IsCountedFormula version g shape j vars count clauses → (size : ℕ) → formula_size clauses ≤ size → ¬ IsTooLarge version g shape j size
-never_too_large version g law shape form j vars count clauses formula size fits large =
-    let above = (too_large_exactly version g law shape form j vars count clauses formula size).0 large in
-    absurd (omega (arith, above, fits))
-
--- what is shown of a universe and its problem holds of the shape and the level that they are of
-module _ (version : Version) (g : Geometry) (shape : List Cell) (j : ℕ) (hole_free : Bool) (turns size : ℕ) (u : Levels) (p : Problem) (is_free : Bool) (most : ℕ) (under : IsUnder version g shape j hole_free turns size u p is_free most) where
-  pub under_that : (P : List Cell → ℕ → Bool → ℕ → Type 0) → P u.shape u.level is_free most → P shape j hole_free turns
-  under_that P h =
-      subst (λ cells. P cells j hole_free turns) under.shape_is (subst (λ n. P u.shape n hole_free turns) under.level_is
-      (subst (λ b. P u.shape u.level b turns) under.free_is (subst (λ n. P u.shape u.level is_free n) under.turns_are h)))
-
-  pub fits_under : IsGrid g → (cuts : List Cut) (holed : Option (List Bool)) (ending : Ending) → IsEnded g is_free most u p cuts holed ending → ¬ IsTooLarge version g shape j size
-  fits_under law cuts holed ending e large =
-      under_that (λ cells n b k. ¬ IsTooLarge version g cells n size) (never_too_large version g law u.shape e.polyform u.level u.vars p.vars p.clauses under.formula size under.fits) large
+use Rattle.heesch_levels.specs.declared.searching.Ending.TheVariants.{Model, Refuted as Refuted-end, Spent as Spent-end}
+use Rattle.heesch_levels.specs.declared.searching.Search.{Search}
+use Rattle.heesch_levels.specs.Searching.{IsCutUpTo, IsEnded, IsEnding, IsFreeUpTo, IsUnder, IsAtOnce, EndsAtOnce}
+use Rattle.heesch_levels.specs.Steps.{proof_of}
+use Rattle.heesch_levels.specs.UpTo.{HasCutsUpTo, IsAnswerUpTo, IsSpentUpTo, IsStepUpTo, RefutesUpTo, SpellsUpTo}
+use Rattle.heesch_levels.specs.Answer.{IsLevelAnswer, HasNewSteps, LeavesOpen, SpellsCoronas, RefutesLevel, NamesEmptyClause, NamesEmptyClauses}
+use Rattle.heesch_levels.proofs.SearchFacts.{model_first}
+use Rattle.heesch_levels.proofs.StepFacts.{log_of_proof, steps_each}
+use Rattle.heesch_levels.proofs.UpToFacts.{level_answer_of}
 
 -- ---- an empty clause of the formula
 
@@ -135,32 +60,147 @@ named_proof vars proof log n same last none =
     let hints : proof.last ≡ Some (n ∷ []) = ap (λ (l : Log). l.last) same ∙ last in
     λ i. Refuted (record { steps = steps i; last = hints i })
 
-module _ (version : Version) (g : Geometry) (hole_free : Bool) (turns : ℕ) (u : Levels) (p : Problem) (cuts : List Cut) (holed : Option (List Bool)) (ending : Ending) (ended : IsEnded g hole_free turns u p cuts holed ending) (formula : IsCountedFormula version g u.shape u.level u.vars p.vars p.clauses) where
-  -- an end that isn't a refutation has no empty clause
-  pub names_none : ¬ (ending ≡ Refuted-end) → (answer : LevelAnswer) → NamesEmptyClauses version g u.shape u.level answer
-  names_none other answer = record {
-    vars = u.vars;
-    count = p.vars;
-    clauses = p.clauses;
-    formula = formula;
-    named = λ n first. absurd (other (ended.at_once n first).0);
-  }
-
-  -- a refutation that came at once
-  pub names_first : (proof : Proof) → log_of u.vars proof ≡ p.log → NamesEmptyClauses version g u.shape u.level (Refuted proof)
-  names_first proof same = record {
-    vars = u.vars;
-    count = p.vars;
-    clauses = p.clauses;
-    formula = formula;
-    named = λ n first. let end = ended.at_once n first in named_proof u.vars proof p.log n same end.1.0 end.1.1;
-  }
-
 -- how a search ended at once that had no line before
 pub at_once_from : (old new : Problem) (ending : Ending) → EndsAtOnce old new ending → SameProblem old new → old.log.lines ≡ [] → IsAtOnce new ending
 at_once_from old new ending at same none n first =
     let end = at n (subst (λ cs. IsFirstEmpty cs n) same.clauses first) in
     (end.0, (end.1.0, end.1.1 ∙ none))
+
+-- ---- what the end says of the universe's shape and level
+
+module _ (version : Version) (g : Geometry) (law : IsGrid g) (u : Levels) (k : ℕ) (s : Search) (ending : Ending) (e : IsEnded g u k s ending) (formula : IsCountedFormula version g u.shape u.level u.vars s.solver.vars s.solver.clauses) where
+  -- the layers of a model that leaves no hole up to a level
+  pub spells_up_to : (values : List Bool) → IsModel s.solver.vars s.solver.clauses values → (layers : Layers) → Spells g u.shape layers.layers (chosen_layers (assignment_of values) u.vars u.level)
+      → (m : ℕ) → m ≤ u.level → IsFreeUpTo g u m values → SpellsUpTo g u.shape u.level m layers
+  spells_up_to values model layers spelled m low free =
+      let v = assignment_of values in
+      let tiles = chosen_layers v u.vars u.level in
+      let long : length tiles ≡ length layers.layers = AllZip-long (λ (layer : List Iso) (placed : List (List Cell)). AllZip (λ by tile. IsLeastIsometry g u.shape tile by) layer placed) layers.layers tiles spelled.isometries in
+      record {
+        count = sym long ∙ length-map (range_with_len 1 u.level) (chosen_layer v u.vars) ∙ length-range_with_len 1 u.level;
+        tiles = tiles;
+        spelled = spelled;
+        coronas = models_are_coronas version g u.shape u.level u.vars s.solver.vars s.solver.clauses v law e.polyform e.some formula model.satisfies;
+        free = subst (StaysHoleFree g (u.shape ∷ [])) (sym (take-map-range_with_len (chosen_layer v u.vars) 1 u.level m low)) free;
+      }
+
+  abbrev proof : Proof
+  proof = proof_of s.solver.log s.cuts
+
+  same : log_of u.vars proof ≡ s.solver.log
+  same = log_of_proof u.vars s.solver.log s.cuts e.search.given
+
+  lawful : All (IsLawfulStep g u.shape u.level u.vars) proof.steps
+  lawful = steps_each (IsCutUpTo g u k) (IsLawfulStep g u.shape u.level u.vars) (λ clause hints. tt) (λ cut c. c.lawful) s.solver.log.lines s.cuts e.search.lawful
+
+  up_to : HasCutsUpTo k proof
+  up_to = steps_each (IsCutUpTo g u k) (IsStepUpTo k) (λ clause hints. tt) (λ cut c. c.up_to) s.solver.log.lines s.cuts e.search.lawful
+
+  module _ (size : ℕ) (fits : formula_size s.solver.clauses ≤ size) where
+    -- a log that refutes, as a proof
+    pub refutes_up_to : Refutes s.solver.vars s.solver.clauses s.solver.log → RefutesUpTo version g u.shape u.level k size proof
+    refutes_up_to r =
+        let refutes : RefutesCoronas version g u.shape u.level size proof = record {
+          vars = u.vars;
+          count = s.solver.vars;
+          clauses = s.solver.clauses;
+          formula = formula;
+          fits = fits;
+          lawful = lawful;
+          refutes = subst (Refutes s.solver.vars s.solver.clauses) (sym same) r;
+        } in
+        let new_steps : HasNewSteps version g u.shape u.level proof = record {
+          vars = u.vars;
+          count = s.solver.vars;
+          clauses = s.solver.clauses;
+          formula = formula;
+          new_lines = subst (λ (log : Log). LinesAreNew s.solver.clauses log.lines) (sym same) e.search.valid.fresh;
+        } in
+        record { refutes = refutes; new_steps = new_steps; cuts = up_to }
+
+    -- a log that is spent, as a proof
+    pub spent_up_to : IsSpent s.solver.vars s.solver.clauses s.solver.turns s.solver.log × NoFinal (clauses_with s.solver.clauses s.solver.log.lines) → IsSpentUpTo version g u.shape u.level k s.turns size proof
+    spent_up_to (spent, none) =
+        let is_spent : IsSpentOnCoronas version g u.shape u.level s.turns size proof = record {
+          vars = u.vars;
+          count = s.solver.vars;
+          clauses = s.solver.clauses;
+          formula = formula;
+          fits = fits;
+          lawful = lawful;
+          is_spent = subst (λ n. IsSpent s.solver.vars s.solver.clauses n (log_of u.vars proof)) e.search.turns_are (subst (IsSpent s.solver.vars s.solver.clauses s.solver.turns) (sym same) spent);
+        } in
+        let open_still : LeavesOpen version g u.shape u.level s.turns proof = record {
+          vars = u.vars;
+          count = s.solver.vars;
+          clauses = s.solver.clauses;
+          formula = formula;
+          no_final = subst (λ (log : Log). NoFinal (clauses_with s.solver.clauses log.lines)) (sym same) none;
+          few = subst (λ n. n ≤ 3 ^ s.solver.vars) (spent.used ∙ e.search.turns_are) (few_lines s.solver.vars s.solver.clauses s.solver.log.lines e.search.valid.hold e.search.valid.fresh);
+        } in
+        record { is_spent = is_spent; open_still = open_still; cuts = up_to }
+
+  -- what is named where a clause is empty
+  names : (answer : LevelAnswer) → ((n : ℕ) → IsFirstEmpty s.solver.clauses n → NamesEmptyClause n answer) → NamesEmptyClauses version g u.shape u.level answer
+  names answer named = record { vars = u.vars; count = s.solver.vars; clauses = s.solver.clauses; formula = formula; named = named }
+
+  -- an end that isn't a refutation has no empty clause
+  pub names_none : ¬ (ending ≡ Refuted-end) → (answer : LevelAnswer) → NamesEmptyClauses version g u.shape u.level answer
+  names_none other answer = names answer (λ n first. absurd (other (e.at_once n first).0))
+
+  -- a refutation that came at once
+  pub names_first : NamesEmptyClauses version g u.shape u.level (Refuted proof)
+  names_first = names (Refuted proof) (λ n first. let end = e.at_once n first in named_proof u.vars proof s.solver.log n same end.1.0 end.1.1)
+
+-- ---- what it says of the shape and the level that the search was for
+
+-- a formula that fits isn't too large
+never_too_large : (version : Version) (g : Geometry) → IsGrid g → (shape : List Cell) → IsPolyform g shape → (j : ℕ) (vars : List Variable) (count : ℕ) (clauses : List (List Lit)) → IsCountedFormula version g shape j vars count clauses → (size : ℕ) → formula_size clauses ≤ size → ¬ IsTooLarge version g shape j size
+never_too_large version g law shape form j vars count clauses formula size fits large =
+    let above = (too_large_exactly version g law shape form j vars count clauses formula size).0 large in
+    absurd (omega (arith, above, fits))
+
+module _ (version : Version) (g : Geometry) (law : IsGrid g) (shape : List Cell) (j k turns size : ℕ) (u : Levels) (free_levels : ℕ) (s : Search) (ending : Ending) (e : IsEnded g u free_levels s ending) (under : IsUnder version g shape j k turns size u free_levels s) where
+  -- what is shown of the universe and its search holds of the shape and the level that they are of
+  under_that : (P : List Cell → ℕ → ℕ → ℕ → Type 0) → P u.shape u.level free_levels s.turns → P shape j k turns
+  under_that P h =
+      subst (λ cells. P cells j k turns) under.shape_is (subst (λ n. P u.shape n k turns) under.level_is
+      (subst (λ n. P u.shape u.level n turns) under.free_is (subst (λ n. P u.shape u.level free_levels n) under.turns_are h)))
+
+  pub fits_under : ¬ IsTooLarge version g shape j size
+  fits_under large =
+      under_that (λ cells n m t. ¬ IsTooLarge version g cells n size) (never_too_large version g law u.shape e.polyform u.level u.vars s.solver.vars s.solver.clauses under.formula size under.fits) large
+
+  pub polyform_under : IsPolyform g shape
+  polyform_under = subst (IsPolyform g) under.shape_is e.polyform
+
+  pub level_under : 1 ≤ j
+  level_under = subst (λ n. 1 ≤ n) under.level_is e.some
+
+  abbrev pub Says : LevelAnswer → Type 0
+  Says answer = IsAnswerUpTo version g shape j k turns size answer × NamesEmptyClauses version g shape j answer
+
+  says : (answer : LevelAnswer) → IsAnswerUpTo version g u.shape u.level free_levels s.turns size answer → NamesEmptyClauses version g u.shape u.level answer → Says answer
+  says answer is named = under_that (λ cells n m t. IsAnswerUpTo version g cells n m t size answer × NamesEmptyClauses version g cells n answer) (is, named)
+
+  pub says_coronas : (values : List Bool) → ending ≡ Model values → (layers : Layers) → Spells g u.shape layers.layers (chosen_layers (assignment_of values) u.vars u.level) → Says (Coronas layers)
+  says_coronas values is layers spelled =
+      let ends = subst (IsEnding g u free_levels s.solver) is e.ends in
+      let model = model_first s.solver.vars s.solver.clauses s.solver.log.lines values ends.0 in
+      let other : ¬ (ending ≡ Refuted-end) = λ r. let bad : Model values ≡ Refuted-end = sym is ∙ r in cc in
+      says (Coronas layers) (spells_up_to version g law u free_levels s ending e under.formula values model layers spelled free_levels e.levels ends.1) (names_none version g law u free_levels s ending e under.formula other (Coronas layers))
+
+  pub says_refuted : ending ≡ Refuted-end → (proof : Proof) → proof ≡ proof_of s.solver.log s.cuts → Says (Refuted proof)
+  says_refuted is proof proof_is =
+      subst (λ p. Says (Refuted p)) (sym proof_is)
+      (says (Refuted (proof_of s.solver.log s.cuts)) (refutes_up_to version g law u free_levels s ending e under.formula size under.fits (subst (IsEnding g u free_levels s.solver) is e.ends)) (names_first version g law u free_levels s ending e under.formula))
+
+  pub says_spent : ending ≡ Spent-end → (proof : Proof) → proof ≡ proof_of s.solver.log s.cuts → Says (Spent proof)
+  says_spent is proof proof_is =
+      let other : ¬ (ending ≡ Refuted-end) = λ r. let bad : Spent-end ≡ Refuted-end = sym is ∙ r in cc in
+      let made = Spent (proof_of s.solver.log s.cuts) in
+      subst (λ p. Says (Spent p)) (sym proof_is)
+      (says made (spent_up_to version g law u free_levels s ending e under.formula size under.fits (subst (IsEnding g u free_levels s.solver) is e.ends)) (names_none version g law u free_levels s ending e under.formula other made))
 
 -- the formula of a universe is that of the same universe's search
 pub formula_kept : (version : Version) (g : Geometry) (shape : List Cell) (j : ℕ) (e u : Levels) (n m : ℕ) (cs ds : List (List Lit)) → e.shape ≡ shape → e.level ≡ j → IsCountedFormula version g shape j e.vars n cs → u ≡ e → m ≡ n → ds ≡ cs → IsCountedFormula version g u.shape u.level u.vars m ds
@@ -181,17 +221,19 @@ none_known g shape j answer f None h = f h
 none_known g shape j answer f (Some layers) h = h
 
 -- the answer with holes forbidden and the coronas with holes that are known, as one answer
-module _ (version : Version) (g : Geometry) (shape : List Cell) (j turns size : ℕ) (u : Levels) (p : Problem) (is_free : Bool) (most : ℕ) (under : IsUnder version g shape j true turns size u p is_free most) (answer : LevelAnswer) (holed : Option Layers) (wall : WallAnswer) where
-  abbrev Says : LevelAnswer → Type 0
-  Says a = IsLevelAnswer version g shape j true turns size a × NamesEmptyClauses version g shape j a
-
+module _ (version : Version) (g : Geometry) (law : IsGrid g) (shape : List Cell) (j turns size : ℕ) (u : Levels) (free_levels : ℕ) (s : Search) (ending : Ending) (e : IsEnded g u free_levels s ending) (under : IsUnder version g shape j j turns size u free_levels s)
+    (answer : LevelAnswer) (holed : Option Layers) (wall : WallAnswer) where
   pub wall_answer : {A : Type 0} → (A → RefutesWithoutCut answer) → MatchOption holed A (SpellsCoronas g u.shape u.level false) → level_answer wall ≡ answer →
       (IsLevelAnswer version g shape j true turns size answer → MatchOption holed (RefutesWithoutCut answer) (SpellsCoronas g shape j false) → ShowsHoles g shape j wall) →
-      Says answer → IsLevelAnswer version g shape j true turns size (level_answer wall) × NamesEmptyClauses version g shape j (level_answer wall) × ShowsHoles g shape j wall
+      Says version g law shape j j turns size u free_levels s ending e under answer → IsLevelAnswer version g shape j true turns size (level_answer wall) × NamesEmptyClauses version g shape j (level_answer wall) × ShowsHoles g shape j wall
   wall_answer {A} none known same shows says =
-      let known_there : MatchOption holed A (SpellsCoronas g shape j false) = under_that version g shape j true turns size u p is_free most under (λ cells n b k. MatchOption holed A (SpellsCoronas g cells n false)) known in
-      let both : Says (level_answer wall) = subst Says (sym same) says in
-      (both.0, both.1, shows says.0 (none_known g shape j answer none holed known_there))
+      let known_there : MatchOption holed A (SpellsCoronas g shape j false) =
+      under_that version g law shape j j turns size u free_levels s ending e under (λ cells n m t. MatchOption holed A (SpellsCoronas g cells n false)) known in
+      let form = polyform_under version g law shape j j turns size u free_levels s ending e under in
+      let some = level_under version g law shape j j turns size u free_levels s ending e under in
+      let level = level_answer_of g shape j true version law form some turns size answer says.0 in
+      let both = subst (λ a. IsLevelAnswer version g shape j true turns size a × NamesEmptyClauses version g shape j a) (sym same) (level, says.1) in
+      (both.0, both.1, shows level (none_known g shape j answer none holed known_there))
 
 -- what holds of the value of an option
 pub at_some : {X : Type 0} (P : X → Type 0) (o : Option X) (x : X) → o ≡ Some x → IfSome o P → P x

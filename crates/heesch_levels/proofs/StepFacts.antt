@@ -2,19 +2,18 @@
 use Rattle.std.proofs.Common.{◌≡◌, refl, sym, ap, ◌∙◌, ℕ, ◌+◌, ◌<◌, List, [], ◌∷◌, ◌++◌, map, length, All, arith, length-append, append_assoc, append-nil, reverse}
 use Rattle.std.proofs.lemmas.List.Elements.{All-nil, All-cons, All-head, All-tail}
 use Rattle.std.proofs.lemmas.List.{reverse-append}
-use Rattle.heesch_grid.specs.declared.Cell.{Cell}
-use Rattle.heesch_grid.specs.Geometry.{Geometry}
 use Rattle.heesch_grid.specs.CoronaFormula.{Variable}
 use Rattle.heesch_cnf.specs.declared.log.Line.{Line}
 use Rattle.heesch_cnf.specs.declared.log.Line.TheVariants.{Learn as LearnLine, Given}
+use Rattle.heesch_cnf.specs.declared.log.Log.{Log}
 use Rattle.heesch_cnf.specs.declared.literal.Lit.{Lit}
 use Rattle.heesch_cnf.specs.Meaning.{given_clauses, LearnsAlone, IsLearn}
 use Rattle.heesch_cert.specs.declared.proof.Cut.{Cut as TheCut}
 use Rattle.heesch_cert.specs.declared.proof.Step.{Step}
 use Rattle.heesch_cert.specs.declared.proof.Step.TheVariants.{Learn, Cut}
-use Rattle.heesch_cert.specs.Cuts.{IsLawful, cut_clause}
-use Rattle.heesch_cert.specs.Proofs.{line_of_step, IsLawfulStep, IsLearnStep}
-use Rattle.heesch_levels.specs.Steps.{steps_of}
+use Rattle.heesch_cert.specs.Cuts.{cut_clause}
+use Rattle.heesch_cert.specs.Proofs.{line_of_step, log_of}
+use Rattle.heesch_levels.specs.Steps.{steps_of, proof_of}
 
 pub given_append : (xs ys : List Line) → given_clauses (xs ++ ys) ≡ given_clauses xs ++ given_clauses ys
 given_append [] ys = refl
@@ -104,15 +103,14 @@ steps_lines vars (Given clause ∷ lines) (cut ∷ cuts) e =
     let same : map (line_of_step vars) (steps_of lines cuts) ≡ lines = steps_lines vars lines cuts rest in
     ap (λ c. Given c ∷ map (line_of_step vars) (steps_of lines cuts)) first ∙ ap (λ ls. Given clause ∷ ls) same
 
--- lawful cuts give lawful steps, and no cuts give Learn steps alone
-pub steps_lawful : (g : Geometry) (shape : List Cell) (j : ℕ) (vars : List Variable) (lines : List Line) (cuts : List TheCut) → All (IsLawful g shape j vars) cuts → All (IsLawfulStep g shape j vars) (steps_of lines cuts)
-steps_lawful g shape j vars [] cuts h = All-nil (IsLawfulStep g shape j vars)
-steps_lawful g shape j vars (LearnLine clause hints ∷ lines) cuts h = All-cons (IsLawfulStep g shape j vars) (Learn clause hints) (steps_of lines cuts) tt (steps_lawful g shape j vars lines cuts h)
-steps_lawful g shape j vars (Given clause ∷ lines) [] h = steps_lawful g shape j vars lines [] h
-steps_lawful g shape j vars (Given clause ∷ lines) (cut ∷ cuts) h =
-    All-cons (IsLawfulStep g shape j vars) (Cut cut) (steps_of lines cuts) (All-head (IsLawful g shape j vars) cut cuts h) (steps_lawful g shape j vars lines cuts (All-tail (IsLawful g shape j vars) cut cuts h))
+-- where the given clauses of a log are those of the cuts, their proof is the log
+pub log_of_proof : (vars : List Variable) (log : Log) (cuts : List TheCut) → given_clauses log.lines ≡ map (cut_clause vars) cuts → log_of vars (proof_of log cuts) ≡ log
+log_of_proof vars log cuts given = ap (λ (ls : List Line). let k : Log = record { lines = ls; last = log.last } in k) (steps_lines vars log.lines cuts given)
 
-pub steps_learn : (lines : List Line) → All IsLearnStep (steps_of lines [])
-steps_learn [] = All-nil IsLearnStep
-steps_learn (LearnLine clause hints ∷ lines) = All-cons IsLearnStep (Learn clause hints) (steps_of lines []) tt (steps_learn lines)
-steps_learn (Given clause ∷ lines) = steps_learn lines
+-- what holds of each Learn step, and of the cuts, holds of the steps
+pub steps_each : (P : TheCut → Type 0) (Q : Step → Type 0) → ((clause : List Lit) (hints : List ℕ) → Q (Learn clause hints)) → ((cut : TheCut) → P cut → Q (Cut cut)) → (lines : List Line) (cuts : List TheCut) → All P cuts → All Q (steps_of lines cuts)
+steps_each P Q learnt given [] cuts h = All-nil Q
+steps_each P Q learnt given (LearnLine clause hints ∷ lines) cuts h = All-cons Q (Learn clause hints) (steps_of lines cuts) (learnt clause hints) (steps_each P Q learnt given lines cuts h)
+steps_each P Q learnt given (Given clause ∷ lines) [] h = steps_each P Q learnt given lines [] h
+steps_each P Q learnt given (Given clause ∷ lines) (cut ∷ cuts) h =
+    All-cons Q (Cut cut) (steps_of lines cuts) (given cut (All-head P cut cuts h)) (steps_each P Q learnt given lines cuts (All-tail P cut cuts h))

@@ -1,4 +1,5 @@
 pub mod Answer
+pub mod UpTo
 pub mod Wall
 pub mod Searching
 pub mod Steps

@@ -1,8 +1,9 @@
 //! What the search at one level answers.
-ghost use Rattle.std.specs.Prelude.{◌≡◌, ◌≢◌, ◌≤◌, true, IfOk};
+ghost use Rattle.std.specs.Prelude.{◌≡◌, ◌≢◌, ◌≤◌, true, IfOk, if◌then◌else◌};
 ghost use Rattle.heesch_grid.specs.Polyform.{IsCanonicalListOf};
 ghost use Rattle.heesch_cert.specs.Proofs.{IsTooLarge};
 ghost use Rattle.heesch_levels.specs.Answer.{IsLevelAnswer, NamesEmptyClauses};
+ghost use Rattle.heesch_levels.specs.UpTo.{IsAnswerUpTo};
 ghost use Rattle.heesch_levels.specs.Wall.{ShowsHoles, level_answer};
 
 use crate::ended::ended_at;
@@ -41,6 +42,52 @@ pub enum WallAnswer {
     TooLarge,
 }
 
+/// Searches for j coronas of the shape whose patches of the levels 1 to `free_levels` are hole-free, by a solver on the
+/// corona formula of level j in this version: with 0 holes are allowed, with j forbidden, and with j - 1 they may stand in
+/// the outermost corona alone.
+///
+/// `TooLarge` comes exactly where the formula has more than `size` literals. `Refuted` comes at once, without a step, where
+/// a clause of the formula is empty. `Spent` comes only where the proof has exactly `turns` steps, each of them new, and no
+/// final line holds over it. Each model that leaves a hole at a level where none may be is answered by a cut of that level
+/// against it, which is a step.
+///
+/// Condition: j is 1 to 6, `free_levels` at most j, `turns` 1 to 1,000,000, `size` 1 to 60,000,000, and the shape is its own
+/// canonical list.
+///
+/// The cost is that of the formula, with that of the first `free_levels` levels where they are some and not all, and of the
+/// solver; that of `cut_for` for each model, where holes are forbidden at all; and at the end a look at each variable for
+/// each level, or at each step. The clauses of the steps are moved.
+pub fn level_up_to<G: Grid>(
+    alloc: Global,
+    shape: &Shape<G>,
+    j: u32,
+    free_levels: u32,
+    turns: u32,
+    size: u32,
+    version: Version,
+) -> Result<LevelAnswer, NoMemory>
+    requires level { (1 ≤ j) × (j ≤ 6) }
+    requires free { free_levels ≤ j }
+    requires turns { (1 ≤ turns) × (turns ≤ 1000000) }
+    requires size { (1 ≤ size) × (size ≤ 60000000) }
+    requires canonical { IsCanonicalListOf G.geometry shape.now shape.now }
+    ensures answer { IfOk result (IsAnswerUpTo version G.geometry shape.now j free_levels turns size) }
+    ensures too_large { IfOk result (λ answer. IsTooLarge version G.geometry shape.now j size → answer ≡ LevelAnswer.TooLarge) }
+    ensures at_once { IfOk result (λ answer. answer ≢ LevelAnswer.TooLarge → NamesEmptyClauses version G.geometry shape.now j answer) }
+{
+    match ended_at(alloc, shape, j, free_levels, turns, size, version)? {
+        Some(ended) => ended.into_answer(alloc),
+        None => Ok(LevelAnswer::TooLarge),
+    }
+}
+
+/// Up to which level holes are forbidden: at all of them, or at none.
+fn levels_without_holes(j: u32, hole_free: bool) -> u32
+    ensures { result ≡ if hole_free then j else 0 }
+{
+    if hole_free { j } else { 0 }
+}
+
 /// Searches for j coronas of the shape, hole-free ones where `hole_free`, by a solver on the corona formula of level j in
 /// this version.
 ///
@@ -71,10 +118,10 @@ pub fn level<G: Grid>(
     ensures too_large { IfOk result (λ answer. IsTooLarge version G.geometry shape.now j size → answer ≡ LevelAnswer.TooLarge) }
     ensures at_once { IfOk result (λ answer. answer ≢ LevelAnswer.TooLarge → NamesEmptyClauses version G.geometry shape.now j answer) }
 {
-    match ended_at(alloc, shape, j, hole_free, turns, size, version)? {
-        Some(ended) => ended.into_answer(alloc),
-        None => Ok(LevelAnswer::TooLarge),
-    }
+    // Reading the cells tells the proof that they are a polyform.
+    let _cells = shape.cells();
+    let free_levels = levels_without_holes(j, hole_free);
+    level_up_to(alloc, shape, j, free_levels, turns, size, version)
 }
 
 /// Searches for j hole-free coronas of the shape, as `level` does, and where there are none tells whether there are any
@@ -103,7 +150,7 @@ pub fn wall<G: Grid>(
     ensures too_large { IfOk result (λ answer. IsTooLarge version G.geometry shape.now j size → answer ≡ WallAnswer.TooLarge) }
     ensures at_once { IfOk result (λ answer. answer ≢ WallAnswer.TooLarge → NamesEmptyClauses version G.geometry shape.now j (level_answer answer)) }
 {
-    match ended_at(alloc, shape, j, true, turns, size, version)? {
+    match ended_at(alloc, shape, j, j, turns, size, version)? {
         Some(ended) => ended.into_wall(alloc),
         None => Ok(WallAnswer::TooLarge),
     }

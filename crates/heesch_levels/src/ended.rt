@@ -1,23 +1,23 @@
 //! The end of a search, and what it says of the level.
-ghost use Rattle.std.specs.Prelude.{◌≡◌, ◌≤◌, ◌<◌, ◌^◌, ℕ, Bool, List, [], true, false, length, IsTrue, IfOk, IfSome, IfNone, MatchOption};
+ghost use Rattle.std.specs.Prelude.{◌≡◌, ◌≤◌, ◌<◌, ◌^◌, ℕ, List, [], true, false, length, IfOk, IfSome, IfNone, MatchOption};
 ghost use Rattle.heesch_grid.specs.declared.Cell.{Cell};
 ghost use Rattle.heesch_grid.specs.Geometry.{Geometry};
-ghost use Rattle.heesch_grid.specs.Polyform.{IsCanonicalListOf, IsPolyform};
+ghost use Rattle.heesch_grid.specs.Polyform.{IsCanonicalListOf};
 ghost use Rattle.heesch_cnf.specs.declared.version.Version.{Version as Numbered};
-ghost use Rattle.heesch_cdcl.specs.Problem.{IsModel};
 ghost use Rattle.heesch_cert.specs.Formulas.{IsCountedFormula};
 ghost use Rattle.heesch_cert.specs.Proofs.{IsTooLarge};
-ghost use Rattle.heesch_cuts.specs.Chosen.{IsOpen};
 ghost use Rattle.heesch_levels.specs.Answer.{IsLevelAnswer, NamesEmptyClauses, SpellsCoronas};
-ghost use Rattle.heesch_levels.specs.Searching.{IsEnded, IsSearch, IsUnder};
+ghost use Rattle.heesch_levels.specs.Searching.{IsEnded, IsUnder};
+ghost use Rattle.heesch_levels.specs.UpTo.{IsAnswerUpTo};
 ghost use Rattle.heesch_levels.specs.Wall.{RefutesWithoutCut, ShowsHoles, level_answer};
 
 use crate::answer::{LevelAnswer, WallAnswer};
+use crate::asked::Asked;
 use crate::layers::layers_of;
 use crate::searching::{Ending, Search};
 use heesch_cert::Layers;
 use heesch_cnf::{FlatFormula, Version};
-use heesch_encode::{EncodeStop, encode_flat};
+use heesch_encode::{EncodeStop, FlatEncoded, encode_flat};
 use heesch_grid::Grid;
 use heesch_io::NoMemory;
 use heesch_shape::Shape;
@@ -27,10 +27,11 @@ use std::alloc::Global;
 /// literal, and there are at most 60,000,000 literals.
 const CLAUSES_MAX: usize = 1 << 30;
 
-/// A search that has ended, and how.
+/// What was asked of models, the search for one, and how it ended.
 #[derive(Drop)]
 pub struct Ended<G: Grid> {
-    pub search: Search<G>,
+    pub asked: Asked<G>,
+    pub search: Search,
     pub ending: Ending,
 }
 
@@ -41,22 +42,24 @@ fn has_room(formula: &FlatFormula) -> bool
     formula.len() < CLAUSES_MAX
 }
 
-/// The search at this level to its end; none where the corona formula has more than `size` literals.
+/// The search at this level to its end, with holes forbidden at the levels from 1 to `free_levels`; none where the corona
+/// formula has more than `size` literals.
 pub fn ended_at<G: Grid>(
     alloc: Global,
     shape: &Shape<G>,
     j: u32,
-    hole_free: bool,
+    free_levels: u32,
     turns: u32,
     size: u32,
     version: Version,
 ) -> Result<Option<Ended<G>>, NoMemory>
     requires level { (1 ≤ j) × (j ≤ 6) }
+    requires free { free_levels ≤ j }
     requires turns { (1 ≤ turns) × (turns ≤ 1000000) }
     requires size { (1 ≤ size) × (size ≤ 60000000) }
     requires canonical { IsCanonicalListOf G.geometry shape.now shape.now }
-    ensures ended { IfOk result (λ e. IfSome e (λ e. IsEnded G.geometry e.search.hole_free e.search.turns e.search.universe e.search.solver e.search.cuts.items e.search.holed e.ending)) }
-    ensures under { IfOk result (λ e. IfSome e (λ e. IsUnder version G.geometry shape.now j hole_free turns size e.search.universe e.search.solver e.search.hole_free e.search.turns)) }
+    ensures ended { IfOk result (λ e. IfSome e (λ e. IsEnded G.geometry e.asked.universe e.asked.free_levels e.search e.ending)) }
+    ensures under { IfOk result (λ e. IfSome e (λ e. IsUnder version G.geometry shape.now j free_levels turns size e.asked.universe e.asked.free_levels e.search)) }
     ensures too_large { IfOk result (λ e. IfNone e (IsTooLarge version G.geometry shape.now j size)) }
 {
     // Reading the cells tells the proof that they are a polyform.
@@ -69,9 +72,15 @@ pub fn ended_at<G: Grid>(
     if !has_room(&encoded.formula) {
         return Err(NoMemory);
     }
-    let mut search = Search::open(alloc, encoded, turns, hole_free)?;
-    let ending = search.run(alloc, shape)?;
-    Ok(Some(Ended { search, ending }))
+    let FlatEncoded { universe, formula } = encoded;
+    let asked = Asked::of(alloc, shape, universe, free_levels)?;
+    let mut search = Search::open(alloc, &asked, formula, turns)?;
+    let ending = search.run(alloc, shape, &asked)?;
+    Ok(Some(Ended {
+        asked,
+        search,
+        ending,
+    }))
 }
 
 /// The answer of the search with holes forbidden, with coronas that have a hole, if they are known.
@@ -93,31 +102,16 @@ fn wall_of(answer: LevelAnswer, holed: Option<Layers>) -> WallAnswer
     }
 }
 
-impl<G: Grid> Search<G> {
-    /// The layers of a model of the formula.
-    fn layers(&self, alloc: Global, values: &[bool]) -> Result<Layers, NoMemory>
-        requires polyform { IsPolyform G.geometry self.now.universe.shape }
-        requires some { 1 ≤ self.now.universe.level }
-        requires search { IsSearch G.geometry self.now.hole_free self.now.turns self.now.universe self.now.solver self.now.cuts.items self.now.holed }
-        requires model { IsModel self.now.solver.vars self.now.solver.clauses values.now }
-        ensures { (version : Numbered) (hole_free : Bool) → IsCountedFormula version G.geometry self.now.universe.shape self.now.universe.level self.now.universe.vars self.now.solver.vars self.now.solver.clauses
-            → (IsTrue hole_free → IsOpen G.geometry self.now.universe values.now)
-            → IfOk result (SpellsCoronas G.geometry self.now.universe.shape self.now.universe.level hole_free) }
-    {
-        layers_of(alloc, &self.universe, values)
-    }
-}
-
 impl<G: Grid> Ended<G> {
     /// Where a refutation has a cut, the layers of the model that the first one was made against.
     fn holed_layers(&self, alloc: Global) -> Result<Option<Layers>, NoMemory>
-        requires { IsEnded G.geometry self.now.search.hole_free self.now.search.turns self.now.search.universe self.now.search.solver self.now.search.cuts.items self.now.search.holed self.now.ending }
-        ensures { (version : Numbered) → IsCountedFormula version G.geometry self.now.search.universe.shape self.now.search.universe.level self.now.search.universe.vars self.now.search.solver.vars self.now.search.solver.clauses
-            → IfOk result (λ holed. MatchOption holed (self.now.ending ≡ Ending.Refuted → self.now.search.cuts.items ≡ []) (SpellsCoronas G.geometry self.now.search.universe.shape self.now.search.universe.level false)) }
+        requires { IsEnded G.geometry self.now.asked.universe self.now.asked.free_levels self.now.search self.now.ending }
+        ensures { (version : Numbered) → IsCountedFormula version G.geometry self.now.asked.universe.shape self.now.asked.universe.level self.now.asked.universe.vars self.now.search.solver.vars self.now.search.solver.clauses
+            → IfOk result (λ holed. MatchOption holed (self.now.ending ≡ Ending.Refuted → self.now.search.cuts ≡ []) (SpellsCoronas G.geometry self.now.asked.universe.shape self.now.asked.universe.level false)) }
     {
         match (&self.ending, &self.search.holed) {
             (Ending::Refuted, Some(values)) => {
-                let layers = self.search.layers(alloc, values.as_slice())?;
+                let layers = layers_of(alloc, &self.asked.universe, values.as_slice())?;
                 Ok(Some(layers))
             }
             _ => Ok(None),
@@ -126,16 +120,20 @@ impl<G: Grid> Ended<G> {
 
     /// What the end says of the level.
     pub fn into_answer(self, alloc: Global) -> Result<LevelAnswer, NoMemory>
-        requires { IsEnded G.geometry self.search.hole_free self.search.turns self.search.universe self.search.solver self.search.cuts.items self.search.holed self.ending }
-        ensures answer { (version : Numbered) (shape : List Cell) (j : ℕ) (hole_free : Bool) (turns size : ℕ)
-            → IsUnder version G.geometry shape j hole_free turns size self.search.universe self.search.solver self.search.hole_free self.search.turns
-            → IfOk result (λ answer. IsLevelAnswer version G.geometry shape j hole_free turns size answer × NamesEmptyClauses version G.geometry shape j answer) }
-        ensures no_cut { (self.ending ≡ Ending.Refuted → self.search.cuts.items ≡ []) → IfOk result RefutesWithoutCut }
+        requires { IsEnded G.geometry self.asked.universe self.asked.free_levels self.search self.ending }
+        ensures answer { (version : Numbered) (shape : List Cell) (j k turns size : ℕ)
+            → IsUnder version G.geometry shape j k turns size self.asked.universe self.asked.free_levels self.search
+            → IfOk result (λ answer. IsAnswerUpTo version G.geometry shape j k turns size answer × NamesEmptyClauses version G.geometry shape j answer) }
+        ensures no_cut { (self.ending ≡ Ending.Refuted → self.search.cuts ≡ []) → IfOk result RefutesWithoutCut }
     {
-        let Ended { search, ending } = self;
+        let Ended {
+            asked,
+            search,
+            ending,
+        } = self;
         match ending {
             Ending::Model { values } => {
-                let layers = search.layers(alloc, values.as_slice())?;
+                let layers = layers_of(alloc, &asked.universe, values.as_slice())?;
                 Ok(LevelAnswer::Coronas { layers })
             }
             Ending::Refuted => {
@@ -149,11 +147,11 @@ impl<G: Grid> Ended<G> {
         }
     }
 
-    /// What the end of a search with holes forbidden says of the level.
+    /// What the end of a search with holes forbidden at each level says of the level.
     pub fn into_wall(self, alloc: Global) -> Result<WallAnswer, NoMemory>
-        requires { IsEnded G.geometry self.search.hole_free self.search.turns self.search.universe self.search.solver self.search.cuts.items self.search.holed self.ending }
+        requires { IsEnded G.geometry self.asked.universe self.asked.free_levels self.search self.ending }
         ensures answer { (version : Numbered) (shape : List Cell) (j turns size : ℕ)
-            → IsUnder version G.geometry shape j true turns size self.search.universe self.search.solver self.search.hole_free self.search.turns
+            → IsUnder version G.geometry shape j j turns size self.asked.universe self.asked.free_levels self.search
             → IfOk result (λ answer. IsLevelAnswer version G.geometry shape j true turns size (level_answer answer)
             × NamesEmptyClauses version G.geometry shape j (level_answer answer)
             × ShowsHoles G.geometry shape j answer) }

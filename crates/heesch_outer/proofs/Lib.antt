@@ -3,7 +3,5 @@ pub mod OuterSound
 pub mod OuterRight
 pub mod Entries
 pub mod OuterLayers
-pub mod Inside
-pub mod OuterSearch
 pub mod CanonicalCells
 pub mod OuterAnswers

@@ -14,6 +14,7 @@ use Rattle.heesch_place.proofs.Moves.{one_cell_list}
 use Rattle.heesch_cert.specs.declared.entry.Layers.{Layers}
 use Rattle.heesch_cert.specs.TrueEntry.{Spells}
 use Rattle.heesch_audit.specs.Spelling.{SpellCoronas}
+use Rattle.heesch_levels.specs.UpTo.{SpellsUpTo}
 use Rattle.heesch_outer.specs.Coronas.{inner_layers}
 use Rattle.heesch_outer.specs.Answer.{SpellsOuterCoronas}
 use Rattle.heesch_outer.proofs.OuterNumbers.{first_coronas}
@@ -70,6 +71,15 @@ module _ (g : Geometry) (shape : List Cell) where
           spelled = whole.1;
           coronas = (whole.2, subst (StaysHoleFree g (shape ∷ [])) (same ∙ sym (inner_is whole.0 whole.1)) inner.2.1);
         }
+
+    -- layers whose patches are hole-free up to the outermost
+    pub outer_spelled : SpellsUpTo g shape (h + 1) h layers → SpellsOuterCoronas g shape (h + 1) layers
+    outer_spelled s = record {
+      count = count;
+      tiles = s.tiles;
+      spelled = s.spelled;
+      coronas = (s.coronas, subst (StaysHoleFree g (shape ∷ [])) (sym (inner_is s.tiles s.spelled)) s.free);
+    }
 
     pub inner_spelled : SpellsOuterCoronas g shape (h + 1) layers → SpellCoronas g shape true (take h layers.layers)
     inner_spelled s = (take h s.tiles, first_spelled layers.layers s.tiles h s.spelled, (first_coronas g shape (shape ∷ []) s.tiles h s.coronas.0, subst (StaysHoleFree g (shape ∷ [])) (inner_is s.tiles s.spelled) s.coronas.1))

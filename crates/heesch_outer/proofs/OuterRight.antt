@@ -30,7 +30,7 @@ use Rattle.heesch_cert.specs.RightVerdict.{IsRight}
 use Rattle.heesch_cert.proofs.EntryRight.{true_entries_are_right}
 use Rattle.heesch_outer.specs.declared.answer.OuterAnswer.{OuterAnswer}
 use Rattle.heesch_outer.specs.declared.answer.OuterAnswer.TheVariants.{Tiles, Unknown, More, Same, Spent}
-use Rattle.heesch_outer.specs.Proofs.{IsStepUpTo, HasCutsUpTo}
+use Rattle.heesch_levels.specs.UpTo.{IsStepUpTo, HasCutsUpTo}
 use Rattle.heesch_outer.specs.Answer.{IsSearched, IsBeyondWall, IsBehindWall, FitsOuter}
 use Rattle.heesch_outer.specs.Statements.{TellsNumber, OuterAnswersAreRight}
 use Rattle.heesch_outer.proofs.OuterNumbers.{outer_numbers_are_next}

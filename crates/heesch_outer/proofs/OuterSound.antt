@@ -16,7 +16,7 @@ use Rattle.heesch_cert.specs.Proofs.{log_of, IsLawfulStep, RefutesCoronas}
 use Rattle.heesch_cert.proofs.CutSound.{hole_free_at, cut_holds, coronas_satisfy_counted, given_hold}
 use Rattle.heesch_cert.proofs.Versions.{universe_of}
 use Rattle.heesch_outer.specs.Coronas.{inner_layers}
-use Rattle.heesch_outer.specs.Proofs.{IsStepUpTo, HasCutsUpTo}
+use Rattle.heesch_levels.specs.UpTo.{IsStepUpTo, HasCutsUpTo}
 use Rattle.heesch_outer.specs.Statements.{OuterRefutationsLeaveNone}
 
 -- the patch of a level needs no later layer

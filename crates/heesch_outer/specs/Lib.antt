@@ -2,6 +2,5 @@ pub mod Coronas
 pub mod Proofs
 pub mod Answer
 pub mod Found
-pub mod Searching
 pub mod Record
 pub mod Statements

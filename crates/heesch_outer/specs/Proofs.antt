@@ -1,21 +1,11 @@
 -- Proofs that are outer for a number h: over E(S, h + 1), with cuts of the levels 1 to h alone.
-use Rattle.std.specs.Prelude.{ℕ, ◌+◌, ◌≤◌, List, All, ⊤}
+use Rattle.std.specs.Prelude.{ℕ, ◌+◌, List}
 use Rattle.heesch_grid.specs.declared.Cell.{Cell}
 use Rattle.heesch_grid.specs.Geometry.{Geometry}
 use Rattle.heesch_cert.specs.declared.limits.Limits.{Limits}
-use Rattle.heesch_cert.specs.declared.proof.Step.{Step}
-use Rattle.heesch_cert.specs.declared.proof.Step.TheVariants.{Learn, Cut}
 use Rattle.heesch_cert.specs.declared.proof.Proof.{Proof}
 use Rattle.heesch_cert.specs.Proofs.{RefutesCoronas, IsSpentOnCoronas}
-
--- the step is no cut of a level above h
-abbrev pub IsStepUpTo : ℕ → Step → Type 0
-IsStepUpTo h (Learn clause hints) = ⊤
-IsStepUpTo h (Cut cut) = cut.level ≤ h
-
--- each cut of the proof has level at most h
-abbrev pub HasCutsUpTo : ℕ → Proof → Type 0
-HasCutsUpTo h proof = All (IsStepUpTo h) proof.steps
+use Rattle.heesch_levels.specs.UpTo.{HasCutsUpTo}
 
 -- the proof is outer for h under these limits, and refutes E(S, h + 1)
 pub record RefutesOuter (g : Geometry) (limits : Limits) (shape : List Cell) (h : ℕ) (proof : Proof) : Type 0 where

@@ -4,9 +4,10 @@ ghost use Rattle.heesch_audit.specs.Near.{IsNearProof};
 ghost use Rattle.heesch_cert.specs.Limits.{AreLimits};
 ghost use Rattle.heesch_cert.specs.Proofs.{RefutesCoronas};
 ghost use Rattle.heesch_cert.specs.TrueEntry.{IsTrueEntry};
+ghost use Rattle.heesch_levels.specs.UpTo.{HasCutsUpTo};
 ghost use Rattle.heesch_outer.specs.Answer.{IsOuterAnswer, IsSearched};
 ghost use Rattle.heesch_outer.specs.Found.{IsFound, IsNearAnswer};
-ghost use Rattle.heesch_outer.specs.Proofs.{HasCutsUpTo, RefutesOuter, IsSpentOuter};
+ghost use Rattle.heesch_outer.specs.Proofs.{RefutesOuter, IsSpentOuter};
 
 use crate::OuterAnswer;
 use crate::copies::is_same_proof;

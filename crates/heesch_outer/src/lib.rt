@@ -8,8 +8,6 @@ mod copies;
 pub mod laws;
 mod parts;
 mod record;
-mod searching;
-mod steps;
 
 pub use answer::OuterAnswer;
 pub use answering::outer;

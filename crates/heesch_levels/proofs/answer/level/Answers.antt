@@ -1,39 +1,16 @@
-use Rattle.std.proofs.Common.{◌≡◌}
-use Rattle.std.specs.Prelude.{◌≢◌}
+use Rattle.std.proofs.Common.{subst}
 use Rattle.std.proofs.lemmas.Result.{IfOk-weaker}
-use Rattle.heesch_cert.specs.Proofs.{IsTooLarge}
-use Rattle.heesch_levels.specs.Answer.{IsLevelAnswer, NamesEmptyClauses}
-use Rattle.heesch_levels.specs.Searching.{IsEnded, IsUnder}
-use Rattle.heesch_levels.specs.declared.answer.LevelAnswer.{LevelAnswer}
-use Rattle.heesch_levels.specs.declared.answer.LevelAnswer.TheVariants.{TooLarge}
-use Rattle.heesch_levels.proofs.LevelFacts.{at_some, fits_under}
+use Rattle.heesch_levels.specs.Answer.{IsLevelAnswer}
+use Rattle.heesch_levels.specs.UpTo.{IsAnswerUpTo}
+use Rattle.heesch_levels.proofs.UpToFacts.{level_answer_of}
 use Rattle.heesch_levels.proofs.answer.level.Goals as goal
 
-pub returns-in-Some-clause-answer : goal.returns-in-Some-clause-answer
-returns-in-Some-clause-answer g c =
+pub returns-clause-answer : goal.returns-clause-answer
+returns-clause-answer g c =
     let geometry = g.G.Grid.geometry in
     let a = c.args in
-    let s = c.in-Some.ended.search in
-    let under : IsUnder a.version geometry a.shape.now a.j a.hole_free a.turns a.size s.universe s.solver s.hole_free s.turns = at_some _ _ _ c.in-Some.is c.in_ok-ended.ensures.under in
-    IfOk-weaker c.into_answer.result (λ (answer : LevelAnswer). IsLevelAnswer a.version geometry a.shape.now a.j a.hole_free a.turns a.size answer × NamesEmptyClauses a.version geometry a.shape.now a.j answer) (λ (answer : LevelAnswer). IsLevelAnswer a.version geometry a.shape.now a.j a.hole_free a.turns a.size answer)
-    (λ answer says. says.0) (c.into_answer.ensures.answer a.version a.shape.now a.j a.hole_free a.turns a.size under)
-
-pub returns-in-Some-clause-at_once : goal.returns-in-Some-clause-at_once
-returns-in-Some-clause-at_once g c =
-    let geometry = g.G.Grid.geometry in
-    let a = c.args in
-    let s = c.in-Some.ended.search in
-    let under : IsUnder a.version geometry a.shape.now a.j a.hole_free a.turns a.size s.universe s.solver s.hole_free s.turns = at_some _ _ _ c.in-Some.is c.in_ok-ended.ensures.under in
-    IfOk-weaker c.into_answer.result (λ (answer : LevelAnswer). IsLevelAnswer a.version geometry a.shape.now a.j a.hole_free a.turns a.size answer × NamesEmptyClauses a.version geometry a.shape.now a.j answer) (λ (answer : LevelAnswer). answer ≢ TooLarge → NamesEmptyClauses a.version geometry a.shape.now a.j answer)
-    (λ answer says other. says.1) (c.into_answer.ensures.answer a.version a.shape.now a.j a.hole_free a.turns a.size under)
-
-pub returns-in-Some-clause-too_large : goal.returns-in-Some-clause-too_large
-returns-in-Some-clause-too_large g c =
-    let geometry = g.G.Grid.geometry in
-    let a = c.args in
-    let s = c.in-Some.ended.search in
-    let under : IsUnder a.version geometry a.shape.now a.j a.hole_free a.turns a.size s.universe s.solver s.hole_free s.turns = at_some _ _ _ c.in-Some.is c.in_ok-ended.ensures.under in
-    let ended : IsEnded geometry s.hole_free s.turns s.universe s.solver s.cuts.items s.holed c.in-Some.ended.ending = at_some _ _ _ c.in-Some.is c.in_ok-ended.ensures.ended in
-    let none = fits_under a.version geometry a.shape.now a.j a.hole_free a.turns a.size s.universe s.solver s.hole_free s.turns under g.met.G.Grid.laws s.cuts.items s.holed c.in-Some.ended.ending ended in
-    IfOk-weaker c.into_answer.result (λ (answer : LevelAnswer). IsLevelAnswer a.version geometry a.shape.now a.j a.hole_free a.turns a.size answer × NamesEmptyClauses a.version geometry a.shape.now a.j answer) (λ (answer : LevelAnswer). IsTooLarge a.version geometry a.shape.now a.j a.size → answer ≡ TooLarge)
-    (λ answer says large. absurd (none large)) (c.into_answer.ensures.answer a.version a.shape.now a.j a.hole_free a.turns a.size under)
+    let form = c.cells-cells.ensures.shape.polyform in
+    IfOk-weaker c.level_up_to.result (IsAnswerUpTo a.version geometry a.shape.now a.j c.levels_without_holes-free_levels.result a.turns a.size) (IsLevelAnswer a.version geometry a.shape.now a.j a.hole_free a.turns a.size)
+    (λ answer says. level_answer_of geometry a.shape.now a.j a.hole_free a.version g.met.G.Grid.laws form c.requires.level.0 a.turns a.size answer
+    (subst (λ k. IsAnswerUpTo a.version geometry a.shape.now a.j k a.turns a.size answer) c.levels_without_holes-free_levels.ensures says))
+    c.level_up_to.ensures.answer

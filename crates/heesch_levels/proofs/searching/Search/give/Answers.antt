@@ -1,38 +1,29 @@
-use Rattle.std.proofs.Common.{true, sym, subst, ℕ, length, ◌&&◌}
-use Rattle.std.specs.Prelude.{IsSomeAnd, unwrap_or, nat_eq, nat_le}
+use Rattle.std.proofs.Common.{sym, subst, ℕ, List, length, ◌&&◌, Bool}
+use Rattle.std.specs.Prelude.{Option, nat_eq, nat_le}
 use Rattle.std.specs.List.{list_any}
-use Rattle.heesch_cnf.specs.Clauses.{IsClause, assignment_of}
-use Rattle.heesch_cdcl.specs.Newness.{IsMadeFalse}
+use Rattle.heesch_cnf.specs.Clauses.{IsClause}
 use Rattle.heesch_grid.specs.Cells.{meet}
 use Rattle.heesch_grid.specs.CoronaFormula.{Variable}
 use Rattle.heesch_cert.specs.Cuts.{cut_clause}
-use Rattle.heesch_levels.specs.Searching.{IsSearch}
-use Rattle.heesch_levels.proofs.ClauseForms.{clause_form, made_false, wider_clause}
-use Rattle.heesch_levels.proofs.SearchFacts.{search_gives, kept_model, model_or}
+use Rattle.heesch_levels.specs.declared.searching.Search.{Search}
+use Rattle.heesch_levels.specs.Searching.{GoesOn}
+use Rattle.heesch_levels.proofs.ClauseForms.{clause_form, wider_clause}
+use Rattle.heesch_levels.proofs.SearchFacts.{search_gives}
 use Rattle.heesch_levels.proofs.searching.Search.give.Goals as goal
 
 pub give-requires-clause-form : goal.give-requires-clause-form
 give-requires-clause-form g c =
-    let s = c.args.self.now in
+    let vars = c.args.asked.now.universe.vars in
     let cut = c.args.cut in
-    let form : IsClause (length s.universe.vars) (cut_clause s.universe.vars cut) =
-    clause_form (λ (x : ℕ × Variable). list_any (nat_eq x.0) cut.border) (λ (x : ℕ × Variable). nat_le x.1.level cut.level && meet x.1.tile cut.hole) s.universe.vars in
-    wider_clause (length s.universe.vars) s.solver.vars c.in_ok-clause.clause c.requires.search.within (subst (IsClause (length s.universe.vars)) (sym c.in_ok-clause.ensures) form)
+    let form : IsClause (length vars) (cut_clause vars cut) =
+    clause_form (λ (x : ℕ × Variable). list_any (nat_eq x.0) cut.border) (λ (x : ℕ × Variable). nat_le x.1.level cut.level && meet x.1.tile cut.hole) vars in
+    wider_clause (length vars) c.args.self.now.solver.vars c.in_ok-clause.clause c.requires.search.within (subst (IsClause (length vars)) (sym c.in_ok-clause.ensures) form)
 
-pub give-requires-clause-refuted : goal.give-requires-clause-refuted
-give-requires-clause-refuted g c =
-    let u = c.args.self.now.universe in
-    let values = assignment_of c.args.values in
-    subst (λ model. IsSomeAnd model (λ vs. IsMadeFalse (assignment_of vs) c.in_ok-clause.clause)) (sym c.requires.kept)
-    (subst (IsMadeFalse values) (sym c.in_ok-clause.ensures) (made_false values (cut_clause u.vars c.args.cut) c.requires.cuts_off.fails))
-
-pub returns-clause-search : goal.returns-clause-search
-returns-clause-search g c =
+pub returns-clause-on : goal.returns-clause-on
+returns-clause-on g c =
     let geometry = g.G.Grid.geometry in
+    let a = c.args.asked.now in
     let s = c.args.self.now in
-    let before = subst (λ b. IsSearch geometry b s.turns s.universe s.solver s.cuts.items s.holed) c.requires.free c.requires.search in
-    let model = model_or s.solver s.cuts.items s.holed c.args.values before.some_model (kept_model s.solver c.args.values before.valid c.requires.kept) in
-    let after = search_gives geometry s.turns s.universe s.solver c.give.new.self s.cuts.items c.push.new.self.items c.args.cut c.in_ok-clause.clause s.holed (unwrap_or s.holed c.args.values) before
-    c.requires.cuts_off.lawful c.in_ok-clause.ensures c.in_ok-give.ensures.ok c.in_ok-push.ensures.items c.in_ok-give.ensures.valid model in
-    subst (λ b. IsSearch geometry b s.turns s.universe c.give.new.self c.push.new.self.items c.keep_first.new.kept) (sym c.requires.free)
-    (subst (IsSearch geometry true s.turns s.universe c.give.new.self c.push.new.self.items) (sym c.keep_first.ensures) after)
+    subst (λ (h : Option (List Bool)). let t : Search = record { solver = c.give.new.self; turns = s.turns; cuts = c.push.new.self; holed = h } in GoesOn geometry a.universe a.free_levels s t) (sym c.keep_first.ensures)
+    (search_gives geometry a.universe a.free_levels s c.give.new.self c.push.new.self c.args.cut c.in_ok-clause.clause c.args.values
+    c.requires.search c.requires.up_to c.in_ok-clause.ensures c.in_ok-give.ensures.ok c.in_ok-push.ensures.ok c.in_ok-give.ensures.valid c.requires.kept)

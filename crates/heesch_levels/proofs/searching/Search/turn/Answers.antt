@@ -3,18 +3,18 @@ use Rattle.heesch_levels.proofs.searching.Search.turn.Goals as goal
 
 pub judge-requires-clause-search : goal.judge-requires-clause-search
 judge-requires-clause-search g c =
-    let s = c.args.self.now in
+    let a = c.args.asked.now in
     let e = c.in_ok-values.ensures in
-    search_learns g.G.Grid.geometry s.hole_free s.turns s.universe s.solver c.next.new.self s.cuts.items s.holed c.requires.search e.same e.learns e.valid
+    (search_learns g.G.Grid.geometry a.universe a.free_levels c.args.self.now c.next.new.self c.requires.search e.same e.learns e.valid).search
 
-pub returns-in-Refuted-clause-search : goal.returns-in-Refuted-clause-search
-returns-in-Refuted-clause-search g c =
-    let s = c.args.self.now in
+pub returns-in-Refuted-clause-on : goal.returns-in-Refuted-clause-on
+returns-in-Refuted-clause-on g c =
+    let a = c.args.asked.now in
     let e = c.in_ok-values.ensures in
-    search_learns g.G.Grid.geometry s.hole_free s.turns s.universe s.solver c.next.new.self s.cuts.items s.holed c.requires.search e.same e.learns e.valid
+    search_learns g.G.Grid.geometry a.universe a.free_levels c.args.self.now c.next.new.self c.requires.search e.same e.learns e.valid
 
-pub returns-in-Spent-clause-search : goal.returns-in-Spent-clause-search
-returns-in-Spent-clause-search g c =
-    let s = c.args.self.now in
+pub returns-in-Spent-clause-on : goal.returns-in-Spent-clause-on
+returns-in-Spent-clause-on g c =
+    let a = c.args.asked.now in
     let e = c.in_ok-values.ensures in
-    search_learns g.G.Grid.geometry s.hole_free s.turns s.universe s.solver c.next.new.self s.cuts.items s.holed c.requires.search e.same e.learns e.valid
+    search_learns g.G.Grid.geometry a.universe a.free_levels c.args.self.now c.next.new.self c.requires.search e.same e.learns e.valid

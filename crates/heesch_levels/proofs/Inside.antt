@@ -1,6 +1,6 @@
--- The universe of the levels below the outermost stands first in that of all levels, and a cut over it is one over them all.
-use Rattle.std.proofs.Common.{◌≡◌, refl, sym, ap, subst, ◌∙◌, ℕ, zero, suc, ◌+◌, ◌-◌, ◌<◌, ◌≤◌, List, [], ◌∷◌, ◌++◌, length, map, filter, filter_map, cond, Bool, true, false, ◌&&◌, inl, inr, arith, All, Contains, append-nil, ltb-true, eqb-true, leb-true, le-leb, length-append, slice_get}
-use Rattle.std.specs.Prelude.{IsTrue, Option, Some, None, nat_lt, nat_le, nat_eq, ◌==◌}
+-- The universe of the first levels stands first in that of all levels, and a cut over it is one over them all.
+use Rattle.std.proofs.Common.{◌≡◌, refl, sym, ap, subst, ◌∙◌, ℕ, zero, suc, ◌+◌, ◌-◌, ◌<◌, ◌≤◌, List, [], ◌∷◌, ◌++◌, length, map, filter, filter_map, cond, Bool, true, false, ◌&&◌, inl, inr, arith, All, Contains, append-nil, ltb-true, eqb-true, leb-true, le-leb, length-append, slice_get, Result}
+use Rattle.std.specs.Prelude.{IsTrue, Option, Some, None, Ok, Err, IfOk, MatchOption, nat_lt, nat_le, nat_eq, ◌==◌}
 use Rattle.std.specs.List.{enumerate_from, range_with_len, list_any, cons_option}
 use Rattle.std.proofs.lemmas.Bool.{cases_Bool, or_cases, and_parts, lt-leb, leb-false}
 use Rattle.std.proofs.lemmas.List.Elements.{All-nil, All-cons, All-head, All-tail, All-weaker, All-contains, filter-append, filter_map-append}
@@ -22,7 +22,7 @@ use Rattle.heesch_cert.specs.Cuts.{IsLawful, IsBorderVariable, IsVariableAt, cut
 use Rattle.heesch_grid.specs.Clauses.{clause_holds}
 use Rattle.heesch_place.specs.Universes.{Levels, IsUniverseOf}
 use Rattle.heesch_cuts.specs.Chosen.{IsOpen, CutsOff}
-use Rattle.heesch_outer.specs.Searching.{IsInnerCut, IsOpenInside}
+use Rattle.heesch_levels.specs.Searching.{IsCutUpTo, IsFreeUpTo}
 
 -- ---- the first levels of a universe
 
@@ -194,34 +194,47 @@ module _ (h : ℕ) (first vars : List Variable) (b : BeginsWith h first vars) wh
         ∙ ap (λ ls. cut_clause first cut ++ ls) (none_written b.rest (1 + length first) (omega arith) b.above)
         ∙ append-nil (cut_clause first cut)
 
--- ---- the universe of the levels below the outermost
+-- ---- the universe of the first levels
 
-module _ (g : Geometry) (u inner : Levels) (whole : IsUniverseOf g u) (part : IsUniverseOf g inner) (shape : inner.shape ≡ u.shape) (level : inner.level + 1 ≡ u.level) (values : List Bool) where
+module _ (g : Geometry) (u inner : Levels) (whole : IsUniverseOf g u) (part : IsUniverseOf g inner) (shape : inner.shape ≡ u.shape) (k : ℕ) (level : inner.level ≡ k) (lower : k ≤ u.level) (values : List Bool) where
   stands_first : BeginsWith inner.level inner.vars u.vars
-  stands_first = first_levels g u.shape inner.level u.level inner.vars u.vars (omega (arith, level)) (subst (λ cells. IsUniverse g cells inner.level inner.vars) shape part) whole
+  stands_first = first_levels g u.shape inner.level u.level inner.vars u.vars (omega (arith, level, lower)) (subst (λ cells. IsUniverse g cells inner.level inner.vars) shape part) whole
 
   -- it has no more variables
   pub fewer_inside : length inner.vars ≤ length u.vars
   fewer_inside = let long : length u.vars ≡ length inner.vars + length stands_first.rest = ap length stands_first.is ∙ length-append inner.vars stands_first.rest in omega (arith, long)
 
-  pub cut_inside : (cut : Cut) → CutsOff g inner values cut → CutsOff g u values cut × IsInnerCut g u cut
+  pub cut_inside : (cut : Cut) → CutsOff g inner values cut → CutsOff g u values cut × IsCutUpTo g u k cut
   cut_inside cut c =
       let lawful : IsLawful g u.shape inner.level inner.vars cut = subst (λ cells. IsLawful g cells inner.level inner.vars cut) shape c.lawful in
-      let still : IsLawful g u.shape u.level u.vars cut = lawful_still inner.level inner.vars u.vars stands_first g u.shape u.level (omega (arith, level)) cut lawful in
-      let clause : cut_clause u.vars cut ≡ cut_clause inner.vars cut = clause_still inner.level inner.vars u.vars stands_first g u.shape u.level (omega (arith, level)) cut lawful in
+      let still : IsLawful g u.shape u.level u.vars cut = lawful_still inner.level inner.vars u.vars stands_first g u.shape u.level (omega (arith, level, lower)) cut lawful in
+      let clause : cut_clause u.vars cut ≡ cut_clause inner.vars cut = clause_still inner.level inner.vars u.vars stands_first g u.shape u.level (omega (arith, level, lower)) cut lawful in
       let to = lawful.level_to in (
         record { lawful = still; fails = ap (clause_holds literals (assignment_of values)) clause ∙ c.fails },
-        record { lawful = still; inner = omega (arith, to, level) },
+        record { lawful = still; up_to = omega (arith, to, level) },
       )
 
-  pub open_inside : IsOpen g inner values → IsOpenInside g u values
-  open_inside free h e =
-      let same : inner.level ≡ h = omega (arith, e, level) in
-      subst (λ n. StaysHoleFree g (u.shape ∷ []) (chosen_layers (assignment_of values) u.vars n)) same
+  pub free_inside : IsOpen g inner values → IsFreeUpTo g u k values
+  free_inside free =
+      subst (λ n. IsFreeUpTo g u n values) level
       (subst (StaysHoleFree g (u.shape ∷ [])) (sym (layers_inside inner.level inner.vars u.vars stands_first (assignment_of values)))
       (subst (λ cells. StaysHoleFree g (cells ∷ []) (chosen_layers (assignment_of values) inner.vars inner.level)) shape free))
 
--- with one level alone there is nothing below it
-pub open_at_one : (g : Geometry) (u : Levels) (values : List Bool) → u.level ≡ 1 → IsOpenInside g u values
-open_at_one g u values one h e =
-    subst (λ n. StaysHoleFree g (u.shape ∷ []) (chosen_layers (assignment_of values) u.vars n)) (let zero_is : 0 ≡ h = omega (arith, one, e) in zero_is) tt
+-- ---- where holes are forbidden at all levels, or at none
+
+module _ (g : Geometry) (u : Levels) (k : ℕ) (values : List Bool) where
+  pub free_at_none : k ≡ 0 → IsFreeUpTo g u k values
+  free_at_none none = subst (λ n. IsFreeUpTo g u n values) (sym none) tt
+
+  module _ (all : k ≡ u.level) where
+    pub free_at_all : IsOpen g u values → IsFreeUpTo g u k values
+    free_at_all free = subst (λ n. IsFreeUpTo g u n values) (sym all) free
+
+    pub cut_at_all : (cut : Cut) → CutsOff g u values cut → CutsOff g u values cut × IsCutUpTo g u k cut
+    cut_at_all cut c = (c, record { lawful = c.lawful; up_to = let to = c.lawful.level_to in omega (arith, to, all) })
+
+-- what an answer with a cut or without says, said of other things
+pub if_ok_option : {X E P R : Type 0} (Q S : X → Type 0) → (P → R) → ((x : X) → Q x → S x) → (r : Result (Option X) E) → IfOk r (λ o. MatchOption o P Q) → IfOk r (λ o. MatchOption o R S)
+if_ok_option Q S f h (Ok None) p = f p
+if_ok_option Q S f h (Ok (Some x)) q = h x q
+if_ok_option Q S f h (Err e) t = tt
