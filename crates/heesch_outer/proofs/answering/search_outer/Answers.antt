@@ -7,5 +7,5 @@ pub returns-in-Coronas : goal.returns-in-Coronas
 returns-in-Coronas g c =
     let a = c.args in
     let geometry = g.G.Grid.geometry in
-    let says = subst (IsAnswerUpTo a.limits.version geometry a.shape.now (a.h + 1) a.h a.limits.turns a.limits.size) c.in-Coronas.is c.in_ok-level_up_to.ensures.answer in
+    let says = subst (IsAnswerUpTo a.limits.version geometry a.shape.now (a.h + 1) a.h a.limits.turns a.limits.size) c.in-Coronas.is c.in_ok-layers.ensures.answer in
     outer_spelled geometry a.shape.now a.h c.in-Coronas.layers says.count says
