@@ -2,10 +2,9 @@
 #![tactic(auto)]
 
 mod answers;
-mod rounds;
+mod outers;
 #[cfg(test)]
 mod tests;
-mod texts;
 
 pub use answers::OuterEntry;
-pub use rounds::{write_outers, write_outers_of_size};
+pub use outers::{write_outers, write_outers_of_size};
