@@ -1,8 +1,8 @@
 -- Tallies of entries.
-use Rattle.std.proofs.Common.{◌≡◌, ℕ, ◌<◌, ◌≤◌, ◌-◌, Bool, List, [], ◌∷◌, ◌++◌, length, map, take, drop, get_or, sym, ap, ◌∙◌, subst, refl}
+use Rattle.std.proofs.Common.{◌≡◌, ℕ, ◌<◌, ◌≤◌, ◌-◌, Bool, List, [], ◌∷◌, ◌++◌, length, map, take, drop, get_or, sym, ap, ◌∙◌, subst, refl, arith}
 use Rattle.std.specs.List.{AllZip}
 use Rattle.std.specs.Prelude.{All}
-use Rattle.std.proofs.lemmas.List.{get_or-map}
+use Rattle.std.proofs.lemmas.List.{get_or-map, length-drop, length-take}
 use Rattle.std.proofs.lemmas.List.Elements.{All-drop, All-take}
 use Rattle.heesch_grid.specs.declared.Cell.{Cell}
 use Rattle.heesch_grid.specs.Geometry.{Geometry}
@@ -15,6 +15,7 @@ use Rattle.heesch_table.specs.Holed.{IsHoled}
 use Rattle.heesch_table.specs.Texts.{counts_text}
 use Rattle.heesch_catalogue.specs.Catalogues.{AreEntries}
 use Rattle.heesch_catalogue.specs.Entries.{IsEntryOf}
+use Rattle.heesch_catalogue.proofs.CatalogueTexts.{as_many}
 use Rattle.heesch_catalogue.proofs.EntryLists.{entries_of_shapes, no_entries}
 use Rattle.heesch_catalogue.proofs.RoundTexts.{rounds_meet}
 use Rattle.heesch_sample.specs.Samples.{AreCountsOf, HaveCounts, IsFound, IsTallyOf}
@@ -54,6 +55,12 @@ pub entries_between : (g : Geometry) (limits : Limits) (shapes : List (List Cell
 entries_between g limits shapes entries from until canonical zip =
     entries_of_shapes g limits (take (until - from) (drop from shapes)) entries zip
     (All-take (λ s. IsCanonicalListOf g s s) (until - from) (drop from shapes) (All-drop (λ s. IsCanonicalListOf g s s) from shapes canonical))
+
+-- as many as the places of the round
+pub round_length : (g : Geometry) (limits : Limits) (shapes : List (List Cell)) (entries : List Entry) (from until : ℕ) → until ≤ length shapes → AreEntries g limits (take (until - from) (drop from shapes)) entries
+    → length entries ≡ until - from
+round_length g limits shapes entries from until within are =
+    omega (arith, within, as_many g limits (take (until - from) (drop from shapes)) entries are, length-take (until - from) (drop from shapes), length-drop from shapes)
 
 -- the entries of a round behind those before it
 pub round_counted : (g : Geometry) (limits : Limits) (shapes : List (List Cell)) (from until : ℕ) (new : Counts) → from ≤ until
