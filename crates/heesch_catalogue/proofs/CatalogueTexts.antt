@@ -1,6 +1,6 @@
 -- The texts of entries behind a header's text, as the text of a catalogue.
-use Rattle.std.proofs.Common.{◌≡◌, ℕ, List, [], ◌++◌, length, take, sym, ap, ◌∙◌, inl, inr}
-use Rattle.std.specs.Prelude.{Option, ◌==◌, if◌then◌else◌, All}
+use Rattle.std.proofs.Common.{◌≡◌, ℕ, List, [], ◌++◌, length, take, sym, ap, ◌∙◌}
+use Rattle.std.specs.Prelude.{◌==◌, if◌then◌else◌, All}
 use Rattle.std.specs.List.{AllByRecursion}
 use Rattle.std.proofs.lemmas.List.{length-map}
 use Rattle.std.proofs.lemmas.List.Elements.{All-take}
@@ -15,7 +15,7 @@ use Rattle.heesch_text.specs.Catalogue.{end_text, entries_text, header_text, tex
 use Rattle.heesch_text.specs.Naturals.{HasNaturals}
 use Rattle.heesch_catalogue.specs.Catalogues.{AreEntries, HaveNaturals, IsBegunCatalogue, IsBegunCatalogueOfSize, IsCatalogue, IsCatalogueOfSize, lines_under}
 use Rattle.heesch_catalogue.specs.Entries.{IsEntryOf, IsEntryText}
-use Rattle.heesch_catalogue.specs.Rounds.{AreTexts, BeginsOne, IsBegunText, IsItemText, IsOfSize, IsWholeText, WritesOne}
+use Rattle.heesch_catalogue.specs.Rounds.{AreTexts, IsBegunText, IsItemText, IsOfSize, IsWholeText}
 use Rattle.heesch_catalogue.proofs.EntryLists.{entries_of_shapes, free_are_canonical}
 use Rattle.heesch_catalogue.proofs.ItemTexts.{items_of_texts}
 use Rattle.heesch_catalogue.proofs.Readable.{readable}
@@ -46,9 +46,9 @@ module _ (g : Geometry) (law : IsGrid g) (header : Header) (limits : AreLimits h
         are_entries,
         readable g law header shapes entries limits are_entries naturals,
         is
-        ∙ ap (λ h. h ++ texts ++ end) is_head
-        ∙ ap (λ t. header_text header ++ t ++ end) same
-        ∙ ap (λ n. header_text header ++ entries_text header entries ++ end_text n) (sym (as_many g header.limits shapes entries are_entries)),
+            ∙ ap (λ h. h ++ texts ++ end) is_head
+            ∙ ap (λ t. header_text header ++ t ++ end) same
+            ∙ ap (λ n. header_text header ++ entries_text header entries ++ end_text n) (sym (as_many g header.limits shapes entries are_entries)),
       )
 
   pub begun_is_catalogue : (shapes : List (List Cell)) (output : List ℕ) → All (λ s. IsCanonicalListOf g s s) shapes → IsBegunText head IsEntry IsText g shapes output → IsBegunCatalogue g header shapes output
@@ -60,9 +60,9 @@ module _ (g : Geometry) (law : IsGrid g) (header : Header) (limits : AreLimits h
         entries,
         are_entries,
         is
-        ∙ ap (λ h. h ++ texts ++ end) is_head
-        ∙ ap (λ t. header_text header ++ t ++ end) same
-        ∙ ap (λ n. header_text header ++ entries_text header entries ++ (if n == length shapes then end_text (length shapes) else [])) (sym (as_many g header.limits some entries are_entries)),
+            ∙ ap (λ h. h ++ texts ++ end) is_head
+            ∙ ap (λ t. header_text header ++ t ++ end) same
+            ∙ ap (λ n. header_text header ++ entries_text header entries ++ (if n == length shapes then end_text (length shapes) else [])) (sym (as_many g header.limits some entries are_entries)),
       )
 
   -- the same of the free list of a size

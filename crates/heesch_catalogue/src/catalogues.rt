@@ -52,7 +52,17 @@ pub fn write_catalogue_of_size<T: Threads + Sync, W: Sink, H: Gate + Sync>(
         brief: header.brief,
         limits: header.limits,
     };
-    write_texts_of_size(rt, alloc, &head, &texts, header.grid, n, workers, gate, sink)
+    write_texts_of_size(
+        rt,
+        alloc,
+        &head,
+        &texts,
+        header.grid,
+        n,
+        workers,
+        gate,
+        sink,
+    )
 }
 
 /// Writes the catalogue text, under the header, of canonical shapes: the header's text, then after each 256 shapes are

@@ -62,12 +62,7 @@ impl<'a, G: Grid, R: ShapeText> Answer<R::Item> for ItemOf<'a, G, R> {
 /// is one shape, the gate is told its place, and what a shape took beside its item is freed as soon as that is made.
 ///
 /// Errors: `NoMemory` alone.
-pub fn items_between<
-    G: Grid + Send + Sync,
-    R: ShapeText + Sync,
-    T: Threads + Sync,
-    H: Gate + Sync,
->(
+pub fn items_between<G: Grid + Send + Sync, R: ShapeText + Sync, T: Threads + Sync, H: Gate + Sync>(
     rt: &T,
     alloc: Global,
     texts: &R,

@@ -14,8 +14,8 @@ use heesch_pool::Gate;
 use std::alloc::Global;
 use std::thread::Threads;
 
-/// Writes the head and the texts of all free polyforms of n cells of the grid: `write_texts` of their list. n is 1 to 31,
-/// and there are 1 to 64 workers.
+/// Writes the head and the texts of all free polyforms of n cells of the grid: `write_texts` of their list. n is 1 to
+/// 31, and there are 1 to 64 workers.
 ///
 /// Errors: as of `write_texts`; where memory was refused for the list of the shapes, nothing was written. Beside that
 /// list it keeps the items of one round.
@@ -59,13 +59,7 @@ pub fn write_texts_of_size<R: ShapeText + Sync, T: Threads + Sync, W: Sink, H: G
 }
 
 /// The same on one grid.
-fn write_on<
-    G: Grid + Send + Sync,
-    R: ShapeText + Sync,
-    T: Threads + Sync,
-    W: Sink,
-    H: Gate + Sync,
->(
+fn write_on<G: Grid + Send + Sync, R: ShapeText + Sync, T: Threads + Sync, W: Sink, H: Gate + Sync>(
     rt: &T,
     alloc: Global,
     head: &[u8],

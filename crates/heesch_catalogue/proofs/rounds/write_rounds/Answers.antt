@@ -1,6 +1,6 @@
 use Rattle.std.proofs.Common.{◌+◌, ◌-◌, arith, drop, subst, take}
 use Rattle.heesch_catalogue.specs.Rounds.{AreTexts, BeginsOne, IsItemText, WritesOne}
-use Rattle.heesch_catalogue.proofs.RoundTexts.{at_error, begins_weaker, no_round, round_begun, round_kept, round_written, writes_weaker}
+use Rattle.heesch_catalogue.proofs.RoundTexts.{at_error, begins_weaker, round_begun, round_kept, round_written, writes_weaker}
 use Rattle.heesch_catalogue.proofs.ItemTexts.{texts_of_shapes}
 use Rattle.heesch_catalogue.proofs.rounds.write_rounds.Goals as goal
 

@@ -44,12 +44,11 @@ loop-from-preserved g c =
     let are_too = entries_between geometry limits shapes entries from until c.requires.canonical c.in_ok-entries.ensures in
     record {
       within = omega arith;
-      counted = round_counted geometry limits shapes from until c.add_entries.new.tally (omega arith)
-          (
-            before ++ entries,
-            entries_both geometry limits (take from shapes) (slice_range shapes from until) before entries are are_too,
-            subst (λ es. AreCountsOf geometry (before ++ es) c.add_entries.new.tally) c.deref.ensures.value (c.in_ok-add_entries.ensures.ok before counts),
-          );
+      counted = round_counted geometry limits shapes from until c.add_entries.new.tally (omega arith) (
+        before ++ entries,
+        entries_both geometry limits (take from shapes) (slice_range shapes from until) before entries are are_too,
+        subst (λ es. AreCountsOf geometry (before ++ es) c.add_entries.new.tally) c.deref.ensures.value (c.in_ok-add_entries.ensures.ok before counts),
+      );
       shapes = omega (
         arith,
         c.in_ok-add_entries.ensures.shapes,
