@@ -1,9 +1,9 @@
--- The answers of a job on each shape, as the entries of a list of shapes.
-use Rattle.std.proofs.Common.{◌≡◌, ℕ, suc, ◌+◌, ◌-◌, ◌<◌, ◌≤◌, List, [], ◌∷◌, ◌++◌, length, map, get_or, take, drop, Result, Ok, Err, IfOk, refl, sym, ap, subst, ◌∙◌, arith, inl, inr}
-use Rattle.std.specs.Prelude.{Some, slice_get, All}
-use Rattle.std.proofs.lemmas.List.{get_or-drop, get_or-take, length-drop, length-take, map-append}
-use Rattle.std.proofs.lemmas.List.Elements.{All-append, All-drop, All-take}
-use Rattle.std.proofs.lemmas.Option.{slice_get_cases, slice_get_within, get_or_from_slice_get}
+-- The entries of a list of shapes.
+use Rattle.std.proofs.Common.{◌≡◌, ℕ, suc, List, [], ◌∷◌, ◌++◌, map, get_or, Result, Ok, Err, IfOk, refl, ap, ◌∙◌, arith}
+use Rattle.std.specs.Prelude.{All}
+use Rattle.std.specs.List.{AllZip}
+use Rattle.std.proofs.lemmas.List.{map-append}
+use Rattle.std.proofs.lemmas.List.Elements.{All-append, All-cons, All-nil}
 use Rattle.heesch_grid.specs.declared.Cell.{Cell}
 use Rattle.heesch_grid.specs.Geometry.{Geometry, IsGrid}
 use Rattle.heesch_grid.specs.Polyform.{IsCanonicalListOf, IsFreePolyform}
@@ -21,50 +21,6 @@ use Rattle.heesch_catalogue.specs.Entries.{IsEntryOf}
 pub if_both : {T E : Type 0} {P Q S : T → Type 0} (r : Result T E) → ((x : T) → P x → Q x → S x) → IfOk r P → IfOk r Q → IfOk r S
 if_both (Ok x) f p q = f x p q
 if_both (Err e) f p q = p
-
-same_cells : (shapes : List (List Cell)) (entries : List Entry) → length entries ≡ length shapes
-    → ((i : ℕ) (d : Entry) → i < length entries → (get_or entries i d).cells ≡ get_or shapes i [])
-    → map (λ (e : Entry). e.cells) entries ≡ shapes
-same_cells [] [] many each = refl
-same_cells [] (e ∷ es) many each = absurd (omega (arith, many))
-same_cells (s ∷ ss) [] many each = absurd (omega (arith, many))
-same_cells (s ∷ ss) (e ∷ es) many each =
-    let first : e.cells ≡ s = each 0 e (omega arith) in
-    let others : map (λ (e : Entry). e.cells) es ≡ ss = same_cells ss es (omega (arith, many)) (λ i d lt. each (suc i) d (omega (arith, lt))) in
-    cc
-
--- as many entries as shapes, each of the shape of its place, which is canonical
-pub entries_each : (g : Geometry) (limits : Limits) (shapes : List (List Cell)) (entries : List Entry) → length entries ≡ length shapes
-    → All (λ s. IsCanonicalListOf g s s) shapes
-    → ((i : ℕ) (e : Entry) → slice_get entries i ≡ Some e → IsEntryOf g limits (get_or shapes i []) e)
-    → AreEntries g limits shapes entries
-entries_each g limits shapes entries many canonical answers = record {
-  of_shapes = same_cells shapes entries many (λ i d lt. one_canonical_list g (get_or shapes i []) (get_or entries i d).cells (get_or shapes i []) (at i d lt).canonical (canonical i [] (omega (arith, lt, many))));
-  are_true = λ i d lt. (at i d lt).is_true;
-  are_reduced = λ i d lt. (at i d lt).is_reduced;
-  are_right = λ i d lt. (at i d lt).is_right;
-}
-  where
-    at : (i : ℕ) (d : Entry) → i < length entries → IsEntryOf g limits (get_or shapes i []) (get_or entries i d)
-    at i d lt =
-        elim (slice_get_cases entries i).1 [
-          | inl f ↦ subst (λ e. IsEntryOf g limits (get_or shapes i []) e) (sym (get_or_from_slice_get entries i f.0 d f.2)) (answers i f.0 f.2)
-          | inr past ↦ absurd (omega (arith, past.0, lt))
-        ]
-
--- the same of the shapes from a place to before another
-pub entries_each_between : (g : Geometry) (limits : Limits) (shapes : List (List Cell)) (entries : List Entry) (from until : ℕ) → until ≤ length shapes → from + length entries ≡ until
-    → All (λ s. IsCanonicalListOf g s s) shapes
-    → ((i : ℕ) (e : Entry) → slice_get entries i ≡ Some e → IsEntryOf g limits (get_or shapes (from + i) []) e)
-    → AreEntries g limits (take (until - from) (drop from shapes)) entries
-entries_each_between g limits shapes entries from until within many canonical answers =
-    let some : List (List Cell) = take (until - from) (drop from shapes) in
-    entries_each g limits some entries (omega (arith, many, within, length-take (until - from) (drop from shapes), length-drop from shapes))
-    (All-take (λ s. IsCanonicalListOf g s s) (until - from) (drop from shapes) (All-drop (λ s. IsCanonicalListOf g s s) from shapes canonical))
-    (λ i e is.
-    let lt : i < until - from = omega (arith, many, slice_get_within entries i e is) in
-    let place : get_or some i [] ≡ get_or shapes (from + i) [] = get_or-take (until - from) (drop from shapes) i [] lt ∙ get_or-drop from shapes i [] in
-    subst (λ s. IsEntryOf g limits s e) (sym place) (answers i e is))
 
 -- a free polyform is its own canonical list
 pub free_are_canonical : (g : Geometry) (law : IsGrid g) (n : ℕ) (shapes : List (List Cell)) → All (IsFreePolyform g n) shapes → All (λ s. IsCanonicalListOf g s s) shapes
@@ -91,3 +47,19 @@ entries_both g limits xs ys es fs are are_too = record {
   are_reduced = All-append (λ (e : Entry). HasReducedCover g e.evidence) es fs are.are_reduced are_too.are_reduced;
   are_right = All-append (HasRightVerdict g limits) es fs are.are_right are_too.are_right;
 }
+
+-- one entry of each of these shapes, which are canonical
+pub entries_of_shapes : (g : Geometry) (limits : Limits) (shapes : List (List Cell)) (entries : List Entry) → AllZip (IsEntryOf g limits) shapes entries
+    → All (λ s. IsCanonicalListOf g s s) shapes → AreEntries g limits shapes entries
+entries_of_shapes g limits [] [] of canonical = no_entries g limits
+entries_of_shapes g limits [] (e ∷ es) of canonical = absurd of
+entries_of_shapes g limits (s ∷ ss) [] of canonical = absurd of
+entries_of_shapes g limits (s ∷ ss) (e ∷ es) (is, of) canonical =
+    let same : e.cells ≡ s = one_canonical_list g s e.cells s is.canonical (canonical 0 [] (omega arith)) in
+    let one : AreEntries g limits (s ∷ []) (e ∷ []) = record {
+      of_shapes = ap (λ (c : List Cell). c ∷ []) same;
+      are_true = All-cons (IsTrueEntry g limits) e [] is.is_true (All-nil (IsTrueEntry g limits));
+      are_reduced = All-cons (λ (e : Entry). HasReducedCover g e.evidence) e [] is.is_reduced (All-nil (λ (e : Entry). HasReducedCover g e.evidence));
+      are_right = All-cons (HasRightVerdict g limits) e [] is.is_right (All-nil (HasRightVerdict g limits));
+    } in
+    entries_both g limits (s ∷ []) ss (e ∷ []) es one (entries_of_shapes g limits ss es of (λ i d lt. canonical (suc i) d (omega (arith, lt))))

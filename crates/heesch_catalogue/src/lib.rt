@@ -1,9 +1,15 @@
-//! The entries of shapes, each classified by itself by several workers, and catalogues that are written as they are made.
+//! Texts of shapes that are written as they are made, each shape by itself and by several workers: catalogues, and
+//! what else is written by the same rounds.
 #![tactic(auto)]
 
+mod catalogues;
 mod entries;
+mod items;
 mod rounds;
-mod texts;
+mod sizes;
 
-pub use entries::{canonical_of, entries_between};
-pub use rounds::{ROUND, WriteStop, put_end, write_catalogue, write_catalogue_of_size};
+pub use catalogues::{write_catalogue, write_catalogue_of_size};
+pub use entries::{EntryText, canonical_of};
+pub use items::{ShapeText, items_between};
+pub use rounds::{ROUND, WriteStop, write_texts};
+pub use sizes::write_texts_of_size;

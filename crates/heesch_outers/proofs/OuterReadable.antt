@@ -15,7 +15,10 @@ use Rattle.heesch_text.specs.Naturals.{HasNaturals}
 use Rattle.heesch_catalogue.proofs.Readable.{readable}
 use Rattle.heesch_outers.specs.declared.answers.OuterEntry.{OuterEntry}
 use Rattle.heesch_outers.specs.Outers.{AreOuterEntries, AreReadable, entries_in}
-use Rattle.heesch_outers.specs.Rounds.{HaveOuterNaturals}
+
+-- the natural numbers of the entries' lines fit 32 bits
+abbrev pub HaveOuterNaturals : List OuterEntry → Type 0
+HaveOuterNaturals es = AllByRecursion (λ (e : OuterEntry). AllByRecursion HasNaturals (entry_lines e.entry)) es
 
 to_entries : (P : Entry → Type 0) (es : List OuterEntry) → AllByRecursion (λ (e : OuterEntry). P e.entry) es → AllByRecursion P (entries_in es)
 to_entries P [] all = tt

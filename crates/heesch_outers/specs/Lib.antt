@@ -1,3 +1,2 @@
 pub mod Outers
 pub mod Answers
-pub mod Rounds

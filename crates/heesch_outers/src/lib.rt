@@ -2,8 +2,7 @@
 #![tactic(auto)]
 
 mod answers;
-mod rounds;
-mod texts;
+mod outers;
 
 pub use answers::OuterEntry;
-pub use rounds::{write_outers, write_outers_of_size};
+pub use outers::{write_outers, write_outers_of_size};

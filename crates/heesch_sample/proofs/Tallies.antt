@@ -1,16 +1,22 @@
 -- Tallies of entries.
-use Rattle.std.proofs.Common.{◌≡◌, ℕ, ◌<◌, ◌≤◌, ◌-◌, Bool, List, [], ◌∷◌, ◌++◌, length, map, take, drop, get_or, sym, ap, ◌∙◌, subst, refl}
+use Rattle.std.proofs.Common.{◌≡◌, ℕ, ◌<◌, ◌≤◌, ◌-◌, Bool, List, [], ◌∷◌, ◌++◌, length, map, take, drop, get_or, sym, ap, ◌∙◌, subst, refl, arith}
 use Rattle.std.specs.List.{AllZip}
-use Rattle.std.proofs.lemmas.List.{get_or-map}
+use Rattle.std.specs.Prelude.{All}
+use Rattle.std.proofs.lemmas.List.{get_or-map, length-drop, length-take}
+use Rattle.std.proofs.lemmas.List.Elements.{All-drop, All-take}
 use Rattle.heesch_grid.specs.declared.Cell.{Cell}
 use Rattle.heesch_grid.specs.Geometry.{Geometry}
+use Rattle.heesch_grid.specs.Polyform.{IsCanonicalListOf}
 use Rattle.heesch_cert.specs.declared.entry.Entry.{Entry}
 use Rattle.heesch_cert.specs.declared.limits.Limits.{Limits}
 use Rattle.heesch_cert.specs.declared.verdict.Verdict.{Verdict}
 use Rattle.heesch_table.specs.Counts.{Counts, counts_of}
 use Rattle.heesch_table.specs.Holed.{IsHoled}
 use Rattle.heesch_table.specs.Texts.{counts_text}
-use Rattle.heesch_catalogue.proofs.EntryLists.{no_entries}
+use Rattle.heesch_catalogue.specs.Catalogues.{AreEntries}
+use Rattle.heesch_catalogue.specs.Entries.{IsEntryOf}
+use Rattle.heesch_catalogue.proofs.CatalogueTexts.{as_many}
+use Rattle.heesch_catalogue.proofs.EntryLists.{entries_of_shapes, no_entries}
 use Rattle.heesch_catalogue.proofs.RoundTexts.{rounds_meet}
 use Rattle.heesch_sample.specs.Samples.{AreCountsOf, HaveCounts, IsFound, IsTallyOf}
 
@@ -42,6 +48,19 @@ cells_at entries shapes i entry cells of_shapes less low is_entry is_cells =
     ∙ sym (get_or-map (λ (e : Entry). e.cells) entries i entry cells less)
     ∙ ap (λ ss. get_or ss i cells) of_shapes
     ∙ sym is_cells
+
+-- the items of a round are entries of its shapes
+pub entries_between : (g : Geometry) (limits : Limits) (shapes : List (List Cell)) (entries : List Entry) (from until : ℕ) → All (λ s. IsCanonicalListOf g s s) shapes
+    → AllZip (IsEntryOf g limits) (take (until - from) (drop from shapes)) entries → AreEntries g limits (take (until - from) (drop from shapes)) entries
+entries_between g limits shapes entries from until canonical zip =
+    entries_of_shapes g limits (take (until - from) (drop from shapes)) entries zip
+    (All-take (λ s. IsCanonicalListOf g s s) (until - from) (drop from shapes) (All-drop (λ s. IsCanonicalListOf g s s) from shapes canonical))
+
+-- as many as the places of the round
+pub round_length : (g : Geometry) (limits : Limits) (shapes : List (List Cell)) (entries : List Entry) (from until : ℕ) → until ≤ length shapes → AreEntries g limits (take (until - from) (drop from shapes)) entries
+    → length entries ≡ until - from
+round_length g limits shapes entries from until within are =
+    omega (arith, within, as_many g limits (take (until - from) (drop from shapes)) entries are, length-take (until - from) (drop from shapes), length-drop from shapes)
 
 -- the entries of a round behind those before it
 pub round_counted : (g : Geometry) (limits : Limits) (shapes : List (List Cell)) (from until : ℕ) (new : Counts) → from ≤ until

@@ -6,7 +6,7 @@ ghost use Rattle.heesch_grid.specs.Names.{geometry_of};
 ghost use Rattle.heesch_grid.specs.Polyform.{IsCanonicalListOf};
 ghost use Rattle.heesch_sample.specs.Samples.{AreCountsOf, AreGrown, HaveCounts, IsSample};
 
-use heesch_catalogue::entries_between;
+use heesch_catalogue::{EntryText, ROUND, items_between};
 use heesch_cert::{Entry, Limits};
 use heesch_grid::{Grid, GridName, Hex, Iamond, Square};
 use heesch_grow::{Draws, grown};
@@ -17,9 +17,6 @@ use heesch_shape::Shape;
 use heesch_table::Tally;
 use std::alloc::Global;
 use std::thread::Threads;
-
-/// How many shapes are classified before their entries are counted.
-const ROUND: u32 = 256;
 
 /// The text of the tally of `count` polyforms of n cells, classified under the limits. They are grown
 /// one after the other, from one state that starts at the seed, and stand by their canonical lists.
@@ -118,46 +115,24 @@ fn tally_of<G: Grid + Send + Sync, T: Threads + Sync, H: Gate + Sync>(
     requires workers { (1 ≤ workers) × (workers ≤ 64) }
     ensures { IfOk result (HaveCounts G.geometry limits shapes.now) }
 {
+    let texts = EntryText {
+        brief: true,
+        limits,
+    };
     let mut tally = Tally::new(alloc);
     let mut from = 0;
     while from < count {
         let until = from + ROUND.min(count - from);
-        add_round(
-            rt, alloc, shapes, from, until, limits, workers, gate, &mut tally,
+        let entries = items_between(rt, alloc, &texts, shapes, from, until, workers, gate)?;
+        add_entries(
+            alloc,
+            &shapes[from as usize..until as usize],
+            &entries,
+            &mut tally,
         )?;
         from = until;
     }
     Ok(tally)
-}
-
-/// Adds the entries of the shapes from the place `from` to before `until` to the tally.
-fn add_round<G: Grid + Send + Sync, T: Threads + Sync, H: Gate + Sync>(
-    rt: &T,
-    alloc: Global,
-    shapes: &[Shape<G>],
-    from: u32,
-    until: u32,
-    limits: Limits,
-    workers: u32,
-    gate: &H,
-    tally: &mut Tally,
-) -> Result<(), NoMemory>
-    requires canonical { All (λ s. IsCanonicalListOf G.geometry s s) shapes.now }
-    requires span { (from ≤ until) × (until ≤ length shapes.now) }
-    requires few { tally.old.shapes + (until - from) ≤ 2 ^ 32 }
-    requires limits { AreLimits limits }
-    requires workers { (1 ≤ workers) × (workers ≤ 64) }
-    ensures ok { (earlier : List (List Cell)) → HaveCounts G.geometry limits earlier tally.old
-        → OnOk result (HaveCounts G.geometry limits (earlier ++ slice_range shapes.now from until) tally.new) }
-    ensures shapes { OnOk result (tally.new.shapes ≡ tally.old.shapes + (until - from)) }
-{
-    let entries = entries_between(rt, alloc, shapes, from, until, limits, workers, gate)?;
-    add_entries(
-        alloc,
-        &shapes[from as usize..until as usize],
-        &entries,
-        tally,
-    )
 }
 
 /// Adds the entries, which are of these shapes, to the tally.

@@ -1,15 +1,15 @@
 use Rattle.std.proofs.Common.{◌≤◌, ◌-◌, length, take}
-use Rattle.heesch_catalogue.specs.Rounds.{AreTextsOf, WritesOne}
+use Rattle.heesch_catalogue.specs.Rounds.{AreTexts, IsItemText, WritesOne}
 use Rattle.heesch_catalogue.proofs.rounds.write_rounds.Given as goal
 
--- the entries of the shapes before this place are written
+-- the texts of the shapes before this place are written
 abbrev pub invariant-loop-from : goal.invariant-loop-from
 invariant-loop-from g l =
     let held = g.W.Sink.held in
     let faults = g.W.Sink.faults in
     record {
       within : l.from ≤ length l.shapes;
-      written : WritesOne (AreTextsOf g.G.Grid.geometry l.header (take l.from l.shapes)) (held l.fn.sink) (held l.sink);
+      written : WritesOne (AreTexts (IsItemText (g.R.ShapeText.is_of l.texts g.G.Grid.geometry) (g.R.ShapeText.is_text l.texts)) (take l.from l.shapes)) (held l.fn.sink) (held l.sink);
       later : faults l.fn.sink ≤ faults l.sink;
     }
 

@@ -6,7 +6,7 @@ use Rattle.heesch_sample.proofs.samples.tally_of.Given as goal
 abbrev pub invariant-loop-from : goal.invariant-loop-from
 invariant-loop-from g l = record {
   within : l.from ≤ length l.shapes;
-  counted : HaveCounts g.G.Grid.geometry l.limits (take l.from l.shapes) l.tally;
+  counted : HaveCounts g.G.Grid.geometry l.fn.limits (take l.from l.shapes) l.tally;
   shapes : l.tally.shapes ≡ l.from;
 }
 

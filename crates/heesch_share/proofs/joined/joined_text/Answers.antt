@@ -1,4 +1,4 @@
-use Rattle.std.proofs.Common.{◌≡◌, ◌∙◌, List, All, ap, subst, sym}
+use Rattle.std.proofs.Common.{◌∙◌, List, All, ap, subst, sym}
 use Rattle.heesch_reader.specs.declared.item.Item.{Item}
 use Rattle.heesch_reader.specs.Items.{lines_of}
 use Rattle.heesch_text.specs.Lines.{text_of}

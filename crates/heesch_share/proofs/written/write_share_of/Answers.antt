@@ -1,10 +1,6 @@
-use Rattle.std.proofs.Common.{◌≡◌, ◌∙◌, ap, subst, length}
-use Rattle.std.specs.Prelude.{slice_range}
-use Rattle.heesch_catalogue.specs.Catalogues.{IsBegunCatalogue, IsCatalogue}
-use Rattle.heesch_catalogue.specs.Rounds.{BeginsOne, WritesOne}
-use Rattle.heesch_parts.specs.declared.places.Span.{Span}
-use Rattle.heesch_parts.specs.Spans.{span_of}
+use Rattle.std.proofs.Common.{◌∙◌, ap}
 use Rattle.std.proofs.lemmas.Result.{on_err_weaker, on_ok_weaker}
+use Rattle.heesch_parts.specs.Spans.{span_of}
 use Rattle.heesch_catalogue.proofs.RoundTexts.{at_error}
 use Rattle.heesch_share.proofs.ShareTexts.{line_begun, share_begun, share_written}
 use Rattle.heesch_share.proofs.written.write_share_of.Goals as goal
@@ -18,23 +14,15 @@ returns-in_err-put_line-clause-err g c =
 pub returns-clause-ok : goal.returns-clause-ok
 returns-clause-ok g c =
     let held = g.W.Sink.held in
-    let header = c.args.header.now in
-    let shapes = c.args.shapes.now in
-    let places : c.span-from.result ≡ span_of (length shapes) c.args.i c.args.k = c.span-from.ensures ∙ ap (λ n. span_of n c.args.i c.args.k) c.in-Ok.ensures.1 in
     on_ok_weaker c.write_catalogue.result
-    (λ written.
-    share_written g.G.Grid.geometry header c.args.i c.args.k shapes (held c.args.sink.now) (held c.put_line.new.sink) (held c.write_catalogue.new.sink) c.in_ok-put_line.ensures.ok
-    (subst (λ (x : Span). WritesOne (IsCatalogue g.G.Grid.geometry header (slice_range shapes x.from x.until)) (held c.put_line.new.sink) (held c.write_catalogue.new.sink)) places written))
+    (share_written g.G.Grid.geometry c.args.header.now c.args.i c.args.k c.args.shapes.now c.span-from.result (c.span-from.ensures ∙ ap (λ n. span_of n c.args.i c.args.k) c.in-Ok.ensures.1)
+    (held c.args.sink.now) (held c.put_line.new.sink) (held c.write_catalogue.new.sink) c.in_ok-put_line.ensures.ok)
     c.write_catalogue.ensures.ok
 
 pub returns-clause-err : goal.returns-clause-err
 returns-clause-err g c =
     let held = g.W.Sink.held in
-    let header = c.args.header.now in
-    let shapes = c.args.shapes.now in
-    let places : c.span-from.result ≡ span_of (length shapes) c.args.i c.args.k = c.span-from.ensures ∙ ap (λ n. span_of n c.args.i c.args.k) c.in-Ok.ensures.1 in
     on_err_weaker c.write_catalogue.result
-    (λ begun.
-    share_begun g.G.Grid.geometry header c.args.i c.args.k shapes (held c.args.sink.now) (held c.put_line.new.sink) (held c.write_catalogue.new.sink) c.in_ok-put_line.ensures.ok
-    (subst (λ (x : Span). BeginsOne (IsBegunCatalogue g.G.Grid.geometry header (slice_range shapes x.from x.until)) (held c.put_line.new.sink) (held c.write_catalogue.new.sink)) places begun))
+    (share_begun g.G.Grid.geometry c.args.header.now c.args.i c.args.k c.args.shapes.now c.span-from.result (c.span-from.ensures ∙ ap (λ n. span_of n c.args.i c.args.k) c.in-Ok.ensures.1)
+    (held c.args.sink.now) (held c.put_line.new.sink) (held c.write_catalogue.new.sink) c.in_ok-put_line.ensures.ok)
     c.write_catalogue.ensures.err

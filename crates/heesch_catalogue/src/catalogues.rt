@@ -1,0 +1,109 @@
+//! A catalogue that is written as it is made.
+ghost use Rattle.std.specs.Prelude.{◌≡◌, ◌≤◌, All, Err, IfOk, OnErr, OnOk};
+ghost use Rattle.heesch_io.specs.Causes.{Rose};
+ghost use Rattle.heesch_cert.specs.Limits.{AreLimits};
+ghost use Rattle.heesch_grid.specs.Names.{geometry_of};
+ghost use Rattle.heesch_grid.specs.Polyform.{IsCanonicalListOf};
+ghost use Rattle.heesch_text.specs.Catalogue.{header_text};
+ghost use Rattle.heesch_catalogue.specs.Catalogues.{IsBegunCatalogue, IsBegunCatalogueOfSize};
+ghost use Rattle.heesch_catalogue.specs.Catalogues.{IsCatalogue, IsCatalogueOfSize};
+ghost use Rattle.heesch_catalogue.specs.Rounds.{BeginsOne, WritesOne};
+
+use crate::entries::EntryText;
+use crate::rounds::{WriteStop, write_texts};
+use crate::sizes::write_texts_of_size;
+use heesch_cert::Header;
+use heesch_grid::Grid;
+use heesch_io::{NoMemory, Sink};
+use heesch_pool::Gate;
+use heesch_shape::Shape;
+use heesch_text::write_header;
+use std::alloc::Global;
+use std::thread::Threads;
+
+/// Writes the catalogue text, under the header, of all free polyforms of n cells: `write_catalogue` of their list. n is
+/// 1 to 31, and there are 1 to 64 workers.
+///
+/// Errors: as of `write_catalogue`; where memory was refused for the list of the shapes, nothing was written. Beside
+/// that list it keeps the entries of one round.
+pub fn write_catalogue_of_size<T: Threads + Sync, W: Sink, H: Gate + Sync>(
+    rt: &T,
+    alloc: Global,
+    header: &Header,
+    n: u32,
+    workers: u32,
+    gate: &H,
+    sink: &mut W,
+) -> Result<(), WriteStop>
+    requires size { (1 ≤ n) × (n ≤ 31) }
+    requires limits { AreLimits header.now.limits }
+    requires workers { (1 ≤ workers) × (workers ≤ 64) }
+    ensures ok { OnOk result
+        (WritesOne (IsCatalogueOfSize (geometry_of header.now.grid) header.now n)
+        (W.held sink.old) (W.held sink.new)) }
+    ensures err { OnErr result
+        (BeginsOne (IsBegunCatalogueOfSize (geometry_of header.now.grid) header.now n)
+        (W.held sink.old) (W.held sink.new)) }
+    ensures failed { result ≡ Err WriteStop.Failed → Rose (W.faults sink.old) (W.faults sink.new) }
+    ensures later { W.faults sink.old ≤ W.faults sink.new }
+{
+    let head = head_of(alloc, header)?;
+    let texts = EntryText {
+        brief: header.brief,
+        limits: header.limits,
+    };
+    write_texts_of_size(
+        rt,
+        alloc,
+        &head,
+        &texts,
+        header.grid,
+        n,
+        workers,
+        gate,
+        sink,
+    )
+}
+
+/// Writes the catalogue text, under the header, of canonical shapes: the header's text, then after each 256 shapes are
+/// classified their entries' texts, in the shapes' order, then the end's text, each by one `put`. There are 1 to 64
+/// workers, and the gate is told of each shape's number in the list.
+///
+/// Errors: `Failed` only where the sink's count of faults rose; `NoMemory` also where there are 2^32 shapes or more.
+/// What was written is then a beginning of a catalogue text. It keeps the entries and the text of one round, and takes
+/// nearly all of its time to classify the shapes.
+pub fn write_catalogue<G: Grid + Send + Sync, T: Threads + Sync, W: Sink, H: Gate + Sync>(
+    rt: &T,
+    alloc: Global,
+    header: &Header,
+    shapes: &[Shape<G>],
+    workers: u32,
+    gate: &H,
+    sink: &mut W,
+) -> Result<(), WriteStop>
+    requires canonical { All (λ s. IsCanonicalListOf G.geometry s s) shapes.now }
+    requires limits { AreLimits header.now.limits }
+    requires workers { (1 ≤ workers) × (workers ≤ 64) }
+    ensures ok { OnOk result
+        (WritesOne (IsCatalogue G.geometry header.now shapes.now) (W.held sink.old) (W.held sink.new)) }
+    ensures err { OnErr result
+        (BeginsOne (IsBegunCatalogue G.geometry header.now shapes.now) (W.held sink.old) (W.held sink.new)) }
+    ensures failed { result ≡ Err WriteStop.Failed → Rose (W.faults sink.old) (W.faults sink.new) }
+    ensures later { W.faults sink.old ≤ W.faults sink.new }
+{
+    let head = head_of(alloc, header)?;
+    let texts = EntryText {
+        brief: header.brief,
+        limits: header.limits,
+    };
+    write_texts(rt, alloc, &head, &texts, shapes, workers, gate, sink)
+}
+
+/// The header's text.
+fn head_of(alloc: Global, header: &Header) -> Result<Vec<u8>, NoMemory>
+    ensures { IfOk result (λ text. text.items ≡ header_text header.now) }
+{
+    let mut text = Vec::new(alloc);
+    write_header(header, &mut text)?;
+    Ok(text)
+}

@@ -1,0 +1,86 @@
+//! Texts of all free polyforms of a size, on the grid of a name.
+ghost use Rattle.std.specs.Prelude.{◌≡◌, ◌≤◌, IsTrue, Err, OnErr, OnOk};
+ghost use Rattle.heesch_io.specs.Causes.{Rose};
+ghost use Rattle.heesch_grid.specs.Names.{geometry_of};
+ghost use Rattle.heesch_catalogue.specs.Rounds.{BeginsOne, IsBegunText, IsOfSize, IsWholeText, WritesOne};
+
+use crate::items::ShapeText;
+use crate::rounds::{WriteStop, write_texts};
+use heesch_grid::{Grid, GridName, Hex, Iamond, Square};
+use heesch_io::Sink;
+use heesch_kite::Kite;
+use heesch_listing::all_shapes;
+use heesch_pool::Gate;
+use std::alloc::Global;
+use std::thread::Threads;
+
+/// Writes the head and the texts of all free polyforms of n cells of the grid: `write_texts` of their list. n is 1 to
+/// 31, and there are 1 to 64 workers.
+///
+/// Errors: as of `write_texts`; where memory was refused for the list of the shapes, nothing was written. Beside that
+/// list it keeps the items of one round.
+pub fn write_texts_of_size<R: ShapeText + Sync, T: Threads + Sync, W: Sink, H: Gate + Sync>(
+    rt: &T,
+    alloc: Global,
+    head: &[u8],
+    texts: &R,
+    grid: GridName,
+    n: u32,
+    workers: u32,
+    gate: &H,
+    sink: &mut W,
+) -> Result<(), WriteStop>
+    requires accepted { IsTrue (R.accepts texts.now) }
+    requires size { (1 ≤ n) × (n ≤ 31) }
+    requires workers { (1 ≤ workers) × (workers ≤ 64) }
+    ensures ok { OnOk result
+        (WritesOne (IsOfSize (IsWholeText head.now (R.is_of texts.now) (R.is_text texts.now)) (geometry_of grid) n)
+        (W.held sink.old) (W.held sink.new)) }
+    ensures err { OnErr result
+        (BeginsOne (IsOfSize (IsBegunText head.now (R.is_of texts.now) (R.is_text texts.now)) (geometry_of grid) n)
+        (W.held sink.old) (W.held sink.new)) }
+    ensures failed { result ≡ Err WriteStop.Failed → Rose (W.faults sink.old) (W.faults sink.new) }
+    ensures later { W.faults sink.old ≤ W.faults sink.new }
+{
+    match grid {
+        GridName::Square => {
+            write_on::<Square, R, T, W, H>(rt, alloc, head, texts, n, workers, gate, sink)
+        }
+        GridName::Hex => {
+            write_on::<Hex, R, T, W, H>(rt, alloc, head, texts, n, workers, gate, sink)
+        }
+        GridName::Iamond => {
+            write_on::<Iamond, R, T, W, H>(rt, alloc, head, texts, n, workers, gate, sink)
+        }
+        GridName::Kite => {
+            write_on::<Kite, R, T, W, H>(rt, alloc, head, texts, n, workers, gate, sink)
+        }
+    }
+}
+
+/// The same on one grid.
+fn write_on<G: Grid + Send + Sync, R: ShapeText + Sync, T: Threads + Sync, W: Sink, H: Gate + Sync>(
+    rt: &T,
+    alloc: Global,
+    head: &[u8],
+    texts: &R,
+    n: u32,
+    workers: u32,
+    gate: &H,
+    sink: &mut W,
+) -> Result<(), WriteStop>
+    requires accepted { IsTrue (R.accepts texts.now) }
+    requires size { (1 ≤ n) × (n ≤ 31) }
+    requires workers { (1 ≤ workers) × (workers ≤ 64) }
+    ensures ok { OnOk result
+        (WritesOne (IsOfSize (IsWholeText head.now (R.is_of texts.now) (R.is_text texts.now)) G.geometry n)
+        (W.held sink.old) (W.held sink.new)) }
+    ensures err { OnErr result
+        (BeginsOne (IsOfSize (IsBegunText head.now (R.is_of texts.now) (R.is_text texts.now)) G.geometry n)
+        (W.held sink.old) (W.held sink.new)) }
+    ensures failed { result ≡ Err WriteStop.Failed → Rose (W.faults sink.old) (W.faults sink.new) }
+    ensures later { W.faults sink.old ≤ W.faults sink.new }
+{
+    let shapes = all_shapes::<G, T, H>(rt, alloc, n, workers, gate)?;
+    write_texts(rt, alloc, head, texts, &shapes, workers, gate, sink)
+}
