@@ -1,6 +1,6 @@
 //! Workers that claim the numbers of a stored job, each number once, and answer them.
 //!
-//! This is the only crate that starts threads for the program, and nothing in it waits. Each worker draws the next
+//! Nothing in it waits. Beside it `heesch_merge` and `heesch_rup` alone start threads for the program, by `join` and by rayon. Each worker draws the next
 //! number as soon as it is free, and the answers come out in the order of their numbers, whatever the schedule.
 #![tactic(auto)]
 
