@@ -54,7 +54,7 @@ literal_step b c cs bytes rest true h e f =
     cc
 literal_step b c cs bytes rest false h e f = absurd cc
 
-literal_takes : (word bytes rest : List ℕ) → literal_at word bytes ≡ Some rest → bytes ≡ word ++ rest
+pub literal_takes : (word bytes rest : List ℕ) → literal_at word bytes ≡ Some rest → bytes ≡ word ++ rest
 literal_takes [] bytes rest e = cc
 literal_takes (c ∷ cs) [] rest e = absurd cc
 literal_takes (c ∷ cs) (b ∷ bytes) rest e = literal_step b c cs bytes rest (eqb b c) refl e (literal_takes cs bytes rest)

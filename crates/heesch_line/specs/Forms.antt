@@ -1,5 +1,5 @@
 -- The forms of a line: the ranges of its numbers, and which of its lists have an item at least.
-use Rattle.std.specs.Prelude.{◌≡◌, ℕ, ◌<◌, ◌≤◌, ◌≢◌, ◌++◌, List, [], ℤ, pos, neg_ℤ, ◌≤ℤ◌}
+use Rattle.std.specs.Prelude.{◌≡◌, ◌⊎◌, ℕ, codes, ◌<◌, ◌≤◌, ◌≢◌, ◌++◌, List, [], ℤ, pos, neg_ℤ, ◌≤ℤ◌}
 use Rattle.std.specs.List.{AllByRecursion}
 use Rattle.heesch_grid.specs.declared.isometries.Iso.{Iso}
 use Rattle.heesch_grid.specs.Vectors.{IsWithin}
@@ -61,6 +61,12 @@ HasNoNewline bytes = AllByRecursion (λ b. b ≢ 10) bytes
 -- the word stands at the front of the bytes
 abbrev pub BeginsWith : List ℕ → List ℕ → Type 0
 BeginsWith word bytes = (rest : List ℕ) × (bytes ≡ word ++ rest)
+
+-- the bytes begin as a line with a list does
+abbrev pub BeginsAsList : List ℕ → Type 0
+BeginsAsList bytes =
+    BeginsWith (codes "shape ") bytes ⊎ BeginsWith (codes "layer") bytes ⊎ BeginsWith (codes "learn") bytes
+    ⊎ BeginsWith (codes "cut ") bytes ⊎ BeginsWith (codes "empty") bytes
 
 -- the line is that of a shape
 abbrev pub IsShape : Line → Type 0

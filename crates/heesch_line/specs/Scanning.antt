@@ -1,5 +1,5 @@
 -- One line of a list, as far as its bytes were read.
-use Rattle.std.specs.Prelude.{◌≡◌, ◌≢◌, ℕ, ◌≤◌, List, ◌++◌, length, take, codes, Bool, true, false}
+use Rattle.std.specs.Prelude.{◌≡◌, ◌≢◌, ℕ, ◌<◌, ◌≤◌, List, ◌++◌, length, take, codes, Bool, true, false}
 use Rattle.std.specs.List.{AllByRecursion, flat_map}
 use Rattle.heesch_grid.specs.declared.Cell.{Cell}
 use Rattle.heesch_text.specs.Fields.{cell_text, cells_text}
@@ -55,3 +55,8 @@ pub record IsLineOf (line : List ℕ) (first : List Cell) : Type 0 where
 -- the line is the text of no cells that a list may have
 abbrev pub IsNoLine : List ℕ → Type 0
 IsNoLine line = (cells : List Cell) → AreCells cells → line ≢ cells_text cells
+
+-- a further cell of the line would be kept: the line may be one of a list, and fewer than 33 cells are
+pub record NeedsRoom (s : Scanned) : Type 0 where
+  pub going : s.faulty ≡ false
+  pub few : length s.cells < 33

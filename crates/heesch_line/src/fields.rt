@@ -1,5 +1,5 @@
 //! The fields of a line, read from the front of a text.
-ghost use Rattle.std.specs.Prelude.{◌≡◌, ◌≤◌, ℕ, List, length, slice_index, drop, MatchOption, None, Some};
+ghost use Rattle.std.specs.Prelude.{◌≡◌, ◌≤◌, ℕ, List, length, slice_index, drop, MatchOption, None, Some, IfErr};
 ghost use Rattle.std.specs.List.{AllPass};
 ghost use Rattle.std.specs.Char.{is_ascii_digit};
 ghost use Rattle.std.specs.Str.Parse.{digits_value};
@@ -30,7 +30,8 @@ pub fn after<'a>(word: &[u8], bytes: &'a [u8]) -> Option<&'a [u8]>
 
 /// The bytes behind a word.
 pub fn literal<'a>(word: &[u8], bytes: &'a [u8]) -> Result<&'a [u8], LineFault>
-    ensures { Gives (λ rest. rest.now) result (literal_at word.now bytes.now) }
+    ensures gives { Gives (λ rest. rest.now) result (literal_at word.now bytes.now) }
+    ensures err { IfErr result (λ e. e ≡ LineFault.NotALine) }
 {
     match after(word, bytes) {
         Some(rest) => Ok(rest),
@@ -69,7 +70,8 @@ fn value_of(digits: &[u8]) -> u64
 /// A natural number, in decimal digits with no 0 before others.
 #[tactic(auto, unfolding(crate::specs::Reading::number_at))]
 pub fn number(bytes: &[u8]) -> Result<(u32, &[u8]), LineFault>
-    ensures { Gives (λ x. (x.0, x.1.now)) result (number_at bytes.now) }
+    ensures gives { Gives (λ x. (x.0, x.1.now)) result (number_at bytes.now) }
+    ensures err { IfErr result (λ e. e ≡ LineFault.NotALine) }
 {
     let (digits, rest) = bytes.split_at(count_digits(bytes));
     if digits.is_empty() || digits.len() > MOST_DIGITS {
@@ -87,7 +89,8 @@ pub fn number(bytes: &[u8]) -> Result<(u32, &[u8]), LineFault>
 
 /// A natural number behind a word.
 pub fn labelled<'a>(word: &[u8], bytes: &'a [u8]) -> Result<(u32, &'a [u8]), LineFault>
-    ensures { Gives (λ x. (x.0, x.1.now)) result (labelled_at word.now bytes.now) }
+    ensures gives { Gives (λ x. (x.0, x.1.now)) result (labelled_at word.now bytes.now) }
+    ensures err { IfErr result (λ e. e ≡ LineFault.NotALine) }
 {
     let rest = literal(word, bytes)?;
     number(rest)
@@ -103,7 +106,8 @@ fn begins_with_minus(bytes: &[u8]) -> bool
 /// An integer within 100,000 of 0.
 #[tactic(auto, unfolding(crate::specs::Reading::integer_at))]
 pub fn integer(bytes: &[u8]) -> Result<(i32, &[u8]), LineFault>
-    ensures { Gives (λ x. (x.0, x.1.now)) result (integer_at bytes.now) }
+    ensures gives { Gives (λ x. (x.0, x.1.now)) result (integer_at bytes.now) }
+    ensures err { IfErr result (λ e. e ≡ LineFault.NotALine) }
 {
     if begins_with_minus(bytes) {
         let (number, rest) = number(&bytes[1..])?;
@@ -122,7 +126,8 @@ pub fn integer(bytes: &[u8]) -> Result<(i32, &[u8]), LineFault>
 /// A cell as `A,B`.
 #[tactic(auto, unfolding(crate::specs::Reading::cell_at))]
 pub fn cell(bytes: &[u8]) -> Result<(Cell, &[u8]), LineFault>
-    ensures { Gives (λ x. (x.0, x.1.now)) result (cell_at bytes.now) }
+    ensures gives { Gives (λ x. (x.0, x.1.now)) result (cell_at bytes.now) }
+    ensures err { IfErr result (λ e. e ≡ LineFault.NotALine) }
 {
     let (a, rest) = integer(bytes)?;
     let rest = literal(b",", rest)?;
@@ -133,7 +138,8 @@ pub fn cell(bytes: &[u8]) -> Result<(Cell, &[u8]), LineFault>
 /// An isometry as `TURN DA DB`, with this byte in place of the spaces.
 #[tactic(auto, unfolding(crate::specs::Reading::iso_at))]
 pub fn iso(between: u8, bytes: &[u8]) -> Result<(Iso, &[u8]), LineFault>
-    ensures { Gives (λ x. (x.0, x.1.now)) result (iso_at between bytes.now) }
+    ensures gives { Gives (λ x. (x.0, x.1.now)) result (iso_at between bytes.now) }
+    ensures err { IfErr result (λ e. e ≡ LineFault.NotALine) }
 {
     let (turn, rest) = number(bytes)?;
     let rest = literal(&[between], rest)?;
@@ -149,7 +155,8 @@ pub fn iso(between: u8, bytes: &[u8]) -> Result<(Iso, &[u8]), LineFault>
 /// A literal as the number of its variable, with `-` before it where it is negative.
 #[tactic(auto, unfolding(crate::specs::Reading::lit_at))]
 pub fn lit(bytes: &[u8]) -> Result<(Lit, &[u8]), LineFault>
-    ensures { Gives (λ x. (x.0, x.1.now)) result (lit_at bytes.now) }
+    ensures gives { Gives (λ x. (x.0, x.1.now)) result (lit_at bytes.now) }
+    ensures err { IfErr result (λ e. e ≡ LineFault.NotALine) }
 {
     let positive = !begins_with_minus(bytes);
     let digits = if positive { bytes } else { &bytes[1..] };
@@ -163,7 +170,8 @@ pub fn lit(bytes: &[u8]) -> Result<(Lit, &[u8]), LineFault>
 /// Three natural numbers as `P Q S`.
 #[tactic(auto, unfolding(crate::specs::Reading::three_numbers_at))]
 pub fn three_numbers(bytes: &[u8]) -> Result<((u32, u32, u32), &[u8]), LineFault>
-    ensures { Gives (λ x. (x.0, x.1.now)) result (three_numbers_at bytes.now) }
+    ensures gives { Gives (λ x. (x.0, x.1.now)) result (three_numbers_at bytes.now) }
+    ensures err { IfErr result (λ e. e ≡ LineFault.NotALine) }
 {
     let (p, rest) = number(bytes)?;
     let rest = literal(b" ", rest)?;
@@ -175,7 +183,8 @@ pub fn three_numbers(bytes: &[u8]) -> Result<((u32, u32, u32), &[u8]), LineFault
 
 /// The triple of these numbers.
 pub fn triple_of(p: u32, q: u32, s: u32) -> Result<Triple, LineFault>
-    ensures { Gives (λ t. t) result (triple_of p q s) }
+    ensures gives { Gives (λ t. t) result (triple_of p q s) }
+    ensures err { IfErr result (λ e. e ≡ LineFault.NotALine) }
 {
     match Triple::new(p, q, s) {
         Some(triple) => Ok(triple),
@@ -186,7 +195,8 @@ pub fn triple_of(p: u32, q: u32, s: u32) -> Result<Triple, LineFault>
 /// The four limits, each behind its name, under a version.
 #[tactic(auto, unfolding(crate::specs::Reading::limits_at))]
 pub fn limits(version: Version, bytes: &[u8]) -> Result<(Limits, &[u8]), LineFault>
-    ensures { Gives (λ x. (x.0, x.1.now)) result (limits_at version bytes.now) }
+    ensures gives { Gives (λ x. (x.0, x.1.now)) result (limits_at version bytes.now) }
+    ensures err { IfErr result (λ e. e ≡ LineFault.NotALine) }
 {
     let (turns, rest) = labelled(b" turns ", bytes)?;
     let (levels, rest) = labelled(b" levels ", rest)?;

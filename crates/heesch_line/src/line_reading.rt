@@ -1,9 +1,9 @@
 //! The lines of a catalogue, read from their bytes.
-ghost use Rattle.std.specs.Prelude.{◌≡◌, ◌≢◌, ℕ, List, IfOk, Err};
+ghost use Rattle.std.specs.Prelude.{◌≡◌, ◌≢◌, ℕ, List, IfOk, IfErr, Err};
 ghost use Rattle.heesch_text.specs.declared.line.Line.{Line};
 ghost use Rattle.heesch_text.specs.Lines.{words_of};
 ghost use Rattle.heesch_line.specs.declared.fault.LineFault.TheVariants as faults;
-ghost use Rattle.heesch_line.specs.Forms.{IsLine};
+ghost use Rattle.heesch_line.specs.Forms.{IsLine, BeginsAsList};
 ghost use Rattle.heesch_line.specs.Reading.{Gives};
 ghost use Rattle.heesch_line.specs.LineReading.{header_at, shape_at, tiles_at, heesch_at, stop_at, verdict_at};
 ghost use Rattle.heesch_line.specs.LineReading.{verdict_line_at, end_at, lattice_at, tile_at, coronas_at, layer_at};
@@ -22,7 +22,8 @@ use std::alloc::Global;
 
 #[tactic(auto, unfolding(crate::specs::LineReading::header_at))]
 fn header(brief: bool, bytes: &[u8]) -> Result<(Line, &[u8]), LineFault>
-    ensures { Gives (λ x. (x.0, x.1.now)) result (header_at brief bytes.now) }
+    ensures gives { Gives (λ x. (x.0, x.1.now)) result (header_at brief bytes.now) }
+    ensures err { IfErr result (λ e. e ≡ LineFault.NotALine) }
 {
     let (version, rest) = version(bytes)?;
     let (grid, rest) = grid(rest)?;
@@ -48,7 +49,8 @@ fn shape(alloc: Global, bytes: &[u8]) -> Result<(Line, &[u8]), LineFault>
 
 #[tactic(auto, unfolding(crate::specs::LineReading::tiles_at))]
 fn tiles(bytes: &[u8]) -> Result<(Verdict, &[u8]), LineFault>
-    ensures { Gives (λ x. (x.0, x.1.now)) result (tiles_at bytes.now) }
+    ensures gives { Gives (λ x. (x.0, x.1.now)) result (tiles_at bytes.now) }
+    ensures err { IfErr result (λ e. e ≡ LineFault.NotALine) }
 {
     let (kind, rest) = kind(bytes)?;
     let (domain, rest) = labelled(b" domain ", rest)?;
@@ -65,7 +67,8 @@ fn tiles(bytes: &[u8]) -> Result<(Verdict, &[u8]), LineFault>
 
 #[tactic(auto, unfolding(crate::specs::LineReading::heesch_at))]
 fn heesch(bytes: &[u8]) -> Result<(Verdict, &[u8]), LineFault>
-    ensures { Gives (λ x. (x.0, x.1.now)) result (heesch_at bytes.now) }
+    ensures gives { Gives (λ x. (x.0, x.1.now)) result (heesch_at bytes.now) }
+    ensures err { IfErr result (λ e. e ≡ LineFault.NotALine) }
 {
     let (h, rest) = number(bytes)?;
     let (m, rest) = labelled(b" nontiler ", rest)?;
@@ -75,7 +78,8 @@ fn heesch(bytes: &[u8]) -> Result<(Verdict, &[u8]), LineFault>
 /// Where a search stopped.
 #[tactic(auto, unfolding(crate::specs::LineReading::stop_at))]
 fn stop(bytes: &[u8]) -> Result<((u32, Phase, u32), &[u8]), LineFault>
-    ensures { Gives (λ x. (x.0, x.1.now)) result (stop_at bytes.now) }
+    ensures gives { Gives (λ x. (x.0, x.1.now)) result (stop_at bytes.now) }
+    ensures err { IfErr result (λ e. e ≡ LineFault.NotALine) }
 {
     let (h, rest) = number(bytes)?;
     let rest = literal(b" ", rest)?;
@@ -86,7 +90,8 @@ fn stop(bytes: &[u8]) -> Result<((u32, Phase, u32), &[u8]), LineFault>
 
 #[tactic(auto, unfolding(crate::specs::LineReading::verdict_at))]
 fn verdict(bytes: &[u8]) -> Result<(Verdict, &[u8]), LineFault>
-    ensures { Gives (λ x. (x.0, x.1.now)) result (verdict_at bytes.now) }
+    ensures gives { Gives (λ x. (x.0, x.1.now)) result (verdict_at bytes.now) }
+    ensures err { IfErr result (λ e. e ≡ LineFault.NotALine) }
 {
     if let Some(rest) = after(b"tiles ", bytes) {
         return tiles(rest);
@@ -113,7 +118,8 @@ fn verdict(bytes: &[u8]) -> Result<(Verdict, &[u8]), LineFault>
 
 #[tactic(auto, unfolding(crate::specs::LineReading::verdict_line_at))]
 fn verdict_line(bytes: &[u8]) -> Result<(Line, &[u8]), LineFault>
-    ensures { Gives (λ x. (x.0, x.1.now)) result (verdict_line_at bytes.now) }
+    ensures gives { Gives (λ x. (x.0, x.1.now)) result (verdict_line_at bytes.now) }
+    ensures err { IfErr result (λ e. e ≡ LineFault.NotALine) }
 {
     let (verdict, rest) = verdict(bytes)?;
     Ok((Line::Verdict { verdict }, rest))
@@ -121,7 +127,8 @@ fn verdict_line(bytes: &[u8]) -> Result<(Line, &[u8]), LineFault>
 
 #[tactic(auto, unfolding(crate::specs::LineReading::end_at))]
 fn end(bytes: &[u8]) -> Result<(Line, &[u8]), LineFault>
-    ensures { Gives (λ x. (x.0, x.1.now)) result (end_at bytes.now) }
+    ensures gives { Gives (λ x. (x.0, x.1.now)) result (end_at bytes.now) }
+    ensures err { IfErr result (λ e. e ≡ LineFault.NotALine) }
 {
     let (count, rest) = number(bytes)?;
     Ok((Line::End { count }, rest))
@@ -129,7 +136,8 @@ fn end(bytes: &[u8]) -> Result<(Line, &[u8]), LineFault>
 
 #[tactic(auto, unfolding(crate::specs::LineReading::lattice_at))]
 fn lattice(bytes: &[u8]) -> Result<(Line, &[u8]), LineFault>
-    ensures { Gives (λ x. (x.0, x.1.now)) result (lattice_at bytes.now) }
+    ensures gives { Gives (λ x. (x.0, x.1.now)) result (lattice_at bytes.now) }
+    ensures err { IfErr result (λ e. e ≡ LineFault.NotALine) }
 {
     let ((p, q, s), rest) = three_numbers(bytes)?;
     let triple = triple_of(p, q, s)?;
@@ -138,7 +146,8 @@ fn lattice(bytes: &[u8]) -> Result<(Line, &[u8]), LineFault>
 
 #[tactic(auto, unfolding(crate::specs::LineReading::tile_at))]
 fn tile(bytes: &[u8]) -> Result<(Line, &[u8]), LineFault>
-    ensures { Gives (λ x. (x.0, x.1.now)) result (tile_at bytes.now) }
+    ensures gives { Gives (λ x. (x.0, x.1.now)) result (tile_at bytes.now) }
+    ensures err { IfErr result (λ e. e ≡ LineFault.NotALine) }
 {
     let (place, rest) = iso(b' ', bytes)?;
     let (class, rest) = labelled(b" class ", rest)?;
@@ -150,7 +159,8 @@ fn tile(bytes: &[u8]) -> Result<(Line, &[u8]), LineFault>
 
 #[tactic(auto, unfolding(crate::specs::LineReading::coronas_at))]
 fn coronas(bytes: &[u8]) -> Result<(Line, &[u8]), LineFault>
-    ensures { Gives (λ x. (x.0, x.1.now)) result (coronas_at bytes.now) }
+    ensures gives { Gives (λ x. (x.0, x.1.now)) result (coronas_at bytes.now) }
+    ensures err { IfErr result (λ e. e ≡ LineFault.NotALine) }
 {
     let (count, rest) = number(bytes)?;
     Ok((Line::Coronas { count }, rest))
@@ -166,7 +176,8 @@ fn layer(alloc: Global, bytes: &[u8]) -> Result<(Line, &[u8]), LineFault>
 
 #[tactic(auto, unfolding(crate::specs::LineReading::open_at))]
 fn open(bytes: &[u8]) -> Result<(Line, &[u8]), LineFault>
-    ensures { Gives (λ x. (x.0, x.1.now)) result (open_at bytes.now) }
+    ensures gives { Gives (λ x. (x.0, x.1.now)) result (open_at bytes.now) }
+    ensures err { IfErr result (λ e. e ≡ LineFault.NotALine) }
 {
     let (count, rest) = number(bytes)?;
     Ok((Line::Open { count }, rest))
@@ -174,7 +185,8 @@ fn open(bytes: &[u8]) -> Result<(Line, &[u8]), LineFault>
 
 #[tactic(auto, unfolding(crate::specs::LineReading::wall_at))]
 fn wall(bytes: &[u8]) -> Result<(Line, &[u8]), LineFault>
-    ensures { Gives (λ x. (x.0, x.1.now)) result (wall_at bytes.now) }
+    ensures gives { Gives (λ x. (x.0, x.1.now)) result (wall_at bytes.now) }
+    ensures err { IfErr result (λ e. e ≡ LineFault.NotALine) }
 {
     let (level, rest) = number(bytes)?;
     let rest = literal(b" ", rest)?;
@@ -184,7 +196,8 @@ fn wall(bytes: &[u8]) -> Result<(Line, &[u8]), LineFault>
 
 #[tactic(auto, unfolding(crate::specs::LineReading::bare_at))]
 fn bare(bytes: &[u8]) -> Result<(Line, &[u8]), LineFault>
-    ensures { Gives (λ x. (x.0, x.1.now)) result (bare_at bytes.now) }
+    ensures gives { Gives (λ x. (x.0, x.1.now)) result (bare_at bytes.now) }
+    ensures err { IfErr result (λ e. e ≡ LineFault.NotALine) }
 {
     let (level, rest) = number(bytes)?;
     let rest = literal(b" ", rest)?;
@@ -194,7 +207,8 @@ fn bare(bytes: &[u8]) -> Result<(Line, &[u8]), LineFault>
 
 #[tactic(auto, unfolding(crate::specs::LineReading::triple_line_at))]
 fn triple_line(bytes: &[u8]) -> Result<(Line, &[u8]), LineFault>
-    ensures { Gives (λ x. (x.0, x.1.now)) result (triple_line_at bytes.now) }
+    ensures gives { Gives (λ x. (x.0, x.1.now)) result (triple_line_at bytes.now) }
+    ensures err { IfErr result (λ e. e ≡ LineFault.NotALine) }
 {
     let ((p, q, s), rest) = three_numbers(bytes)?;
     let triple = triple_of(p, q, s)?;
@@ -254,7 +268,8 @@ fn empty(alloc: Global, bytes: &[u8]) -> Result<(Line, &[u8]), LineFault>
 
 #[tactic(auto, unfolding(crate::specs::LineReading::search_line_at))]
 fn search_line(alloc: Global, bytes: &[u8]) -> Result<(Line, &[u8]), LineFault>
-    ensures { Gives (λ x. (x.0, x.1.now)) result (search_line_at bytes.now) }
+    ensures gives { Gives (λ x. (x.0, x.1.now)) result (search_line_at bytes.now) }
+    ensures memory { result ≡ Err faults.NoMemory → BeginsAsList bytes.now }
 {
     if let Some(rest) = after(b"learn", bytes) {
         return learn(alloc, rest);
@@ -280,7 +295,8 @@ fn search_line(alloc: Global, bytes: &[u8]) -> Result<(Line, &[u8]), LineFault>
 
 #[tactic(auto, unfolding(crate::specs::LineReading::cover_line_at))]
 fn cover_line(alloc: Global, bytes: &[u8]) -> Result<(Line, &[u8]), LineFault>
-    ensures { Gives (λ x. (x.0, x.1.now)) result (cover_line_at bytes.now) }
+    ensures gives { Gives (λ x. (x.0, x.1.now)) result (cover_line_at bytes.now) }
+    ensures memory { result ≡ Err faults.NoMemory → BeginsAsList bytes.now }
 {
     if let Some(rest) = after(b"layer", bytes) {
         return layer(alloc, rest);
@@ -302,7 +318,8 @@ fn cover_line(alloc: Global, bytes: &[u8]) -> Result<(Line, &[u8]), LineFault>
 
 #[tactic(auto, unfolding(crate::specs::LineReading::front_line_at))]
 fn front_line(alloc: Global, bytes: &[u8]) -> Result<(Line, &[u8]), LineFault>
-    ensures { Gives (λ x. (x.0, x.1.now)) result (front_line_at bytes.now) }
+    ensures gives { Gives (λ x. (x.0, x.1.now)) result (front_line_at bytes.now) }
+    ensures memory { result ≡ Err faults.NoMemory → BeginsAsList bytes.now }
 {
     if let Some(rest) = after(b"shape ", bytes) {
         return shape(alloc, rest);
@@ -325,7 +342,8 @@ fn front_line(alloc: Global, bytes: &[u8]) -> Result<(Line, &[u8]), LineFault>
 /// The line that all of the bytes are.
 #[tactic(auto, unfolding(crate::specs::LineReading::line_at))]
 fn whole_line(alloc: Global, bytes: &[u8]) -> Result<Line, LineFault>
-    ensures { Gives (λ line. line) result (line_at bytes.now) }
+    ensures gives { Gives (λ line. line) result (line_at bytes.now) }
+    ensures memory { result ≡ Err faults.NoMemory → BeginsAsList bytes.now }
 {
     let (line, rest) = front_line(alloc, bytes)?;
     if !rest.is_empty() {
@@ -338,11 +356,12 @@ fn whole_line(alloc: Global, bytes: &[u8]) -> Result<Line, LineFault>
 ///
 /// `NotALine` comes exactly where they are no line in any of the forms: a word is missing, unknown or one too many, words
 /// aren't separated by single spaces, a number has a leading zero, doesn't fit 32 bits or is out of its range, or a list
-/// lacks its first item. `NoMemory` may come for a line with a list. The bytes are read once, and memory is taken for the
-/// lists of the line alone.
+/// lacks its first item. `NoMemory` comes only for bytes that begin as a line with a list does. The bytes are read once, and
+/// memory is taken for the lists of the line alone.
 pub fn read_line(alloc: Global, bytes: &[u8]) -> Result<Line, LineFault>
     ensures ok { IfOk result (λ line. IsLine line × (words_of line ≡ bytes.now)) }
     ensures not_a_line { result ≡ Err faults.NotALine → (line : Line) → IsLine line → words_of line ≢ bytes.now }
+    ensures memory { result ≡ Err faults.NoMemory → BeginsAsList bytes.now }
 {
     whole_line(alloc, bytes)
 }

@@ -1,8 +1,8 @@
 //! One line of the text of a list, read byte by byte.
-ghost use Rattle.std.specs.Prelude.{◌≡◌, ◌≢◌, ◌↔◌, ℕ, List, [], ◌∷◌, ◌++◌, false, Err, IsErr, IfOk, IsTrue};
+ghost use Rattle.std.specs.Prelude.{◌≡◌, ◌≢◌, ◌↔◌, ℕ, List, [], ◌∷◌, ◌++◌, ◌<◌, length, false, Err, IsErr, IfOk, IfErr, IsTrue};
 ghost use Rattle.heesch_grid.specs.Vectors.{IsWithin};
 ghost use Rattle.heesch_grid.specs.declared.Cell.{Cell as CellOf};
-ghost use Rattle.heesch_line.specs.Scanning.{IsScanned, IsLineOf, IsNoLine, first_of};
+ghost use Rattle.heesch_line.specs.Scanning.{IsScanned, IsLineOf, IsNoLine, NeedsRoom, first_of};
 ghost use Rattle.heesch_text.specs.Fields.{cell_text};
 
 use crate::LineFault;
@@ -39,6 +39,7 @@ impl Model for ListLine {
 fn whole_cell(bytes: &[u8]) -> Result<Cell, LineFault>
     ensures ok { IfOk result (λ c. IsWithin 100000 c × (bytes.now ≡ cell_text c)) }
     ensures none { result ≡ Err LineFault.NotALine → (c : CellOf) → IsWithin 100000 c → bytes.now ≢ cell_text c }
+    ensures err { IfErr result (λ e. e ≡ LineFault.NotALine) }
 {
     match cell(bytes) {
         Ok((cell, rest)) => {
@@ -56,6 +57,7 @@ fn whole_cell(bytes: &[u8]) -> Result<Cell, LineFault>
 fn keep(cells: &mut Cells, cell: Cell) -> Result<(), NoMemory>
     ensures kept { (all : List CellOf) → cells.old ≡ first_of all → IfOk result (λ _. cells.new ≡ first_of (all ++ cell ∷ [])) }
     ensures same { IsErr result → cells.new ≡ cells.old }
+    ensures room { IsErr result → length cells.old < 33 }
 {
     if cells.len() >= CELLS_MAX {
         return Ok(());
@@ -89,10 +91,11 @@ impl ListLine {
         !self.word.is_empty()
     }
 
-    /// Reads one more byte of the line. At want of memory nothing has changed.
+    /// Reads one more byte of the line. At want of memory nothing has changed; a line that is known to be none takes none.
     pub fn take(&mut self, byte: u8) -> Result<(), NoMemory>
         ensures taken { (line : List ℕ) → IsScanned line self.old → IfOk result (λ _. IsScanned (line ++ byte ∷ []) self.new) }
         ensures kept { IsErr result → self.new ≡ self.old }
+        ensures memory { IsErr result → self.old.faulty ≡ false }
     {
         if self.faulty {
             return Ok(());
@@ -130,10 +133,12 @@ impl ListLine {
 
     /// The first 33 cells of the line, which has all its bytes; a line without a byte has none.
     ///
-    /// `NotALine` comes exactly where the line isn't cells with single spaces between them.
+    /// `NotALine` comes exactly where the line isn't cells with single spaces between them. Memory is taken for the last cell
+    /// alone, where fewer than 33 are kept.
     pub fn finish(self) -> Result<Cells, LineFault>
         ensures ok { (line : List ℕ) → IsScanned line self → IfOk result (IsLineOf line) }
         ensures none { (line : List ℕ) → IsScanned line self → result ≡ Err LineFault.NotALine → IsNoLine line }
+        ensures memory { result ≡ Err LineFault.NoMemory → NeedsRoom self }
     {
         let begun = self.has_begun();
         let ListLine {

@@ -1,5 +1,5 @@
 //! The words that name a grid, a subject, the kind of a tiling and the end of a search, read from the front of a text.
-ghost use Rattle.std.specs.Prelude.{◌≡◌, ℕ, List};
+ghost use Rattle.std.specs.Prelude.{◌≡◌, ℕ, List, IfErr};
 ghost use Rattle.heesch_line.specs.Reading.{Gives, version_at, grid_at, kind_at, phase_at, outcome_at, bare_outcome_at, subject_at};
 
 use crate::LineFault;
@@ -12,7 +12,8 @@ use heesch_text::{BareOutcome, Outcome};
 /// A grid by its name.
 #[tactic(auto, unfolding(crate::specs::Reading::grid_at))]
 pub fn grid(bytes: &[u8]) -> Result<(GridName, &[u8]), LineFault>
-    ensures { Gives (λ x. (x.0, x.1.now)) result (grid_at bytes.now) }
+    ensures gives { Gives (λ x. (x.0, x.1.now)) result (grid_at bytes.now) }
+    ensures err { IfErr result (λ e. e ≡ LineFault.NotALine) }
 {
     if let Some(rest) = after(b"square", bytes) {
         return Ok((GridName::Square, rest));
@@ -30,7 +31,8 @@ pub fn grid(bytes: &[u8]) -> Result<(GridName, &[u8]), LineFault>
 /// The kind of a tiling.
 #[tactic(auto, unfolding(crate::specs::Reading::kind_at))]
 pub fn kind(bytes: &[u8]) -> Result<(Kind, &[u8]), LineFault>
-    ensures { Gives (λ x. (x.0, x.1.now)) result (kind_at bytes.now) }
+    ensures gives { Gives (λ x. (x.0, x.1.now)) result (kind_at bytes.now) }
+    ensures err { IfErr result (λ e. e ≡ LineFault.NotALine) }
 {
     if let Some(rest) = after(b"translation", bytes) {
         return Ok((Kind::Translation, rest));
@@ -45,7 +47,8 @@ pub fn kind(bytes: &[u8]) -> Result<(Kind, &[u8]), LineFault>
 /// The search that met a limit.
 #[tactic(auto, unfolding(crate::specs::Reading::phase_at))]
 pub fn phase(bytes: &[u8]) -> Result<(Phase, &[u8]), LineFault>
-    ensures { Gives (λ x. (x.0, x.1.now)) result (phase_at bytes.now) }
+    ensures gives { Gives (λ x. (x.0, x.1.now)) result (phase_at bytes.now) }
+    ensures err { IfErr result (λ e. e ≡ LineFault.NotALine) }
 {
     if let Some(rest) = after(b"free", bytes) {
         return Ok((Phase::Free, rest));
@@ -57,7 +60,8 @@ pub fn phase(bytes: &[u8]) -> Result<(Phase, &[u8]), LineFault>
 /// How a search ended.
 #[tactic(auto, unfolding(crate::specs::Reading::outcome_at))]
 pub fn outcome(bytes: &[u8]) -> Result<(Outcome, &[u8]), LineFault>
-    ensures { Gives (λ x. (x.0, x.1.now)) result (outcome_at bytes.now) }
+    ensures gives { Gives (λ x. (x.0, x.1.now)) result (outcome_at bytes.now) }
+    ensures err { IfErr result (λ e. e ≡ LineFault.NotALine) }
 {
     if let Some(rest) = after(b"refuted", bytes) {
         return Ok((Outcome::Refuted, rest));
@@ -72,7 +76,8 @@ pub fn outcome(bytes: &[u8]) -> Result<(Outcome, &[u8]), LineFault>
 /// How a search with holes allowed ended.
 #[tactic(auto, unfolding(crate::specs::Reading::bare_outcome_at))]
 pub fn bare_outcome(bytes: &[u8]) -> Result<(BareOutcome, &[u8]), LineFault>
-    ensures { Gives (λ x. (x.0, x.1.now)) result (bare_outcome_at bytes.now) }
+    ensures gives { Gives (λ x. (x.0, x.1.now)) result (bare_outcome_at bytes.now) }
+    ensures err { IfErr result (λ e. e ≡ LineFault.NotALine) }
 {
     if let Some(rest) = after(b"same", bytes) {
         return Ok((BareOutcome::Same, rest));
@@ -87,7 +92,8 @@ pub fn bare_outcome(bytes: &[u8]) -> Result<(BareOutcome, &[u8]), LineFault>
 /// The number of a version, between spaces.
 #[tactic(auto, unfolding(crate::specs::Reading::version_at))]
 pub fn version(bytes: &[u8]) -> Result<(Version, &[u8]), LineFault>
-    ensures { Gives (λ x. (x.0, x.1.now)) result (version_at bytes.now) }
+    ensures gives { Gives (λ x. (x.0, x.1.now)) result (version_at bytes.now) }
+    ensures err { IfErr result (λ e. e ≡ LineFault.NotALine) }
 {
     if let Some(rest) = after(b" 1 ", bytes) {
         return Ok((Version::One, rest));
@@ -103,7 +109,8 @@ pub fn subject(
     grid: GridName,
     bytes: &[u8],
 ) -> Result<(Subject, &[u8]), LineFault>
-    ensures { Gives (λ x. (x.0, x.1.now)) result (subject_at version grid bytes.now) }
+    ensures gives { Gives (λ x. (x.0, x.1.now)) result (subject_at version grid bytes.now) }
+    ensures err { IfErr result (λ e. e ≡ LineFault.NotALine) }
 {
     if let Some(rest) = after(b"given", bytes) {
         if !has_grid(version, grid) {

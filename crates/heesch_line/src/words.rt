@@ -1,5 +1,5 @@
 //! The lists of a line, read from the front of a text.
-ghost use Rattle.std.specs.Prelude.{◌≡◌, ◌≤◌, ℕ, List, [], length, drop, Option, IsTrue};
+ghost use Rattle.std.specs.Prelude.{◌≡◌, ◌≤◌, ℕ, List, [], length, drop, Option, IsTrue, IfErr};
 ghost use Rattle.heesch_line.specs.Reading.{Gives, number_at, cell_at, iso_at, lit_at, has_word, more_words_at, some_words_at, cells_at};
 
 use crate::LineFault;
@@ -15,7 +15,8 @@ pub trait Word: Copy + Drop {
     ghost read: { List ℕ → Option (Self × List ℕ) };
 
     fn read_word(bytes: &[u8]) -> Result<(Self, &[u8]), LineFault>
-        ensures { Gives (λ x. (x.0, x.1.now)) result (read bytes.now) };
+        ensures gives { Gives (λ x. (x.0, x.1.now)) result (read bytes.now) }
+        ensures err { IfErr result (λ e. e ≡ LineFault.NotALine) };
 }
 
 /// A natural number.

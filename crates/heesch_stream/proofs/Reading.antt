@@ -246,9 +246,10 @@ finish_refuses old new items after (reader_stops.NotText line part) e f = λ bef
 finish_refuses old new items after reader_stops.NoMemory e f = λ before end. starved_end old new items after before e f end
 
 -- one byte more than may be read
-pub too_long : (before now : Option (List ℕ)) (old new : Streamed) (items : List Item) (byte : ℕ) → new.kept ≡ old.kept → Consumes before now (byte ∷ []) → old.count ≡ 1099511627776 → TellsTooLong before old new items items old.line
+pub too_long : (before now : Option (List ℕ)) (old new : Streamed) (items : List Item) (byte : ℕ) → new ≡ old → Consumes before now (byte ∷ []) → old.count ≡ 1099511627776 → TellsTooLong before old new items items old.line
 too_long before now old new items byte same c count = record {
   after_is = refl;
+  same = same;
   too_many = λ first found h. (
     record {
       input = (h.bytes ++ byte ∷ []) ++ unread now;
@@ -261,7 +262,7 @@ too_long before now old new items byte same c count = record {
       begins = h.begins;
       line_is = h.line_is;
     },
-    same ∙ h.kept_is,
+    ap (λ (s : Streamed). s.kept) same ∙ h.kept_is,
   );
 }
 

@@ -122,6 +122,7 @@ pub record HasTooMany (first : Option (List ℕ)) (all : List Item) (line : ℕ)
 -- the input is too long, nothing was appended, and the stream keeps what it did
 pub record TellsTooLong (before : Option (List ℕ)) (old new : Streamed) (items after : List Item) (line : ℕ) : Type 0 where
   pub after_is : after ≡ items
+  pub same : new ≡ old
   pub too_many : (first : Option (List ℕ)) (found : List Item) → HasRead first before found old → (t : HasTooMany first found line) × (new.kept ≡ kept_behind t.front found t.begins)
 
 -- the source failed: no byte was read, nothing was appended, and the stream keeps what it did

@@ -10,11 +10,11 @@ returns-then-not-has_word g c =
 pub returns-in_err-item : goal.returns-in_err-item
 returns-in_err-item g c =
     let p = err_from_is_err_and c.from_residual.result c.from_residual.ensures.1 in
-    rw (p.1, p.2) (fails g.W.Word.read c.in_err-item.field-0.0 c.loop.items (length c.args.bytes.now) c.loop.counter c.loop.rest.now _ c.loop-test.true (sym c.if-not-has_word.ensures.value) (rw c.without_first.ensures at c.in_err-item.ensures) c.loop.invariant)
+    rw (p.1, p.2) (fails g.W.Word.read c.in_err-item.field-0.0 c.loop.items (length c.args.bytes.now) c.loop.counter c.loop.rest.now _ c.loop-test.true (sym c.if-not-has_word.ensures.value) (rw c.without_first.ensures at c.in_err-item.ensures.gives) c.loop.invariant)
 
 pub loop-preserved : goal.loop-preserved
 loop-preserved g c =
-    rw c.in_ok-push.ensures.ok (goes_on g.W.Word.read c.loop.items (length c.args.bytes.now) c.loop.counter c.loop.rest.now c.in_ok-item.item c.in_ok-item.after.now _ c.loop-test.true (sym c.if-not-has_word.ensures.value) (rw c.without_first.ensures at c.in_ok-item.ensures) c.loop.invariant)
+    rw c.in_ok-push.ensures.ok (goes_on g.W.Word.read c.loop.items (length c.args.bytes.now) c.loop.counter c.loop.rest.now c.in_ok-item.item c.in_ok-item.after.now _ c.loop-test.true (sym c.if-not-has_word.ensures.value) (rw c.without_first.ensures at c.in_ok-item.ensures.gives) c.loop.invariant)
 
 pub returns : goal.returns
 returns g c = ends g.W.Word.read c.loop.items (length c.args.bytes.now) c.loop.counter c.loop.rest.now _ c.loop-test.false c.loop.invariant
