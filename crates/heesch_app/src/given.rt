@@ -17,9 +17,9 @@ use crate::reply::put_reply;
 use heesch_catalogue::{WriteStop, write_catalogue};
 use heesch_cert::{Header, Limits};
 use heesch_given::{GivenStop, shapes_given};
-use heesch_grid::{Grid, GridName, Hex, Iamond, Square};
+use heesch_grid::{Grid, GridName};
 use heesch_io::{Sink, Source};
-use heesch_kite::Kite;
+use heesch_kite::on_grid;
 use heesch_outers::write_outers;
 use heesch_pool::Gate;
 use heesch_shape::Shape;
@@ -63,20 +63,7 @@ pub fn write_given_text<T: Threads + Sync, R: Source, W: Sink, H: Gate + Sync>(
     ensures unwritten { result ≡ Status.ReadFault → sink.new ≡ sink.old }
     ensures write_fault { result ≡ Status.WriteFault → Rose (W.faults sink.old) (W.faults sink.new) }
 {
-    match grid {
-        GridName::Square => {
-            write_given::<Square, T, R, W, H>(rt, alloc, text, workers, source, sink, gate)
-        }
-        GridName::Hex => {
-            write_given::<Hex, T, R, W, H>(rt, alloc, text, workers, source, sink, gate)
-        }
-        GridName::Iamond => {
-            write_given::<Iamond, T, R, W, H>(rt, alloc, text, workers, source, sink, gate)
-        }
-        GridName::Kite => {
-            write_given::<Kite, T, R, W, H>(rt, alloc, text, workers, source, sink, gate)
-        }
-    }
+    on_grid!(grid, write_given<T, R, W, H>(rt, alloc, text, workers, source, sink, gate))
 }
 
 fn write_given<G: Grid + Send + Sync, T: Threads + Sync, R: Source, W: Sink, H: Gate + Sync>(

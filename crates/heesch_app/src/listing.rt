@@ -4,9 +4,9 @@ ghost use Rattle.heesch_grid.specs.Names.{geometry_of};
 ghost use Rattle.heesch_text.specs.Shapes.{list_text};
 ghost use Rattle.heesch_app.specs.Outputs.{IsListing};
 
-use heesch_grid::{Grid, GridName, Hex, Iamond, Square};
+use heesch_grid::{Grid, GridName};
 use heesch_io::NoMemory;
-use heesch_kite::Kite;
+use heesch_kite::on_grid;
 use heesch_listing::all_shapes;
 use heesch_pool::Gate;
 use heesch_shape::Shape;
@@ -27,12 +27,7 @@ pub fn listing<T: Threads + Sync, H: Gate + Sync>(
     requires workers { (1 ≤ workers) × (workers ≤ 64) }
     ensures { IfOk result (λ text. IsListing (geometry_of grid) n text.items) }
 {
-    match grid {
-        GridName::Square => listing_of::<Square, T, H>(rt, alloc, n, workers, gate),
-        GridName::Hex => listing_of::<Hex, T, H>(rt, alloc, n, workers, gate),
-        GridName::Iamond => listing_of::<Iamond, T, H>(rt, alloc, n, workers, gate),
-        GridName::Kite => listing_of::<Kite, T, H>(rt, alloc, n, workers, gate),
-    }
+    on_grid!(grid, listing_of<T, H>(rt, alloc, n, workers, gate))
 }
 
 fn listing_of<G: Grid + Send + Sync, T: Threads + Sync, H: Gate + Sync>(

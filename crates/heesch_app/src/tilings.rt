@@ -7,9 +7,9 @@ ghost use Rattle.heesch_app.specs.Outputs.{IsPlainListing};
 ghost use Rattle.heesch_app.specs.Tilings.{ArePlain};
 
 use crate::plains::write_plain;
-use heesch_grid::{Grid, GridName, Hex, Iamond, Square};
+use heesch_grid::{Grid, GridName};
 use heesch_io::NoMemory;
-use heesch_kite::Kite;
+use heesch_kite::on_grid;
 use heesch_listing::all_shapes;
 use heesch_pool::{Answer, Gate, Job, run_all};
 use heesch_shape::Shape;
@@ -31,12 +31,7 @@ pub fn plain_listing<T: Threads + Sync, H: Gate + Sync>(
     requires workers { (1 ≤ workers) × (workers ≤ 64) }
     ensures { IfOk result (λ text. IsPlainListing (geometry_of grid) n text.items) }
 {
-    match grid {
-        GridName::Square => plain_listing_of::<Square, T, H>(rt, alloc, n, workers, gate),
-        GridName::Hex => plain_listing_of::<Hex, T, H>(rt, alloc, n, workers, gate),
-        GridName::Iamond => plain_listing_of::<Iamond, T, H>(rt, alloc, n, workers, gate),
-        GridName::Kite => plain_listing_of::<Kite, T, H>(rt, alloc, n, workers, gate),
-    }
+    on_grid!(grid, plain_listing_of<T, H>(rt, alloc, n, workers, gate))
 }
 
 fn plain_listing_of<G: Grid + Send + Sync, T: Threads + Sync, H: Gate + Sync>(

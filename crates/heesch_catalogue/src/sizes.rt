@@ -6,9 +6,9 @@ ghost use Rattle.heesch_catalogue.specs.Rounds.{BeginsOne, IsBegunText, IsOfSize
 
 use crate::items::ShapeText;
 use crate::rounds::{WriteStop, write_texts};
-use heesch_grid::{Grid, GridName, Hex, Iamond, Square};
+use heesch_grid::{Grid, GridName};
 use heesch_io::Sink;
-use heesch_kite::Kite;
+use heesch_kite::on_grid;
 use heesch_listing::all_shapes;
 use heesch_pool::Gate;
 use std::alloc::Global;
@@ -42,20 +42,7 @@ pub fn write_texts_of_size<R: ShapeText + Sync, T: Threads + Sync, W: Sink, H: G
     ensures failed { result ≡ Err WriteStop.Failed → Rose (W.faults sink.old) (W.faults sink.new) }
     ensures later { W.faults sink.old ≤ W.faults sink.new }
 {
-    match grid {
-        GridName::Square => {
-            write_on::<Square, R, T, W, H>(rt, alloc, head, texts, n, workers, gate, sink)
-        }
-        GridName::Hex => {
-            write_on::<Hex, R, T, W, H>(rt, alloc, head, texts, n, workers, gate, sink)
-        }
-        GridName::Iamond => {
-            write_on::<Iamond, R, T, W, H>(rt, alloc, head, texts, n, workers, gate, sink)
-        }
-        GridName::Kite => {
-            write_on::<Kite, R, T, W, H>(rt, alloc, head, texts, n, workers, gate, sink)
-        }
-    }
+    on_grid!(grid, write_on<R, T, W, H>(rt, alloc, head, texts, n, workers, gate, sink))
 }
 
 /// The same on one grid.

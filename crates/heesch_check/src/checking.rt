@@ -22,9 +22,9 @@ use crate::answers::{CheckStop, Checked};
 use crate::judging::{Judge, fault_behind};
 use crate::reading::{Reading, gather, read_first};
 use heesch_cert::{Header, Subject};
-use heesch_grid::{Grid, GridName, Hex, Iamond, Square};
+use heesch_grid::Grid;
 use heesch_io::{NoMemory, Seq, Source};
-use heesch_kite::Kite;
+use heesch_kite::on_grid;
 use heesch_listing::all_shapes;
 use heesch_pool::Gate;
 use heesch_reader::Item;
@@ -134,18 +134,7 @@ fn check_named<T: Threads + Sync, R: Source, H: Gate + Sync>(
     ensures failed { result ≡ Err CheckStop.Failed → Rose (R.faults source.old) (R.faults source.new) }
     ensures later { R.faults source.old ≤ R.faults source.new }
 {
-    match opening.header.grid {
-        GridName::Square => {
-            check_under::<Square, T, R, H>(rt, alloc, source, opening, workers, gate)
-        }
-        GridName::Hex => check_under::<Hex, T, R, H>(rt, alloc, source, opening, workers, gate),
-        GridName::Iamond => {
-            check_under::<Iamond, T, R, H>(rt, alloc, source, opening, workers, gate)
-        }
-        GridName::Kite => {
-            check_under::<Kite, T, R, H>(rt, alloc, source, opening, workers, gate)
-        }
-    }
+    on_grid!(opening.header.grid, check_under<T, R, H>(rt, alloc, source, opening, workers, gate))
 }
 
 /// The same on the header's grid.

@@ -10,9 +10,9 @@ use crate::stop::ExchangeStop;
 use heesch_cnf::Version;
 use heesch_dimacs::{cut_line, first_false};
 use heesch_encode::encode_flat;
-use heesch_grid::{Grid, GridName, Hex, Iamond, Square};
+use heesch_grid::{Grid, GridName};
 use heesch_io::NoMemory;
-use heesch_kite::Kite;
+use heesch_kite::on_grid;
 use heesch_levels::layers_of;
 use heesch_text::write_coronas;
 use itoa::Buffer;
@@ -44,12 +44,7 @@ pub fn answer(
     ensures ok { IfOk result (λ text. IsAnswer version (geometry_of grid) level size input.now text.items) }
     ensures stop { IfErr result (IsAnswerStop version (geometry_of grid) level size input.now) }
 {
-    match grid {
-        GridName::Square => answer_of::<Square>(alloc, level, size, version, input),
-        GridName::Hex => answer_of::<Hex>(alloc, level, size, version, input),
-        GridName::Iamond => answer_of::<Iamond>(alloc, level, size, version, input),
-        GridName::Kite => answer_of::<Kite>(alloc, level, size, version, input),
-    }
+    on_grid!(grid, answer_of<>(alloc, level, size, version, input))
 }
 
 fn answer_of<G: Grid>(

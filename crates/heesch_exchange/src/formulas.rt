@@ -9,8 +9,8 @@ use crate::stop::ExchangeStop;
 use heesch_cnf::Version;
 use heesch_dimacs::{cut_line, write_flat_cnf};
 use heesch_encode::encode_flat;
-use heesch_grid::{Grid, GridName, Hex, Iamond, Square};
-use heesch_kite::Kite;
+use heesch_grid::{Grid, GridName};
+use heesch_kite::on_grid;
 use std::alloc::Global;
 
 /// The fault of an input that isn't just one line: of its first line where it is empty, else of its second.
@@ -35,12 +35,7 @@ pub fn formula(
     ensures ok { IfOk result (λ text. IsFormula version (geometry_of grid) level size input.now text.items) }
     ensures stop { IfErr result (IsFormulaStop version (geometry_of grid) level size input.now) }
 {
-    match grid {
-        GridName::Square => formula_of::<Square>(alloc, level, size, version, input),
-        GridName::Hex => formula_of::<Hex>(alloc, level, size, version, input),
-        GridName::Iamond => formula_of::<Iamond>(alloc, level, size, version, input),
-        GridName::Kite => formula_of::<Kite>(alloc, level, size, version, input),
-    }
+    on_grid!(grid, formula_of<>(alloc, level, size, version, input))
 }
 
 fn formula_of<G: Grid>(

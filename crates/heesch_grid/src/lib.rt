@@ -19,6 +19,7 @@ mod iamonds;
 mod isometries;
 pub mod laws;
 pub mod moves;
+mod names;
 mod squares;
 pub mod tables;
 pub mod turns;

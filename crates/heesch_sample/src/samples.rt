@@ -8,10 +8,10 @@ ghost use Rattle.heesch_sample.specs.Samples.{AreCountsOf, AreGrown, HaveCounts,
 
 use heesch_catalogue::{EntryText, ROUND, items_between};
 use heesch_cert::{Entry, Limits};
-use heesch_grid::{Grid, GridName, Hex, Iamond, Square};
+use heesch_grid::{Grid, GridName};
 use heesch_grow::{Draws, grown};
 use heesch_io::NoMemory;
-use heesch_kite::Kite;
+use heesch_kite::on_grid;
 use heesch_pool::Gate;
 use heesch_shape::Shape;
 use heesch_table::Tally;
@@ -42,18 +42,7 @@ pub fn sample<T: Threads + Sync, H: Gate + Sync>(
     requires workers { (1 ≤ workers) × (workers ≤ 64) }
     ensures { IfOk result (λ text. IsSample (geometry_of grid) n count seed limits text.items) }
 {
-    match grid {
-        GridName::Square => {
-            sample_of::<Square, T, H>(rt, alloc, n, count, seed, limits, workers, gate)
-        }
-        GridName::Hex => sample_of::<Hex, T, H>(rt, alloc, n, count, seed, limits, workers, gate),
-        GridName::Iamond => {
-            sample_of::<Iamond, T, H>(rt, alloc, n, count, seed, limits, workers, gate)
-        }
-        GridName::Kite => {
-            sample_of::<Kite, T, H>(rt, alloc, n, count, seed, limits, workers, gate)
-        }
-    }
+    on_grid!(grid, sample_of<T, H>(rt, alloc, n, count, seed, limits, workers, gate))
 }
 
 fn sample_of<G: Grid + Send + Sync, T: Threads + Sync, H: Gate + Sync>(

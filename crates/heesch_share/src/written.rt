@@ -12,9 +12,9 @@ ghost use Rattle.heesch_share.specs.Written.{IsShare, IsBegunShare, IsShareOfSiz
 
 use heesch_catalogue::{WriteStop, write_catalogue};
 use heesch_cert::Header;
-use heesch_grid::{Grid, GridName, Hex, Iamond, Square};
+use heesch_grid::Grid;
 use heesch_io::{NoMemory, Sink, put};
-use heesch_kite::Kite;
+use heesch_kite::on_grid;
 use heesch_listing::all_shapes;
 use heesch_parts::{Span, span};
 use heesch_pool::Gate;
@@ -55,18 +55,7 @@ pub fn write_share<T: Threads + Sync, W: Sink, H: Gate + Sync>(
     ensures failed { result ≡ Err WriteStop.Failed → Rose (W.faults sink.old) (W.faults sink.new) }
     ensures later { W.faults sink.old ≤ W.faults sink.new }
 {
-    match header.grid {
-        GridName::Square => {
-            write_one::<Square, T, W, H>(rt, alloc, header, n, i, k, workers, gate, sink)
-        }
-        GridName::Hex => write_one::<Hex, T, W, H>(rt, alloc, header, n, i, k, workers, gate, sink),
-        GridName::Iamond => {
-            write_one::<Iamond, T, W, H>(rt, alloc, header, n, i, k, workers, gate, sink)
-        }
-        GridName::Kite => {
-            write_one::<Kite, T, W, H>(rt, alloc, header, n, i, k, workers, gate, sink)
-        }
-    }
+    on_grid!(header.grid, write_one<T, W, H>(rt, alloc, header, n, i, k, workers, gate, sink))
 }
 
 fn write_one<G: Grid + Send + Sync, T: Threads + Sync, W: Sink, H: Gate + Sync>(

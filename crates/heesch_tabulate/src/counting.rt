@@ -1,6 +1,7 @@
 //! Counting the entries among items.
 ghost use Rattle.std.specs.Prelude.{◌≡◌, ◌+◌, ◌<◌, ◌^◌, ◌++◌, length, List, IfOk};
 ghost use Rattle.std.specs.List.{AllByRecursion};
+ghost use Rattle.heesch_grid.specs.Names.{geometry_of};
 ghost use Rattle.heesch_grid.specs.Vectors.{IsWithin};
 ghost use Rattle.heesch_reader.specs.declared.item.Item.{Item};
 ghost use Rattle.heesch_tabulate.specs.Entries.{entry_in, entries_of};
@@ -10,6 +11,7 @@ use crate::answers::EntryFault;
 use heesch_cert::Verdict;
 use heesch_grid::{Cell, Grid, GridName};
 use heesch_io::NoMemory;
+use heesch_kite::on_grid;
 use heesch_reader::Item;
 use heesch_shape::Shape;
 use heesch_table::Tally;
@@ -29,7 +31,20 @@ pub fn grid_behind(grid: Option<GridName>, items: &[Item]) -> Option<GridName>
 }
 
 /// Counts the entries among the items of a catalogue of this grid, up to the first whose cells are no shape.
-pub fn count_entries<G: Grid>(
+pub fn count_entries(
+    grid: GridName,
+    tally: &mut Tally,
+    alloc: Global,
+    items: &[Item],
+) -> Result<Option<EntryFault>, NoMemory>
+    requires within { AllByRecursion AreWithin (entries_of items.now) }
+    requires few { tally.old.shapes + length (entries_of items.now) < 2 ^ 32 }
+    ensures { IfOk result (CountsEntries (geometry_of grid) tally.old tally.new items.now) }
+{
+    on_grid!(grid, count_entries_of<>(tally, alloc, items))
+}
+
+fn count_entries_of<G: Grid>(
     tally: &mut Tally,
     alloc: Global,
     items: &[Item],

@@ -7,9 +7,8 @@ ghost use Rattle.heesch_table.specs.Texts.{tally_text};
 
 use crate::answers::EntryFault;
 use crate::counting::{count_entries, grid_behind};
-use heesch_grid::{GridName, Hex, Iamond, Square};
+use heesch_grid::GridName;
 use heesch_io::NoMemory;
-use heesch_kite::Kite;
 use heesch_reader::Item;
 use heesch_table::Tally;
 use std::alloc::Global;
@@ -42,10 +41,7 @@ impl Table {
         self.grid = grid_behind(self.grid, items);
         match self.grid {
             None => Ok(None),
-            Some(GridName::Square) => count_entries::<Square>(&mut self.tally, alloc, items),
-            Some(GridName::Hex) => count_entries::<Hex>(&mut self.tally, alloc, items),
-            Some(GridName::Iamond) => count_entries::<Iamond>(&mut self.tally, alloc, items),
-            Some(GridName::Kite) => count_entries::<Kite>(&mut self.tally, alloc, items),
+            Some(grid) => count_entries(grid, &mut self.tally, alloc, items),
         }
     }
 

@@ -11,7 +11,7 @@ use crate::fields::{
     append_spaced, append_triple,
 };
 use crate::line::{BareOutcome, Outcome};
-use crate::names::{bare_word, grid_word, kind_word, outcome_word, phase_word, version_word};
+use crate::names::{bare_word, kind_word, outcome_word, phase_word, version_word};
 use heesch_cert::{Cut, Header, Kind, Limits, Member, Phase, Subject, Verdict};
 use heesch_cnf::Lit;
 use heesch_grid::{Cell, Iso};
@@ -35,7 +35,7 @@ fn append_title(header: &Header, out: &mut Vec<u8>) -> Result<(), NoMemory>
     let word: &[u8] = if header.brief { b"brief" } else { b"heesch" };
     append_bytes(word, out)?;
     append_bytes(version_word(header.limits.version), out)?;
-    append_bytes(grid_word(header.grid), out)?;
+    append_bytes(header.grid.word().as_bytes(), out)?;
     append_byte(b' ', out)?;
     append_subject(header.subject, out)
 }

@@ -1,12 +1,10 @@
-//! The words that name a version, a grid, the kind of a tiling and the end of a search.
+//! The words that name a version, the kind of a tiling and the end of a search.
 ghost use Rattle.std.specs.Prelude.{◌≡◌};
-ghost use Rattle.heesch_grid.specs.Names.{grid_word as word_of};
 ghost use Rattle.heesch_text.specs.Names.{version_text, kind_text, phase_text, outcome_text, bare_text};
 
 use crate::line::{BareOutcome, Outcome};
 use heesch_cert::{Kind, Phase};
 use heesch_cnf::Version;
-use heesch_grid::GridName;
 
 /// The number of a version, between spaces.
 pub fn version_word(version: Version) -> &'static [u8]
@@ -15,17 +13,6 @@ pub fn version_word(version: Version) -> &'static [u8]
     match version {
         Version::One => b" 1 ",
         Version::Two => b" 2 ",
-    }
-}
-
-pub fn grid_word(grid: GridName) -> &'static [u8]
-    ensures { result.now ≡ word_of grid }
-{
-    match grid {
-        GridName::Square => b"square",
-        GridName::Hex => b"hex",
-        GridName::Iamond => b"iamond",
-        GridName::Kite => b"kite",
     }
 }
 

@@ -17,13 +17,7 @@ pub fn grid_named(word: &str) -> Result<GridName, Usage>
     ensures ok { IfOk result (λ grid. word.now ≡ grid_word grid) }
     ensures usage { OnErr result ((grid : GridName) → word.now ≢ grid_word grid) }
 {
-    match word {
-        "square" => Ok(GridName::Square),
-        "hex" => Ok(GridName::Hex),
-        "iamond" => Ok(GridName::Iamond),
-        "kite" => Ok(GridName::Kite),
-        _ => Err(Usage),
-    }
+    GridName::named(word).ok_or(Usage)
 }
 
 /// The subject of a catalogue of this version that a word names: the shapes that are given, or those
