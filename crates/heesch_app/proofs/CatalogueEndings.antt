@@ -1,7 +1,7 @@
 -- How `classify`, `share` and `outer` end.
 use Rattle.std.proofs.Common.{◌≡◌, ℕ, List, refl, sym, subst, inl, inr}
 use Rattle.std.specs.Prelude.{false, Option, Result, Ok, Err, IfOk, IfErr, OnOk, OnErr}
-use Rattle.heesch_catalogue.specs.declared.rounds.WriteStop.{WriteStop}
+use Rattle.heesch_io.specs.declared.fault.IoStop.{IoStop}
 use Rattle.heesch_catalogue.specs.Catalogues.{IsBegunCatalogue, IsBegunCatalogueOfSize, IsCatalogue, IsCatalogueOfSize}
 use Rattle.heesch_catalogue.specs.Rounds.{BeginsOne, WritesOne}
 use Rattle.heesch_cert.specs.declared.header.Header.{Header}
@@ -19,7 +19,6 @@ use Rattle.heesch_share.specs.Written.{IsBegunShareOfSize, IsShareOfSize}
 use Rattle.heesch_stream.specs.Taking.{input_max}
 use Rattle.heesch_words.specs.declared.requests.Request.{Request}
 use Rattle.heesch_words.specs.declared.requests.Request.TheVariants.{Share as ShareRequest, Outer as OuterRequest}
-use Rattle.heesch_app.specs.declared.reading.ReadStop.{ReadStop}
 use Rattle.heesch_app.specs.declared.reply.Reply.{Reply}
 use Rattle.heesch_app.specs.declared.status.Status.{Status}
 use Rattle.heesch_app.specs.declared.status.Status.TheVariants.{BadInput}
@@ -39,7 +38,7 @@ abbrev pub GivenBegun : Geometry → (List (List Cell) → List ℕ → Type 0) 
 GivenBegun g Part left output = OfInput left (IsBegunGivenAnswer g Part output)
 
 -- the text of the shapes was written, or begun
-pub listed_ends : {A : Type 0} (g : Geometry) (One Part : List (List Cell) → List ℕ → Type 0) (left old new : Option (List ℕ)) (shapes : List (List Cell)) (written : Result A WriteStop)
+pub listed_ends : {A : Type 0} (g : Geometry) (One Part : List (List Cell) → List ℕ → Type 0) (left old new : Option (List ℕ)) (shapes : List (List Cell)) (written : Result A IoStop)
     (result : Status) → GivesShapes input_max g left shapes → OnOk written (WritesOne (One shapes) old new) → OnErr written (BeginsOne (Part shapes) old new)
     → result ≡ written_status written → EndsAs (GivenWhole g One left) (GivenBegun g Part left) old new result
 listed_ends {A} g One Part left old new shapes written result (input, all, given) ok err same =
@@ -48,23 +47,23 @@ listed_ends {A} g One Part left old new shapes written result (input, all, given
 
 -- the first fault of the text was told
 pub told_ends : (g : Geometry) (One Part : List (List Cell) → List ℕ → Type 0) (left : Option (List ℕ)) (line number : ℕ) (S : Type 0) (held : S → Option (List ℕ)) (old new : S) (before now : ℕ)
-    (reply : Result Reply ReadStop) (result : Status) → GivesFault input_max g left (Fault line number)
+    (reply : Result Reply IoStop) (result : Status) → GivesFault input_max g left (Fault line number)
     → IfOk reply (λ r. r.status ≡ BadInput) → IfOk reply (λ r. r.text.items ≡ bad_input_text line number)
     → IfOk reply (λ r. IsPut r.text.items r.status result (held old) (held new) before now) → IfErr reply (λ stop. (result ≡ read_status stop) × (new ≡ old))
     → EndsAs (GivenWhole g One left) (GivenBegun g Part left) (held old) (held new) result
 told_ends g One Part left line number S held old new before now reply result (input, all, fault) bad text put stops =
     reply_ends (GivenWhole g One left) (GivenBegun g Part left) S held old new before now reply result (comes_whole reply bad) (tells reply bad text) (begins reply text) put stops
   where
-    comes_whole : (reply : Result Reply ReadStop) → IfOk reply (λ r. r.status ≡ BadInput) → IfOk reply (λ r. IsWhole r.status)
+    comes_whole : (reply : Result Reply IoStop) → IfOk reply (λ r. r.status ≡ BadInput) → IfOk reply (λ r. IsWhole r.status)
     comes_whole (Ok r) bad = whole_if r.status BadInput bad tt
     comes_whole (Err stop) bad = tt
 
-    tells : (reply : Result Reply ReadStop) → IfOk reply (λ r. r.status ≡ BadInput) → IfOk reply (λ r. r.text.items ≡ bad_input_text line number)
+    tells : (reply : Result Reply IoStop) → IfOk reply (λ r. r.status ≡ BadInput) → IfOk reply (λ r. r.text.items ≡ bad_input_text line number)
         → IfOk reply (λ r. GivenWhole g One left r.status r.text.items)
     tells (Ok r) bad text = (input, all, inr (bad, (line, number, fault, text)))
     tells (Err stop) bad text = tt
 
-    begins : (reply : Result Reply ReadStop) → IfOk reply (λ r. r.text.items ≡ bad_input_text line number) → IfOk reply (λ r. GivenBegun g Part left r.text.items)
+    begins : (reply : Result Reply IoStop) → IfOk reply (λ r. r.text.items ≡ bad_input_text line number) → IfOk reply (λ r. GivenBegun g Part left r.text.items)
     begins (Ok r) text = (input, all, inr (line, number, fault, text))
     begins (Err stop) text = tt
 
@@ -78,7 +77,7 @@ on_grid text grid name left old new result same ends =
 -- ---- of a request
 
 -- the request is to classify the shapes of a size
-pub size_ends : {A : Type 0} (header : Header) (workers n : ℕ) (left old new : Option (List ℕ)) (written : Result A WriteStop) (result : Status) → header.subject ≡ Size n
+pub size_ends : {A : Type 0} (header : Header) (workers n : ℕ) (left old new : Option (List ℕ)) (written : Result A IoStop) (result : Status) → header.subject ≡ Size n
     → OnOk written (WritesOne (IsCatalogueOfSize (geometry_of header.grid) header n) old new)
     → OnErr written (BeginsOne (IsBegunCatalogueOfSize (geometry_of header.grid) header n) old new)
     → result ≡ written_status written → EndsAs (IsOutput (classify_of header workers) left) (IsBegunOutput (classify_of header workers) left) old new result
@@ -110,7 +109,7 @@ given_ends header workers left old new result given ends =
 
 -- the request is for a share of the catalogue of a size
 pub share_ends : {A : Type 0} (request : Request) (grid : GridName) (n i k : ℕ) (limits : Limits) (workers : ℕ) (left old new : Option (List ℕ))
-    (written : Result A WriteStop) (result : Status) → request ≡ ShareRequest grid n i k limits workers
+    (written : Result A IoStop) (result : Status) → request ≡ ShareRequest grid n i k limits workers
     → OnOk written (WritesOne (IsShareOfSize (geometry_of grid) (header_of grid (Size n) limits false) n i k) old new)
     → OnErr written (BeginsOne (IsBegunShareOfSize (geometry_of grid) (header_of grid (Size n) limits false) n i k) old new)
     → result ≡ written_status written → EndsAs (IsOutput request left) (IsBegunOutput request left) old new result
@@ -125,7 +124,7 @@ share_ends {A} request grid n i k limits workers left old new written result is 
     subst (λ r. EndsAs (IsOutput r left) (IsBegunOutput r left) old new result) (sym is) ends
 
 -- the request is for the outer text of a size
-pub outer_size_ends : {A : Type 0} (grid : GridName) (subject : Subject) (limits : Limits) (workers n : ℕ) (left old new : Option (List ℕ)) (written : Result A WriteStop) (result : Status)
+pub outer_size_ends : {A : Type 0} (grid : GridName) (subject : Subject) (limits : Limits) (workers n : ℕ) (left old new : Option (List ℕ)) (written : Result A IoStop) (result : Status)
     → subject ≡ Size n → OnOk written (WritesOne (IsOutersOfSize (geometry_of grid) limits n) old new) → OnErr written (BeginsOne (IsBegunOutersOfSize (geometry_of grid) limits n) old new)
     → result ≡ written_status written
     → EndsAs (IsOutput (OuterRequest grid subject limits workers) left) (IsBegunOutput (OuterRequest grid subject limits workers) left) old new result

@@ -3,8 +3,8 @@ use Rattle.std.proofs.Common.{◌≡◌, ◌≢◌, ◌⊎◌, ◌∙◌, ℕ, L
 use Rattle.std.specs.Prelude.{Option, Some, None, Result, Ok, Err, IfOk, IfErr, OnOk, OnErr, ⊤}
 use Rattle.std.specs.Io.KnownBytes.{Keeps}
 use Rattle.heesch_io.specs.Causes.{Rose}
-use Rattle.heesch_catalogue.specs.declared.rounds.WriteStop.{WriteStop}
-use Rattle.heesch_catalogue.specs.declared.rounds.WriteStop.TheVariants as write_stops
+use Rattle.heesch_io.specs.declared.fault.IoStop.{IoStop}
+use Rattle.heesch_io.specs.declared.fault.IoStop.TheVariants as stops
 use Rattle.heesch_catalogue.specs.Rounds.{BeginsOne, WritesOne}
 use Rattle.heesch_cert.specs.declared.header.Subject.TheVariants.{Size, Given}
 use Rattle.heesch_check.specs.declared.answers.Checked.{Checked}
@@ -14,8 +14,6 @@ use Rattle.heesch_tabulate.specs.declared.answers.Tabulated.TheVariants as table
 use Rattle.heesch_words.specs.declared.requests.Request.{Request}
 use Rattle.heesch_words.specs.declared.requests.Request.TheVariants.{List as ListRequest, Plain as PlainRequest, Classify as ClassifyRequest, Check as CheckRequest, Table as TableRequest, Sample as SampleRequest, Formula as FormulaRequest, Answer as AnswerRequest, Share as ShareRequest, Join as JoinRequest, Outer as OuterRequest}
 use Rattle.heesch_words.specs.Requests.{Asks}
-use Rattle.heesch_app.specs.declared.reading.ReadStop.{ReadStop}
-use Rattle.heesch_app.specs.declared.reading.ReadStop.TheVariants as read_stops
 use Rattle.heesch_app.specs.declared.reply.Reply.{Reply}
 use Rattle.heesch_app.specs.declared.status.Status.{Status}
 use Rattle.heesch_app.specs.declared.status.Status.TheVariants.{Done, Invalid, Usage, BadInput, ReadFault, WriteFault, NoMemory}
@@ -74,7 +72,7 @@ output_is_whole (OuterRequest grid Given limits workers) left status output (inp
 output_is_whole (OuterRequest grid Given limits workers) left status output (input, all, inr (bad, is)) = whole_if status BadInput bad tt
 
 -- a reply that is what a request asks for comes with such a status
-pub reply_is_whole : (request : Request) (left : Option (List ℕ)) (reply : Result Reply ReadStop) → IfOk reply (λ r. IsOutput request left r.status r.text.items) → IfOk reply (λ r. IsWhole r.status)
+pub reply_is_whole : (request : Request) (left : Option (List ℕ)) (reply : Result Reply IoStop) → IfOk reply (λ r. IsOutput request left r.status r.text.items) → IfOk reply (λ r. IsWhole r.status)
 reply_is_whole request left (Ok r) is = output_is_whole request left r.status r.text.items is
 reply_is_whole request left (Err stop) is = tt
 
@@ -102,10 +100,10 @@ put_ends W B old new text status result before now whole is begun (inl (same, ap
 put_ends W B old new text status result before now whole is begun (inr (failed, prefix, rose)) =
     subst (λ s. EndsAs W B old new s) (sym failed) (inr (text, begun, prefix))
 
-stop_ends : (W : Status → List ℕ → Type 0) (B : List ℕ → Type 0) (S : Type 0) (held : S → Option (List ℕ)) (old new : S) (stop : ReadStop) → new ≡ old → EndsAs W B (held old) (held new) (read_status stop)
+stop_ends : (W : Status → List ℕ → Type 0) (B : List ℕ → Type 0) (S : Type 0) (held : S → Option (List ℕ)) (old new : S) (stop : IoStop) → new ≡ old → EndsAs W B (held old) (held new) (read_status stop)
 unfolding EndsAs
-stop_ends W B S held old new read_stops.Failed same = tt
-stop_ends W B S held old new read_stops.NoMemory same = inl (subst (λ s. Keeps (held old) (held s)) (sym same) (keeps_itself (held old)))
+stop_ends W B S held old new stops.Failed same = tt
+stop_ends W B S held old new stops.NoMemory same = inl (subst (λ s. Keeps (held old) (held s)) (sym same) (keeps_itself (held old)))
 
 -- where memory is refused before anything is written
 pub memory_ends : (W : Status → List ℕ → Type 0) (B : List ℕ → Type 0) (held : Option (List ℕ)) → EndsAs W B held held NoMemory
@@ -118,19 +116,19 @@ unfolding EndsAs
 failure_ends W B old new = tt
 
 -- a reply that was put
-pub reply_ends : (W : Status → List ℕ → Type 0) (B : List ℕ → Type 0) (S : Type 0) (held : S → Option (List ℕ)) (old new : S) (before now : ℕ) (reply : Result Reply ReadStop) (result : Status)
+pub reply_ends : (W : Status → List ℕ → Type 0) (B : List ℕ → Type 0) (S : Type 0) (held : S → Option (List ℕ)) (old new : S) (before now : ℕ) (reply : Result Reply IoStop) (result : Status)
     → IfOk reply (λ r. IsWhole r.status) → IfOk reply (λ r. W r.status r.text.items) → IfOk reply (λ r. B r.text.items)
     → IfOk reply (λ r. IsPut r.text.items r.status result (held old) (held new) before now) → IfErr reply (λ stop. (result ≡ read_status stop) × (new ≡ old))
     → EndsAs W B (held old) (held new) result
 reply_ends W B S held old new before now (Ok r) result whole is begun put stops = put_ends W B (held old) (held new) r.text.items r.status result before now whole is begun put
 reply_ends W B S held old new before now (Err stop) result whole is begun put (same, kept) = subst (λ s. EndsAs W B (held old) (held new) s) (sym same) (stop_ends W B S held old new stop kept)
 
-begun_reply : (request : Request) (left : Option (List ℕ)) (reply : Result Reply ReadStop) → IfOk reply (λ r. IsOutput request left r.status r.text.items) → IfOk reply (λ r. IsBegunOutput request left r.text.items)
+begun_reply : (request : Request) (left : Option (List ℕ)) (reply : Result Reply IoStop) → IfOk reply (λ r. IsOutput request left r.status r.text.items) → IfOk reply (λ r. IsBegunOutput request left r.text.items)
 begun_reply request left (Ok r) is = begins_itself request left r.status r.text.items is
 begun_reply request left (Err stop) is = tt
 
 -- a reply to a request that was put
-pub request_ends : (request : Request) (left : Option (List ℕ)) (S : Type 0) (held : S → Option (List ℕ)) (old new : S) (before now : ℕ) (reply : Result Reply ReadStop) (result : Status)
+pub request_ends : (request : Request) (left : Option (List ℕ)) (S : Type 0) (held : S → Option (List ℕ)) (old new : S) (before now : ℕ) (reply : Result Reply IoStop) (result : Status)
     → IfOk reply (λ r. IsOutput request left r.status r.text.items)
     → IfOk reply (λ r. IsPut r.text.items r.status result (held old) (held new) before now) → IfErr reply (λ stop. (result ≡ read_status stop) × (new ≡ old))
     → EndsAs (IsOutput request left) (IsBegunOutput request left) (held old) (held new) result
@@ -138,7 +136,7 @@ request_ends request left S held old new before now reply result is put stops =
     reply_ends (IsOutput request left) (IsBegunOutput request left) S held old new before now reply result (reply_is_whole request left reply is) is (begun_reply request left reply is) put stops
 
 -- a catalogue that was written, or stopped
-pub writing_ends : {A : Type 0} (W : Status → List ℕ → Type 0) (B One Part : List ℕ → Type 0) (old new : Option (List ℕ)) (written : Result A WriteStop) (result : Status)
+pub writing_ends : {A : Type 0} (W : Status → List ℕ → Type 0) (B One Part : List ℕ → Type 0) (old new : Option (List ℕ)) (written : Result A IoStop) (result : Status)
     → ((output : List ℕ) → One output → W Done output) → ((output : List ℕ) → Part output → B output)
     → OnOk written (WritesOne One old new) → OnErr written (BeginsOne Part old new) → result ≡ written_status written → EndsAs W B old new result
 unfolding EndsAs
@@ -148,54 +146,54 @@ writing_ends {A} W B One Part old new written result whole begun ok err same = s
     begins (inl keeps) = inl keeps
     begins (inr (output, is, prefix)) = inr (output, begun output is, prefix)
 
-    by_writing : (written : Result A WriteStop) → OnOk written (WritesOne One old new) → OnErr written (BeginsOne Part old new) → EndsAs W B old new (written_status written)
+    by_writing : (written : Result A IoStop) → OnOk written (WritesOne One old new) → OnErr written (BeginsOne Part old new) → EndsAs W B old new (written_status written)
     by_writing (Ok x) (output, is, appends) err = (output, whole output is, appends)
-    by_writing (Err write_stops.Failed) ok err = begins err
-    by_writing (Err write_stops.NoMemory) ok err = begins err
+    by_writing (Err stops.Failed) ok err = begins err
+    by_writing (Err stops.NoMemory) ok err = begins err
 
 -- ---- the statuses of the parts
 
 -- a reply that was put ends Done only where it comes with Done
-pub put_done : (P : Type 0) (S : Type 0) (held : S → Option (List ℕ)) (old new : S) (before now : ℕ) (reply : Result Reply ReadStop) (result : Status)
+pub put_done : (P : Type 0) (S : Type 0) (held : S → Option (List ℕ)) (old new : S) (before now : ℕ) (reply : Result Reply IoStop) (result : Status)
     → IfOk reply (λ r. r.status ≡ Done → P)
     → IfOk reply (λ r. IsPut r.text.items r.status result (held old) (held new) before now) → IfErr reply (λ stop. (result ≡ read_status stop) × (new ≡ old))
     → result ≡ Done → P
 put_done P S held old new before now (Ok r) result is (inl (same, appends)) stops done = is (sym same ∙ done)
 put_done P S held old new before now (Ok r) result is (inr (failed, prefix, rose)) stops done = absurd (let no : WriteFault ≡ Done = sym failed ∙ done in cc)
-put_done P S held old new before now (Err read_stops.Failed) result is put (same, kept) done = absurd (let no : ReadFault ≡ Done = sym same ∙ done in cc)
-put_done P S held old new before now (Err read_stops.NoMemory) result is put (same, kept) done = absurd (let no : NoMemory ≡ Done = sym same ∙ done in cc)
+put_done P S held old new before now (Err stops.Failed) result is put (same, kept) done = absurd (let no : ReadFault ≡ Done = sym same ∙ done in cc)
+put_done P S held old new before now (Err stops.NoMemory) result is put (same, kept) done = absurd (let no : NoMemory ≡ Done = sym same ∙ done in cc)
 
 -- and ReadFault only where there is none, since reading failed; then nothing is written
-pub put_read_fault : (S : Type 0) (held : S → Option (List ℕ)) (old new : S) (before now : ℕ) (reply : Result Reply ReadStop) (result : Status)
+pub put_read_fault : (S : Type 0) (held : S → Option (List ℕ)) (old new : S) (before now : ℕ) (reply : Result Reply IoStop) (result : Status)
     → IfOk reply (λ r. IsWhole r.status)
     → IfOk reply (λ r. IsPut r.text.items r.status result (held old) (held new) before now) → IfErr reply (λ stop. (result ≡ read_status stop) × (new ≡ old))
-    → result ≡ ReadFault → (reply ≡ Err read_stops.Failed) × (new ≡ old)
+    → result ≡ ReadFault → (reply ≡ Err stops.Failed) × (new ≡ old)
 put_read_fault S held old new before now (Ok r) result whole (inl (same, appends)) stops fault = absurd (whole_if ReadFault r.status (sym fault ∙ same) whole)
 put_read_fault S held old new before now (Ok r) result whole (inr (failed, prefix, rose)) stops fault = absurd (let no : WriteFault ≡ ReadFault = sym failed ∙ fault in cc)
-put_read_fault S held old new before now (Err read_stops.Failed) result whole put (same, kept) fault = (refl, kept)
-put_read_fault S held old new before now (Err read_stops.NoMemory) result whole put (same, kept) fault = absurd (let no : NoMemory ≡ ReadFault = sym same ∙ fault in cc)
+put_read_fault S held old new before now (Err stops.Failed) result whole put (same, kept) fault = (refl, kept)
+put_read_fault S held old new before now (Err stops.NoMemory) result whole put (same, kept) fault = absurd (let no : NoMemory ≡ ReadFault = sym same ∙ fault in cc)
 
 -- and WriteFault only where the sink's count of faults rose
-pub put_write_fault : (S : Type 0) (held : S → Option (List ℕ)) (old new : S) (before now : ℕ) (reply : Result Reply ReadStop) (result : Status)
+pub put_write_fault : (S : Type 0) (held : S → Option (List ℕ)) (old new : S) (before now : ℕ) (reply : Result Reply IoStop) (result : Status)
     → IfOk reply (λ r. IsWhole r.status)
     → IfOk reply (λ r. IsPut r.text.items r.status result (held old) (held new) before now) → IfErr reply (λ stop. (result ≡ read_status stop) × (new ≡ old))
     → result ≡ WriteFault → Rose before now
 put_write_fault S held old new before now (Ok r) result whole (inl (same, appends)) stops fault = absurd (whole_if WriteFault r.status (sym fault ∙ same) whole)
 put_write_fault S held old new before now (Ok r) result whole (inr (failed, prefix, rose)) stops fault = rose
-put_write_fault S held old new before now (Err read_stops.Failed) result whole put (same, kept) fault = absurd (let no : ReadFault ≡ WriteFault = sym same ∙ fault in cc)
-put_write_fault S held old new before now (Err read_stops.NoMemory) result whole put (same, kept) fault = absurd (let no : NoMemory ≡ WriteFault = sym same ∙ fault in cc)
+put_write_fault S held old new before now (Err stops.Failed) result whole put (same, kept) fault = absurd (let no : ReadFault ≡ WriteFault = sym same ∙ fault in cc)
+put_write_fault S held old new before now (Err stops.NoMemory) result whole put (same, kept) fault = absurd (let no : NoMemory ≡ WriteFault = sym same ∙ fault in cc)
 
 -- a catalogue's writing never ends ReadFault
-pub written_read_fault : {A : Type 0} (written : Result A WriteStop) (result : Status) → result ≡ written_status written → result ≢ ReadFault
+pub written_read_fault : {A : Type 0} (written : Result A IoStop) (result : Status) → result ≡ written_status written → result ≢ ReadFault
 written_read_fault {A} (Ok x) result same fault = let no : Done ≡ ReadFault = sym same ∙ fault in cc
-written_read_fault {A} (Err write_stops.Failed) result same fault = let no : WriteFault ≡ ReadFault = sym same ∙ fault in cc
-written_read_fault {A} (Err write_stops.NoMemory) result same fault = let no : NoMemory ≡ ReadFault = sym same ∙ fault in cc
+written_read_fault {A} (Err stops.Failed) result same fault = let no : WriteFault ≡ ReadFault = sym same ∙ fault in cc
+written_read_fault {A} (Err stops.NoMemory) result same fault = let no : NoMemory ≡ ReadFault = sym same ∙ fault in cc
 
 -- and WriteFault only where the sink failed
-pub written_write_fault : {A : Type 0} (P : Type 0) (written : Result A WriteStop) (result : Status) → (written ≡ Err write_stops.Failed → P) → result ≡ written_status written → result ≡ WriteFault → P
+pub written_write_fault : {A : Type 0} (P : Type 0) (written : Result A IoStop) (result : Status) → (written ≡ Err stops.Failed → P) → result ≡ written_status written → result ≡ WriteFault → P
 written_write_fault {A} P (Ok x) result rises same fault = absurd (let no : Done ≡ WriteFault = sym same ∙ fault in cc)
-written_write_fault {A} P (Err write_stops.Failed) result rises same fault = rises refl
-written_write_fault {A} P (Err write_stops.NoMemory) result rises same fault = absurd (let no : NoMemory ≡ WriteFault = sym same ∙ fault in cc)
+written_write_fault {A} P (Err stops.Failed) result rises same fault = rises refl
+written_write_fault {A} P (Err stops.NoMemory) result rises same fault = absurd (let no : NoMemory ≡ WriteFault = sym same ∙ fault in cc)
 
 -- ---- what follows for the run
 

@@ -3,24 +3,22 @@ use Rattle.std.specs.Prelude.{◌≡◌, ◌⊎◌, ℕ, List, Option, Result, O
 use Rattle.std.specs.Io.KnownBytes.{Appends}
 use Rattle.heesch_io.specs.Causes.{Rose}
 use Rattle.heesch_io.specs.Contents.{AppendsPrefix}
-use Rattle.heesch_catalogue.specs.declared.rounds.WriteStop.{WriteStop}
-use Rattle.heesch_catalogue.specs.declared.rounds.WriteStop.TheVariants as write_stops
+use Rattle.heesch_io.specs.declared.fault.IoStop.{IoStop}
+use Rattle.heesch_io.specs.declared.fault.IoStop.TheVariants as stops
 use Rattle.heesch_catalogue.specs.Rounds.{BeginsOne, WritesOne}
-use Rattle.heesch_app.specs.declared.reading.ReadStop.{ReadStop}
-use Rattle.heesch_app.specs.declared.reading.ReadStop.TheVariants as read_stops
 use Rattle.heesch_app.specs.declared.status.Status.{Status}
 use Rattle.heesch_app.specs.declared.status.Status.TheVariants.{Done, Invalid, Usage, BadInput, ReadFault, WriteFault, NoMemory}
 
 -- the status of a run whose reading stopped
-abbrev pub read_status : ReadStop → Status
-read_status read_stops.Failed = ReadFault
-read_status read_stops.NoMemory = NoMemory
+abbrev pub read_status : IoStop → Status
+read_status stops.Failed = ReadFault
+read_status stops.NoMemory = NoMemory
 
 -- the status of a run that wrote a catalogue, or stopped
-abbrev pub written_status : {A : Type 0} → Result A WriteStop → Status
+abbrev pub written_status : {A : Type 0} → Result A IoStop → Status
 written_status (Ok _) = Done
-written_status (Err write_stops.Failed) = WriteFault
-written_status (Err write_stops.NoMemory) = NoMemory
+written_status (Err stops.Failed) = WriteFault
+written_status (Err stops.NoMemory) = NoMemory
 
 -- the text was put, and its status is the run's; or the sink failed at a prefix of it
 abbrev pub IsPut : (text : List ℕ) (status result : Status) (old new : Option (List ℕ)) (before now : ℕ) → Type 0

@@ -3,17 +3,16 @@ ghost use Rattle.std.specs.Prelude.{◌≡◌, IfErr, IfOk};
 ghost use Rattle.heesch_app.specs.Inputs.{bad_input_text};
 
 use crate::Status;
-use crate::reading::ReadStop;
 use crate::reply::Reply;
-use heesch_io::NoMemory;
+use heesch_io::{IoStop, NoMemory};
 use itoa::Buffer;
 use std::alloc::Global;
 
 /// `bad input LINE FAULT`, with the line from 1 and the number of its fault.
-pub fn bad_input(alloc: Global, line: u64, number: u32) -> Result<Reply, ReadStop>
+pub fn bad_input(alloc: Global, line: u64, number: u32) -> Result<Reply, IoStop>
     ensures status { IfOk result (λ r. r.status ≡ Status.BadInput) }
     ensures text { IfOk result (λ r. r.text.items ≡ bad_input_text line number) }
-    ensures err { IfErr result (λ e. e ≡ ReadStop.NoMemory) }
+    ensures err { IfErr result (λ e. e ≡ IoStop.NoMemory) }
 {
     Ok(Reply {
         status: Status::BadInput,

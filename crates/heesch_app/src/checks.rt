@@ -7,10 +7,9 @@ ghost use Rattle.heesch_app.specs.Outputs.{OfInput, IsCheckAnswer};
 
 use crate::Status;
 use crate::bad_input::bad_input;
-use crate::reading::ReadStop;
 use crate::reply::Reply;
-use heesch_check::{CheckStop, Checked, check, write_checked};
-use heesch_io::Source;
+use heesch_check::{Checked, check, write_checked};
+use heesch_io::{IoStop, Source};
 use heesch_pool::Gate;
 use std::alloc::Global;
 use std::thread::Threads;
@@ -26,25 +25,21 @@ pub fn checked_reply<T: Threads + Sync, R: Source, H: Gate + Sync>(
     source: &mut R,
     workers: u32,
     gate: &H,
-) -> Result<Reply, ReadStop>
+) -> Result<Reply, IoStop>
     requires workers { (1 ≤ workers) × (workers ≤ 64) }
     ensures ok { IfOk result (λ r. OfInput (R.left source.old) (IsCheckAnswer r.status r.text.items)) }
     ensures consumed { ConsumesSome (R.left source.old) (R.left source.new) }
-    ensures failed { result ≡ Err ReadStop.Failed → Rose (R.faults source.old) (R.faults source.new) }
+    ensures failed { result ≡ Err IoStop.Failed → Rose (R.faults source.old) (R.faults source.new) }
 {
-    let checked = match check(rt, alloc, source, workers, gate) {
-        Ok(checked) => checked,
-        Err(CheckStop::Failed) => return Err(ReadStop::Failed),
-        Err(CheckStop::NoMemory) => return Err(ReadStop::NoMemory),
-    };
+    let checked = check(rt, alloc, source, workers, gate)?;
     told(alloc, checked)
 }
 
 /// The line of an answer, and the status that comes with it.
-fn told(alloc: Global, checked: Checked) -> Result<Reply, ReadStop>
+fn told(alloc: Global, checked: Checked) -> Result<Reply, IoStop>
     ensures status { IfOk result (λ r. r.status ≡ check_status checked) }
     ensures text { IfOk result (λ r. r.text.items ≡ check_text checked) }
-    ensures err { IfErr result (λ e. e ≡ ReadStop.NoMemory) }
+    ensures err { IfErr result (λ e. e ≡ IoStop.NoMemory) }
 {
     let status = match checked {
         Checked::TooLong { line } => return bad_input(alloc, line, TOO_LONG),

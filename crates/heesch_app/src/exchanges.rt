@@ -9,12 +9,12 @@ ghost use Rattle.heesch_app.specs.Exchanges.{IsFormulaAnswer, IsModelAnswer, IsF
 
 use crate::Status;
 use crate::bad_input::bad_input;
-use crate::reading::{ReadStop, read_all};
+use crate::reading::read_all;
 use crate::reply::Reply;
 use heesch_cnf::Version;
 use heesch_exchange::{ExchangeStop, answer, formula};
 use heesch_grid::GridName;
-use heesch_io::Source;
+use heesch_io::{IoStop, Source};
 use std::alloc::Global;
 
 /// The clause text of a corona formula of the shape whose line the source's bytes are, or their first fault.
@@ -25,13 +25,13 @@ pub fn formula_reply<R: Source>(
     size: u32,
     version: Version,
     source: &mut R,
-) -> Result<Reply, ReadStop>
+) -> Result<Reply, IoStop>
     requires level { (1 ≤ level) × (level ≤ 6) }
     requires size { (1 ≤ size) × (size ≤ 60000000) }
     ensures ok { IfOk result (λ r. OfInput (R.left source.old) (IsFormulaAnswer version (geometry_of grid) level size r.status r.text.items)) }
     ensures ended { OnOk result (IsAtEnd (R.left source.new)) }
     ensures consumed { ConsumesSome (R.left source.old) (R.left source.new) }
-    ensures failed { result ≡ Err ReadStop.Failed → Rose (R.faults source.old) (R.faults source.new) }
+    ensures failed { result ≡ Err IoStop.Failed → Rose (R.faults source.old) (R.faults source.new) }
 {
     let input = read_all(alloc, source)?;
     told(alloc, formula(alloc, grid, level, size, version, &input))
@@ -46,24 +46,24 @@ pub fn model_reply<R: Source>(
     size: u32,
     version: Version,
     source: &mut R,
-) -> Result<Reply, ReadStop>
+) -> Result<Reply, IoStop>
     requires level { (1 ≤ level) × (level ≤ 6) }
     requires size { (1 ≤ size) × (size ≤ 60000000) }
     ensures ok { IfOk result (λ r. OfInput (R.left source.old) (IsModelAnswer version (geometry_of grid) level size r.status r.text.items)) }
     ensures ended { OnOk result (IsAtEnd (R.left source.new)) }
     ensures consumed { ConsumesSome (R.left source.old) (R.left source.new) }
-    ensures failed { result ≡ Err ReadStop.Failed → Rose (R.faults source.old) (R.faults source.new) }
+    ensures failed { result ≡ Err IoStop.Failed → Rose (R.faults source.old) (R.faults source.new) }
 {
     let input = read_all(alloc, source)?;
     told(alloc, answer(alloc, grid, level, size, version, &input))
 }
 
 /// The text with the status Done, or the line of the fault.
-fn told(alloc: Global, text: Result<Vec<u8>, ExchangeStop>) -> Result<Reply, ReadStop>
+fn told(alloc: Global, text: Result<Vec<u8>, ExchangeStop>) -> Result<Reply, IoStop>
     ensures ok { IfOk result (λ r. MatchResult text
         (λ written. (r.status ≡ Status.Done) × (r.text ≡ written))
         (λ stop. IsFaultTold stop r.status r.text.items)) }
-    ensures read { result ≢ Err ReadStop.Failed }
+    ensures read { result ≢ Err IoStop.Failed }
 {
     match text {
         Ok(text) => Ok(Reply {
@@ -71,6 +71,6 @@ fn told(alloc: Global, text: Result<Vec<u8>, ExchangeStop>) -> Result<Reply, Rea
             text,
         }),
         Err(ExchangeStop::Fault { line, number }) => bad_input(alloc, line, number),
-        Err(ExchangeStop::NoMemory) => Err(ReadStop::NoMemory),
+        Err(ExchangeStop::NoMemory) => Err(IoStop::NoMemory),
     }
 }

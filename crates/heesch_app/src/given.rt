@@ -14,11 +14,11 @@ ghost use Rattle.heesch_app.specs.Outputs.{OfInput, IsBegunGivenAnswer, IsGivenA
 use crate::Status;
 use crate::bad_input::bad_input;
 use crate::reply::put_reply;
-use heesch_catalogue::{WriteStop, write_catalogue};
+use heesch_catalogue::write_catalogue;
 use heesch_cert::{Header, Limits};
 use heesch_given::{GivenStop, shapes_given};
 use heesch_grid::{Grid, GridName};
-use heesch_io::{Sink, Source};
+use heesch_io::{IoStop, Sink, Source};
 use heesch_kite::on_grid;
 use heesch_outers::write_outers;
 use heesch_pool::Gate;
@@ -109,7 +109,7 @@ fn write_shapes<G: Grid + Send + Sync, T: Threads + Sync, W: Sink, H: Gate + Syn
     workers: u32,
     gate: &H,
     sink: &mut W,
-) -> Result<(), WriteStop>
+) -> Result<(), IoStop>
     requires canonical { All (λ s. IsCanonicalListOf G.geometry s s) shapes.now }
     requires limits { AreLimits (limits_of text.now) }
     requires workers { (1 ≤ workers) × (workers ≤ 64) }
@@ -117,7 +117,7 @@ fn write_shapes<G: Grid + Send + Sync, T: Threads + Sync, W: Sink, H: Gate + Syn
         (WritesOne (IsTextOf G.geometry text.now shapes.now) (W.held sink.old) (W.held sink.new)) }
     ensures err { OnErr result
         (BeginsOne (IsBegunTextOf G.geometry text.now shapes.now) (W.held sink.old) (W.held sink.new)) }
-    ensures failed { result ≡ Err WriteStop.Failed → Rose (W.faults sink.old) (W.faults sink.new) }
+    ensures failed { result ≡ Err IoStop.Failed → Rose (W.faults sink.old) (W.faults sink.new) }
 {
     match text {
         GivenText::Catalogue { header } => {

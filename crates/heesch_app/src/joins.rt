@@ -7,9 +7,8 @@ ghost use Rattle.heesch_app.specs.Outputs.{OfInput, IsJoinAnswer};
 
 use crate::Status;
 use crate::bad_input::bad_input;
-use crate::reading::ReadStop;
 use crate::reply::Reply;
-use heesch_io::Source;
+use heesch_io::{IoStop, Source};
 use heesch_parts::InputStop;
 use heesch_share::joined_text;
 use heesch_stream::INPUT_MAX;
@@ -17,11 +16,11 @@ use std::alloc::Global;
 
 /// The catalogue text that the share texts are joined to which the source has left, or their first fault.
 #[tactic(auto, using(crate::proofs::Consumed::join_consumes))]
-pub fn join_reply<R: Source>(alloc: Global, source: &mut R) -> Result<Reply, ReadStop>
+pub fn join_reply<R: Source>(alloc: Global, source: &mut R) -> Result<Reply, IoStop>
     ensures ok { IfOk result (λ r. OfInput (R.left source.old) (IsJoinAnswer r.status r.text.items)) }
     ensures ended { IfOk result (λ r. r.status ≡ Status.Done → IsAtEnd (R.left source.new)) }
     ensures consumed { ConsumesSome (R.left source.old) (R.left source.new) }
-    ensures failed { result ≡ Err ReadStop.Failed → Rose (R.faults source.old) (R.faults source.new) }
+    ensures failed { result ≡ Err IoStop.Failed → Rose (R.faults source.old) (R.faults source.new) }
 {
     match joined_text::<R, INPUT_MAX>(alloc, source) {
         Ok(text) => Ok(Reply {
@@ -29,7 +28,7 @@ pub fn join_reply<R: Source>(alloc: Global, source: &mut R) -> Result<Reply, Rea
             text,
         }),
         Err(InputStop::Fault { line, fault }) => bad_input(alloc, line, fault),
-        Err(InputStop::Failed) => Err(ReadStop::Failed),
-        Err(InputStop::NoMemory) => Err(ReadStop::NoMemory),
+        Err(InputStop::Failed) => Err(IoStop::Failed),
+        Err(InputStop::NoMemory) => Err(IoStop::NoMemory),
     }
 }

@@ -25,12 +25,11 @@ use crate::exchanges::{formula_reply, model_reply};
 use crate::joins::join_reply;
 use crate::listing::listing;
 use crate::outers::write_outer_numbers;
-use crate::reading::ReadStop;
 use crate::reply::{Reply, put_reply};
 use crate::tables::table_reply;
 use crate::tilings::plain_listing;
 use heesch_cert::{Header, Subject};
-use heesch_io::{Sink, Source};
+use heesch_io::{IoStop, Sink, Source};
 use heesch_pool::Gate;
 use heesch_sample::sample;
 use heesch_share::write_share;
@@ -196,13 +195,13 @@ fn reply<T: Threads + Sync, R: Source, H: Gate + Sync>(
     request: Request,
     source: &mut R,
     gate: &H,
-) -> Result<Reply, ReadStop>
+) -> Result<Reply, IoStop>
     requires range { IsInRange request }
     requires text { HasOneText request }
     ensures ok { IfOk result (λ r. IsOutput request (R.left source.old) r.status r.text.items) }
     ensures ended { IfOk result (λ r. r.status ≡ Status.Done → ReadsToEnd request → IsAtEnd (R.left source.new)) }
     ensures consumed { ConsumesSome (R.left source.old) (R.left source.new) }
-    ensures failed { result ≡ Err ReadStop.Failed → Reads request × Rose (R.faults source.old) (R.faults source.new) }
+    ensures failed { result ≡ Err IoStop.Failed → Reads request × Rose (R.faults source.old) (R.faults source.new) }
     ensures unread { ¬ Reads request → source.new ≡ source.old }
 {
     match request {

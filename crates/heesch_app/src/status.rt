@@ -2,7 +2,7 @@ ghost use Rattle.std.specs.Prelude.{◌≡◌};
 ghost use Rattle.heesch_app.specs.Endings.{written_status};
 ghost use Rattle.heesch_app.specs.Statuses.{status_number};
 
-use heesch_catalogue::WriteStop;
+use heesch_io::IoStop;
 
 /// How a run ended. The program ends with this number.
 #[derive(Clone, Copy, Debug, PartialEq, Eq)]
@@ -32,13 +32,13 @@ impl Status {
     }
 
     /// How a run ended that wrote a catalogue, or stopped.
-    pub(crate) fn of_writing(written: Result<(), WriteStop>) -> Status
+    pub(crate) fn of_writing(written: Result<(), IoStop>) -> Status
         ensures { result ≡ written_status written }
     {
         match written {
             Ok(()) => Status::Done,
-            Err(WriteStop::Failed) => Status::WriteFault,
-            Err(WriteStop::NoMemory) => Status::NoMemory,
+            Err(IoStop::Failed) => Status::WriteFault,
+            Err(IoStop::NoMemory) => Status::NoMemory,
         }
     }
 }

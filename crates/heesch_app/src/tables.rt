@@ -6,26 +6,23 @@ ghost use Rattle.heesch_app.specs.Outputs.{IsTableAnswer};
 
 use crate::Status;
 use crate::bad_input::bad_input;
-use crate::reading::ReadStop;
 use crate::reply::Reply;
-use heesch_io::Source;
-use heesch_tabulate::{TableStop, Tabulated, tabulate};
+use heesch_io::{IoStop, Source};
+use heesch_tabulate::{Tabulated, tabulate};
 use std::alloc::Global;
 
 /// The tally of the catalogue that the source's bytes are, or their first fault.
 #[tactic(auto, using(crate::proofs::Consumed::tabulate_consumes))]
-pub fn table_reply<R: Source>(alloc: Global, source: &mut R) -> Result<Reply, ReadStop>
+pub fn table_reply<R: Source>(alloc: Global, source: &mut R) -> Result<Reply, IoStop>
     ensures ok { IfOk result (λ r. IsTableAnswer (R.left source.old) r.status r.text.items) }
     ensures consumed { ConsumesSome (R.left source.old) (R.left source.new) }
-    ensures failed { result ≡ Err ReadStop.Failed → Rose (R.faults source.old) (R.faults source.new) }
+    ensures failed { result ≡ Err IoStop.Failed → Rose (R.faults source.old) (R.faults source.new) }
 {
-    match tabulate(alloc, source) {
-        Ok(Tabulated::Tally { text }) => Ok(Reply {
+    match tabulate(alloc, source)? {
+        Tabulated::Tally { text } => Ok(Reply {
             status: Status::Done,
             text,
         }),
-        Ok(Tabulated::Fault { line, number }) => bad_input(alloc, line, number),
-        Err(TableStop::Failed) => Err(ReadStop::Failed),
-        Err(TableStop::NoMemory) => Err(ReadStop::NoMemory),
+        Tabulated::Fault { line, number } => bad_input(alloc, line, number),
     }
 }

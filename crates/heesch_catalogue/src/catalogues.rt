@@ -10,11 +10,11 @@ ghost use Rattle.heesch_catalogue.specs.Catalogues.{IsCatalogue, IsCatalogueOfSi
 ghost use Rattle.heesch_catalogue.specs.Rounds.{BeginsOne, WritesOne};
 
 use crate::entries::EntryText;
-use crate::rounds::{WriteStop, write_texts};
+use crate::rounds::write_texts;
 use crate::sizes::write_texts_of_size;
 use heesch_cert::Header;
 use heesch_grid::Grid;
-use heesch_io::{NoMemory, Sink};
+use heesch_io::{IoStop, NoMemory, Sink};
 use heesch_pool::Gate;
 use heesch_shape::Shape;
 use heesch_text::write_header;
@@ -34,7 +34,7 @@ pub fn write_catalogue_of_size<T: Threads + Sync, W: Sink, H: Gate + Sync>(
     workers: u32,
     gate: &H,
     sink: &mut W,
-) -> Result<(), WriteStop>
+) -> Result<(), IoStop>
     requires size { (1 ≤ n) × (n ≤ 31) }
     requires limits { AreLimits header.now.limits }
     requires workers { (1 ≤ workers) × (workers ≤ 64) }
@@ -44,7 +44,7 @@ pub fn write_catalogue_of_size<T: Threads + Sync, W: Sink, H: Gate + Sync>(
     ensures err { OnErr result
         (BeginsOne (IsBegunCatalogueOfSize (geometry_of header.now.grid) header.now n)
         (W.held sink.old) (W.held sink.new)) }
-    ensures failed { result ≡ Err WriteStop.Failed → Rose (W.faults sink.old) (W.faults sink.new) }
+    ensures failed { result ≡ Err IoStop.Failed → Rose (W.faults sink.old) (W.faults sink.new) }
     ensures later { W.faults sink.old ≤ W.faults sink.new }
 {
     let head = head_of(alloc, header)?;
@@ -80,7 +80,7 @@ pub fn write_catalogue<G: Grid + Send + Sync, T: Threads + Sync, W: Sink, H: Gat
     workers: u32,
     gate: &H,
     sink: &mut W,
-) -> Result<(), WriteStop>
+) -> Result<(), IoStop>
     requires canonical { All (λ s. IsCanonicalListOf G.geometry s s) shapes.now }
     requires limits { AreLimits header.now.limits }
     requires workers { (1 ≤ workers) × (workers ≤ 64) }
@@ -88,7 +88,7 @@ pub fn write_catalogue<G: Grid + Send + Sync, T: Threads + Sync, W: Sink, H: Gat
         (WritesOne (IsCatalogue G.geometry header.now shapes.now) (W.held sink.old) (W.held sink.new)) }
     ensures err { OnErr result
         (BeginsOne (IsBegunCatalogue G.geometry header.now shapes.now) (W.held sink.old) (W.held sink.new)) }
-    ensures failed { result ≡ Err WriteStop.Failed → Rose (W.faults sink.old) (W.faults sink.new) }
+    ensures failed { result ≡ Err IoStop.Failed → Rose (W.faults sink.old) (W.faults sink.new) }
     ensures later { W.faults sink.old ≤ W.faults sink.new }
 {
     let head = head_of(alloc, header)?;

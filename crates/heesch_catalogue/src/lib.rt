@@ -11,5 +11,5 @@ mod sizes;
 pub use catalogues::{write_catalogue, write_catalogue_of_size};
 pub use entries::{EntryText, canonical_of};
 pub use items::{ShapeText, items_between};
-pub use rounds::{ROUND, WriteStop, write_texts};
+pub use rounds::{ROUND, write_texts};
 pub use sizes::write_texts_of_size;

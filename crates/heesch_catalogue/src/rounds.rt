@@ -9,7 +9,7 @@ ghost use Rattle.heesch_catalogue.specs.Rounds.{IsBegunText, IsWholeText};
 
 use crate::items::{ShapeText, append_items, items_between};
 use heesch_grid::Grid;
-use heesch_io::{Failed, NoMemory, Sink, put};
+use heesch_io::{IoStop, Sink, put};
 use heesch_pool::Gate;
 use heesch_shape::Shape;
 use heesch_text::write_end;
@@ -18,37 +18,6 @@ use std::thread::Threads;
 
 /// How many shapes are made into items before their texts are written.
 pub const ROUND: u32 = 256;
-
-/// Why a text was not written to its end.
-#[derive(Clone, Copy, Debug, PartialEq, Eq)]
-pub enum WriteStop {
-    /// The sink failed.
-    Failed,
-    /// Memory was refused.
-    NoMemory,
-}
-
-impl From<Failed> for WriteStop {
-    ghost use Rattle.heesch_catalogue.specs.declared.rounds.WriteStop.TheVariants as stops;
-    ghost use Rattle.std.specs.Prelude.{◌≡◌};
-
-    ghost from_gives = { λ _ e. e ≡ stops.Failed };
-
-    fn from(_error: Failed) -> WriteStop {
-        WriteStop::Failed
-    }
-}
-
-impl From<NoMemory> for WriteStop {
-    ghost use Rattle.heesch_catalogue.specs.declared.rounds.WriteStop.TheVariants as stops;
-    ghost use Rattle.std.specs.Prelude.{◌≡◌};
-
-    ghost from_gives = { λ _ e. e ≡ stops.NoMemory };
-
-    fn from(_error: NoMemory) -> WriteStop {
-        WriteStop::NoMemory
-    }
-}
 
 /// Writes the head, then the texts of the shapes, after each 256 of them are made, in the shapes' order, then the end's
 /// text with their number, each by one `put`. There are 1 to 64 workers, and the gate is told of each shape's number in
@@ -72,7 +41,7 @@ pub fn write_texts<
     workers: u32,
     gate: &H,
     sink: &mut W,
-) -> Result<(), WriteStop>
+) -> Result<(), IoStop>
     requires accepted { IsTrue (R.accepts texts.now) }
     requires workers { (1 ≤ workers) × (workers ≤ 64) }
     ensures ok { OnOk result
@@ -81,11 +50,11 @@ pub fn write_texts<
     ensures err { OnErr result
         (BeginsOne (IsBegunText head.now (R.is_of texts.now) (R.is_text texts.now) G.geometry shapes.now)
         (W.held sink.old) (W.held sink.new)) }
-    ensures failed { result ≡ Err WriteStop.Failed → Rose (W.faults sink.old) (W.faults sink.new) }
+    ensures failed { result ≡ Err IoStop.Failed → Rose (W.faults sink.old) (W.faults sink.new) }
     ensures later { W.faults sink.old ≤ W.faults sink.new }
 {
     let Ok(count) = u32::try_from(shapes.len()) else {
-        return Err(WriteStop::NoMemory);
+        return Err(IoStop::NoMemory);
     };
     put_text(head, sink)?;
     write_rounds(rt, alloc, texts, shapes, count, workers, gate, sink)?;
@@ -108,7 +77,7 @@ fn write_rounds<
     workers: u32,
     gate: &H,
     sink: &mut W,
-) -> Result<(), WriteStop>
+) -> Result<(), IoStop>
     requires accepted { IsTrue (R.accepts texts.now) }
     requires count { count ≡ length shapes.now }
     requires workers { (1 ≤ workers) × (workers ≤ 64) }
@@ -118,7 +87,7 @@ fn write_rounds<
     ensures err { OnErr result
         (BeginsOne (AreBegunTexts (IsItemText (R.is_of texts.now G.geometry) (R.is_text texts.now)) shapes.now)
         (W.held sink.old) (W.held sink.new)) }
-    ensures failed { result ≡ Err WriteStop.Failed → Rose (W.faults sink.old) (W.faults sink.new) }
+    ensures failed { result ≡ Err IoStop.Failed → Rose (W.faults sink.old) (W.faults sink.new) }
     ensures later { W.faults sink.old ≤ W.faults sink.new }
 {
     let mut from = 0;
@@ -137,12 +106,12 @@ fn put_items<R: ShapeText, W: Sink>(
     texts: &R,
     items: &[R::Item],
     sink: &mut W,
-) -> Result<(), WriteStop>
+) -> Result<(), IoStop>
     ensures ok { OnOk result
         (WritesOne (AreTexts (R.is_text texts.now) items.now) (W.held sink.old) (W.held sink.new)) }
     ensures err { OnErr result
         (BeginsOne (AreTexts (R.is_text texts.now) items.now) (W.held sink.old) (W.held sink.new)) }
-    ensures failed { result ≡ Err WriteStop.Failed → Rose (W.faults sink.old) (W.faults sink.new) }
+    ensures failed { result ≡ Err IoStop.Failed → Rose (W.faults sink.old) (W.faults sink.new) }
     ensures later { W.faults sink.old ≤ W.faults sink.new }
 {
     let mut text = Vec::new(alloc);
@@ -152,10 +121,10 @@ fn put_items<R: ShapeText, W: Sink>(
 }
 
 /// Writes the end's text, of so many shapes.
-fn put_end<W: Sink>(alloc: Global, count: u32, sink: &mut W) -> Result<(), WriteStop>
+fn put_end<W: Sink>(alloc: Global, count: u32, sink: &mut W) -> Result<(), IoStop>
     ensures ok { OnOk result (Appends (W.held sink.old) (W.held sink.new) (end_text count)) }
     ensures err { OnErr result (AppendsPrefix (W.held sink.old) (W.held sink.new) (end_text count)) }
-    ensures failed { result ≡ Err WriteStop.Failed → Rose (W.faults sink.old) (W.faults sink.new) }
+    ensures failed { result ≡ Err IoStop.Failed → Rose (W.faults sink.old) (W.faults sink.new) }
     ensures later { W.faults sink.old ≤ W.faults sink.new }
 {
     let mut text = Vec::new(alloc);
@@ -164,10 +133,10 @@ fn put_end<W: Sink>(alloc: Global, count: u32, sink: &mut W) -> Result<(), Write
 }
 
 /// Writes a text by one `put`.
-fn put_text<W: Sink>(text: &[u8], sink: &mut W) -> Result<(), WriteStop>
+fn put_text<W: Sink>(text: &[u8], sink: &mut W) -> Result<(), IoStop>
     ensures ok { OnOk result (Appends (W.held sink.old) (W.held sink.new) text.now) }
     ensures err { OnErr result (AppendsPrefix (W.held sink.old) (W.held sink.new) text.now) }
-    ensures failed { result ≡ Err WriteStop.Failed → Rose (W.faults sink.old) (W.faults sink.new) }
+    ensures failed { result ≡ Err IoStop.Failed → Rose (W.faults sink.old) (W.faults sink.new) }
     ensures later { W.faults sink.old ≤ W.faults sink.new }
 {
     put(sink, text)?;

@@ -5,9 +5,9 @@ ghost use Rattle.heesch_grid.specs.Names.{geometry_of};
 ghost use Rattle.heesch_catalogue.specs.Rounds.{BeginsOne, IsBegunText, IsOfSize, IsWholeText, WritesOne};
 
 use crate::items::ShapeText;
-use crate::rounds::{WriteStop, write_texts};
+use crate::rounds::write_texts;
 use heesch_grid::{Grid, GridName};
-use heesch_io::Sink;
+use heesch_io::{IoStop, Sink};
 use heesch_kite::on_grid;
 use heesch_listing::all_shapes;
 use heesch_pool::Gate;
@@ -29,7 +29,7 @@ pub fn write_texts_of_size<R: ShapeText + Sync, T: Threads + Sync, W: Sink, H: G
     workers: u32,
     gate: &H,
     sink: &mut W,
-) -> Result<(), WriteStop>
+) -> Result<(), IoStop>
     requires accepted { IsTrue (R.accepts texts.now) }
     requires size { (1 ≤ n) × (n ≤ 31) }
     requires workers { (1 ≤ workers) × (workers ≤ 64) }
@@ -39,7 +39,7 @@ pub fn write_texts_of_size<R: ShapeText + Sync, T: Threads + Sync, W: Sink, H: G
     ensures err { OnErr result
         (BeginsOne (IsOfSize (IsBegunText head.now (R.is_of texts.now) (R.is_text texts.now)) (geometry_of grid) n)
         (W.held sink.old) (W.held sink.new)) }
-    ensures failed { result ≡ Err WriteStop.Failed → Rose (W.faults sink.old) (W.faults sink.new) }
+    ensures failed { result ≡ Err IoStop.Failed → Rose (W.faults sink.old) (W.faults sink.new) }
     ensures later { W.faults sink.old ≤ W.faults sink.new }
 {
     on_grid!(grid, write_on<R, T, W, H>(rt, alloc, head, texts, n, workers, gate, sink))
@@ -55,7 +55,7 @@ fn write_on<G: Grid + Send + Sync, R: ShapeText + Sync, T: Threads + Sync, W: Si
     workers: u32,
     gate: &H,
     sink: &mut W,
-) -> Result<(), WriteStop>
+) -> Result<(), IoStop>
     requires accepted { IsTrue (R.accepts texts.now) }
     requires size { (1 ≤ n) × (n ≤ 31) }
     requires workers { (1 ≤ workers) × (workers ≤ 64) }
@@ -65,7 +65,7 @@ fn write_on<G: Grid + Send + Sync, R: ShapeText + Sync, T: Threads + Sync, W: Si
     ensures err { OnErr result
         (BeginsOne (IsOfSize (IsBegunText head.now (R.is_of texts.now) (R.is_text texts.now)) G.geometry n)
         (W.held sink.old) (W.held sink.new)) }
-    ensures failed { result ≡ Err WriteStop.Failed → Rose (W.faults sink.old) (W.faults sink.new) }
+    ensures failed { result ≡ Err IoStop.Failed → Rose (W.faults sink.old) (W.faults sink.new) }
     ensures later { W.faults sink.old ≤ W.faults sink.new }
 {
     let shapes = all_shapes::<G, T, H>(rt, alloc, n, workers, gate)?;

@@ -17,7 +17,7 @@ use Rattle.heesch_io.specs.Input.{IsAllOf}
 use Rattle.heesch_stream.specs.Taking.{Streamed, Begins, HasRead, IsCatalogue, HasFault, HasTooMany, piece_max}
 use Rattle.heesch_check.specs.declared.answers.Checked.{Checked}
 use Rattle.heesch_check.specs.declared.answers.Checked.TheVariants as answers
-use Rattle.heesch_check.specs.declared.answers.CheckStop.{CheckStop}
+use Rattle.heesch_io.specs.declared.fault.IoStop.{IoStop}
 use Rattle.heesch_check.specs.declared.reading.Reading.{Reading}
 use Rattle.heesch_check.specs.declared.reading.Reading.TheVariants as readings
 use Rattle.heesch_check.specs.Answers.{IsChecked}
@@ -122,7 +122,7 @@ pub record IsOpened (now : Option (List ℕ)) (header : Header) (all : List Item
   pub underway : IsUnderway now all s reading
 
 -- an answer is that of the whole input
-abbrev pub IsAnswered : Option (List ℕ) → Result Checked CheckStop → Type 0
+abbrev pub IsAnswered : Option (List ℕ) → Result Checked IoStop → Type 0
 IsAnswered first result = IfOk result (λ c. (input : List ℕ) × IsAllOf first input × IsChecked input c)
 
 -- the judgement of a batch of items, and of how far reading came with it

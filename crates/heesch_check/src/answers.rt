@@ -1,12 +1,10 @@
 //! What a check answers, and its line.
 ghost use Rattle.std.specs.Prelude.{◌≡◌, ◌++◌, codes, decimal, length, take, OnOk, OnErr};
-ghost use Rattle.heesch_check.specs.declared.answers.CheckStop.TheVariants as stops;
 ghost use Rattle.heesch_check.specs.Answers.{checked_text};
 
 use heesch_io::NoMemory;
 use heesch_text::fields::{append_byte, append_bytes};
 use itoa::Buffer;
-use thiserror::Error;
 
 /// What bytes are.
 #[derive(Clone, Copy, Debug, PartialEq, Eq)]
@@ -21,25 +19,6 @@ pub enum Checked {
     InvalidEnd,
     /// More bytes than are read, which decide no invalid part. The first byte too many is on this line.
     TooLong { line: u64 },
-}
-
-/// Why a check gave no answer.
-#[derive(Clone, Copy, Debug, PartialEq, Eq, Error)]
-pub enum CheckStop {
-    /// The source failed.
-    #[error("the input failed")]
-    Failed,
-    /// Memory was refused.
-    #[error("out of memory")]
-    NoMemory,
-}
-
-impl From<NoMemory> for CheckStop {
-    ghost from_gives = { λ _ e. e ≡ stops.NoMemory };
-
-    fn from(_error: NoMemory) -> CheckStop {
-        CheckStop::NoMemory
-    }
 }
 
 /// Appends the line of an answer: `valid COUNT`, `invalid header`, `invalid entry I` or `invalid end`, and nothing for an

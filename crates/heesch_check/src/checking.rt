@@ -18,12 +18,12 @@ ghost use Rattle.heesch_check.specs.Reading.{
   ReadsNoFurther,
 };
 
-use crate::answers::{CheckStop, Checked};
+use crate::answers::Checked;
 use crate::judging::{Judge, fault_behind};
 use crate::reading::{Reading, gather, read_first};
 use heesch_cert::{Header, Subject};
 use heesch_grid::Grid;
-use heesch_io::{NoMemory, Seq, Source};
+use heesch_io::{IoStop, NoMemory, Seq, Source};
 use heesch_kite::on_grid;
 use heesch_listing::all_shapes;
 use heesch_pool::Gate;
@@ -54,11 +54,11 @@ pub fn check<T: Threads + Sync, R: Source, H: Gate + Sync>(
     source: &mut R,
     workers: u32,
     gate: &H,
-) -> Result<Checked, CheckStop>
+) -> Result<Checked, IoStop>
     requires { (1 ≤ workers) × (workers ≤ 64) }
     ensures ok { IfOk result (λ c. (input : List ℕ) × IsAllOf (R.left source.old) input × IsChecked input c) }
     ensures no_further { ReadsNoFurther (R.left source.old) (R.left source.new) }
-    ensures failed { result ≡ Err CheckStop.Failed → Rose (R.faults source.old) (R.faults source.new) }
+    ensures failed { result ≡ Err IoStop.Failed → Rose (R.faults source.old) (R.faults source.new) }
     ensures later { R.faults source.old ≤ R.faults source.new }
 {
     let mut stream = Stream::new(alloc);
@@ -126,12 +126,12 @@ fn check_named<T: Threads + Sync, R: Source, H: Gate + Sync>(
     opening: Opening,
     workers: u32,
     gate: &H,
-) -> Result<Checked, CheckStop>
+) -> Result<Checked, IoStop>
     requires opened { IsOpened (R.left source.old) opening.header opening.items opening.stream opening.reading }
     requires workers { (1 ≤ workers) × (workers ≤ 64) }
     ensures ok { (first : Option (List ℕ)) → IsReading first (R.left source.old) opening.items opening.stream opening.reading → IsAnswered first result }
     ensures no_further { (first : Option (List ℕ)) → IsReading first (R.left source.old) opening.items opening.stream opening.reading → ReadsNoFurther first (R.left source.old) → ReadsNoFurther first (R.left source.new) }
-    ensures failed { result ≡ Err CheckStop.Failed → Rose (R.faults source.old) (R.faults source.new) }
+    ensures failed { result ≡ Err IoStop.Failed → Rose (R.faults source.old) (R.faults source.new) }
     ensures later { R.faults source.old ≤ R.faults source.new }
 {
     on_grid!(opening.header.grid, check_under<T, R, H>(rt, alloc, source, opening, workers, gate))
@@ -145,13 +145,13 @@ fn check_under<G: Grid + Send + Sync, T: Threads + Sync, R: Source, H: Gate + Sy
     opening: Opening,
     workers: u32,
     gate: &H,
-) -> Result<Checked, CheckStop>
+) -> Result<Checked, IoStop>
     requires grid { geometry_of opening.header.grid ≡ G.geometry }
     requires opened { IsOpened (R.left source.old) opening.header opening.items opening.stream opening.reading }
     requires workers { (1 ≤ workers) × (workers ≤ 64) }
     ensures ok { (first : Option (List ℕ)) → IsReading first (R.left source.old) opening.items opening.stream opening.reading → IsAnswered first result }
     ensures no_further { (first : Option (List ℕ)) → IsReading first (R.left source.old) opening.items opening.stream opening.reading → ReadsNoFurther first (R.left source.old) → ReadsNoFurther first (R.left source.new) }
-    ensures failed { result ≡ Err CheckStop.Failed → Rose (R.faults source.old) (R.faults source.new) }
+    ensures failed { result ≡ Err IoStop.Failed → Rose (R.faults source.old) (R.faults source.new) }
     ensures later { R.faults source.old ≤ R.faults source.new }
 {
     let Opening {
@@ -213,7 +213,7 @@ fn check_behind<G: Grid + Send + Sync, T: Threads + Sync, R: Source, H: Gate + S
     reading: Reading,
     workers: u32,
     gate: &H,
-) -> Result<Checked, CheckStop>
+) -> Result<Checked, IoStop>
     requires grid { geometry_of judge.header.grid ≡ G.geometry }
     requires shapes { HasShapes judge.header judge.header.subject judge.shapes }
     requires limits { AreLimits judge.header.limits }
@@ -224,7 +224,7 @@ fn check_behind<G: Grid + Send + Sync, T: Threads + Sync, R: Source, H: Gate + S
     requires underway { IsUnderway (R.left source.old) items stream.old reading }
     ensures ok { (first : Option (List ℕ)) → IsReading first (R.left source.old) items stream.old reading → IsAnswered first result }
     ensures no_further { (first : Option (List ℕ)) → IsReading first (R.left source.old) items stream.old reading → ReadsNoFurther first (R.left source.old) → ReadsNoFurther first (R.left source.new) }
-    ensures failed { result ≡ Err CheckStop.Failed → Rose (R.faults source.old) (R.faults source.new) }
+    ensures failed { result ≡ Err IoStop.Failed → Rose (R.faults source.old) (R.faults source.new) }
     ensures later { R.faults source.old ≤ R.faults source.new }
 {
     let first = items.as_slice();

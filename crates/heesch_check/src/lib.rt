@@ -11,5 +11,5 @@ mod rounds;
 #[cfg(test)]
 mod tests;
 
-pub use answers::{CheckStop, Checked, write_checked};
+pub use answers::{Checked, write_checked};
 pub use checking::check;

@@ -5,8 +5,7 @@ ghost use Rattle.heesch_reader.specs.declared.item.Item.{Item as ItemOf};
 ghost use Rattle.heesch_check.specs.Reading.{Reads, Gathers, FirstReads, MayRead, MayGather, IsReading, ReadsNoFurther, StopsGathering};
 ghost use Rattle.heesch_stream.specs.Taking.{HasRead, TakesOnePiece};
 
-use crate::answers::CheckStop;
-use heesch_io::{Seq, Source};
+use heesch_io::{IoStop, Seq, Source};
 use heesch_reader::{AtHand, Item, Part};
 use heesch_stream::{Stream, StreamStop, Taken};
 
@@ -28,10 +27,10 @@ pub(crate) fn read<R: Source>(
     stream: &mut Stream,
     source: &mut R,
     items: &mut Seq<Item>,
-) -> Result<Reading, CheckStop>
+) -> Result<Reading, IoStop>
     ensures ok { IfOk result (Reads (R.left source.old) (R.left source.new) stream.old stream.new items.old items.new) }
     ensures one_piece { TakesOnePiece (R.left source.old) (R.left source.new) }
-    ensures failed { result ≡ Err CheckStop.Failed → Rose (R.faults source.old) (R.faults source.new) }
+    ensures failed { result ≡ Err IoStop.Failed → Rose (R.faults source.old) (R.faults source.new) }
     ensures later { R.faults source.old ≤ R.faults source.new }
 {
     match stream.take(source, items) {
@@ -42,8 +41,8 @@ pub(crate) fn read<R: Source>(
             line,
             ending: stream.at_hand(),
         }),
-        Err(StreamStop::Failed) => Err(CheckStop::Failed),
-        Err(StreamStop::NoMemory) => Err(CheckStop::NoMemory),
+        Err(StreamStop::Failed) => Err(IoStop::Failed),
+        Err(StreamStop::NoMemory) => Err(IoStop::NoMemory),
     }
 }
 
@@ -54,11 +53,11 @@ pub(crate) fn gather<R: Source>(
     items: &mut Seq<Item>,
     came_to: Reading,
     enough: usize,
-) -> Result<Reading, CheckStop>
+) -> Result<Reading, IoStop>
     requires may { MayGather (R.left source.old) stream.old items.old came_to }
     ensures ok { IfOk result (Gathers (R.left source.old) (R.left source.new) stream.old stream.new items.old items.new enough came_to) }
     ensures no_further { (first : Option (List ℕ)) (found : List ItemOf) → IsReading first (R.left source.old) (found ++ items.old) stream.old came_to → StopsGathering first (R.left source.old) (R.left source.new) found items.old enough }
-    ensures failed { result ≡ Err CheckStop.Failed → Rose (R.faults source.old) (R.faults source.new) }
+    ensures failed { result ≡ Err IoStop.Failed → Rose (R.faults source.old) (R.faults source.new) }
     ensures later { R.faults source.old ≤ R.faults source.new }
 {
     let Reading::More = came_to else {
@@ -78,13 +77,13 @@ pub(crate) fn read_first<R: Source>(
     stream: &mut Stream,
     source: &mut R,
     items: &mut Seq<Item>,
-) -> Result<Reading, CheckStop>
+) -> Result<Reading, IoStop>
     requires none { items.old ≡ [] }
     requires may { MayRead (R.left source.old) stream.old }
     ensures ok { IfOk result (FirstReads (R.left source.old) (R.left source.new) stream.old stream.new items.new) }
     ensures some { IfOk result (λ reading. reading ≡ Reading.More → items.new ≢ []) }
     ensures no_further { (first : Option (List ℕ)) → HasRead first (R.left source.old) [] stream.old → ReadsNoFurther first (R.left source.new) }
-    ensures failed { result ≡ Err CheckStop.Failed → Rose (R.faults source.old) (R.faults source.new) }
+    ensures failed { result ≡ Err IoStop.Failed → Rose (R.faults source.old) (R.faults source.new) }
     ensures later { R.faults source.old ≤ R.faults source.new }
 {
     'pieces: loop {

@@ -1,8 +1,8 @@
 //! Worked texts, each with its answer.
 ghost use Rattle.std.specs.Prelude.{◌≤◌};
 
-use crate::{CheckStop, Checked, check, write_checked};
-use heesch_io::{MemorySource, NoMemory};
+use crate::{Checked, check, write_checked};
+use heesch_io::{IoStop, MemorySource, NoMemory};
 use heesch_pool::Open;
 use std::alloc::Global;
 use std::test::Fail;
@@ -23,7 +23,7 @@ const BRIEF: &str = "shape 1,1\nverdict tiles halfturn domain 2 classes 1\n";
 const GIVEN: &str = "heesch 1 iamond given turns 20000 levels 3 domain 4 size 60000000\n";
 
 /// The answer of a text that comes in pieces of at most 5 bytes.
-fn answer_of<T: Threads + Sync>(rt: &T, alloc: Global, text: &str) -> Result<Checked, CheckStop> {
+fn answer_of<T: Threads + Sync>(rt: &T, alloc: Global, text: &str) -> Result<Checked, IoStop> {
     answer_by(rt, alloc, text, 1)
 }
 
@@ -33,11 +33,11 @@ fn answer_by<T: Threads + Sync>(
     alloc: Global,
     text: &str,
     workers: u32,
-) -> Result<Checked, CheckStop>
+) -> Result<Checked, IoStop>
     requires { (1 ≤ workers) × (workers ≤ 64) }
 {
     let Ok(bytes) = text.as_bytes().to_vec(alloc) else {
-        return Err(CheckStop::NoMemory);
+        return Err(IoStop::NoMemory);
     };
     let mut source = MemorySource::new(bytes, 5, Vec::new(alloc));
     check(rt, alloc, &mut source, workers, &Open)
@@ -161,7 +161,7 @@ fn a_failing_source_is_told(rt: HostRuntime) -> Result<(), Fail> {
     let mut source = MemorySource::new(HEADER.as_bytes().to_vec(alloc)?, 5, fails);
     assert_eq!(rt;
         check(&rt, alloc, &mut source, 1, &Open),
-        Err(CheckStop::Failed)
+        Err(IoStop::Failed)
     );
     Ok(())
 }

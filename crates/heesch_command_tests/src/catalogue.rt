@@ -1,9 +1,9 @@
 //! How many calls a catalogue takes, and what stands written where one fails.
-use heesch_catalogue::{WriteStop, write_catalogue_of_size};
+use heesch_catalogue::write_catalogue_of_size;
 use heesch_cert::{Header, Limits, Subject};
 use heesch_cnf::Version;
 use heesch_grid::GridName;
-use heesch_io::MemorySink;
+use heesch_io::{IoStop, MemorySink};
 use heesch_pool::Open;
 use std::test::Fail;
 
@@ -54,7 +54,7 @@ fn a_sink_that_fails_holds_what_was_written_before(rt: HostRuntime) -> Result<()
     let alloc = rt.alloc();
     let mut sink = MemorySink::new(alloc, 1000, 1000, [2].to_vec(alloc)?)?;
     let written = write_catalogue_of_size(&rt, alloc, &TETROMINOES, 4, 1, &Open, &mut sink);
-    assert_eq!(rt; written, Err(WriteStop::Failed));
+    assert_eq!(rt; written, Err(IoStop::Failed));
     assert_eq!(rt; sink.held.as_slice(), HEADER_TEXT);
     let mut full = MemorySink::new(
         alloc,
@@ -63,7 +63,7 @@ fn a_sink_that_fails_holds_what_was_written_before(rt: HostRuntime) -> Result<()
         Vec::new(alloc),
     )?;
     let written = write_catalogue_of_size(&rt, alloc, &TETROMINOES, 4, 1, &Open, &mut full);
-    assert_eq!(rt; written, Err(WriteStop::Failed));
+    assert_eq!(rt; written, Err(IoStop::Failed));
     assert_eq!(rt; full.held.len(), HEADER_TEXT.len() + ENTRIES_TEXT.len());
     Ok(())
 }

@@ -1,9 +1,8 @@
 //! What an outer text has, how many calls it takes, and what stands written where one fails.
-use heesch_catalogue::WriteStop;
 use heesch_cert::Limits;
 use heesch_cnf::Version;
 use heesch_grid::GridName;
-use heesch_io::MemorySink;
+use heesch_io::{IoStop, MemorySink};
 use heesch_outers::write_outers_of_size;
 use heesch_pool::Open;
 use std::test::Fail;
@@ -44,7 +43,7 @@ fn a_sink_that_fails_holds_the_records_before(rt: HostRuntime) -> Result<(), Fai
     let mut sink = MemorySink::new(alloc, 1000, 1000, [2].to_vec(alloc)?)?;
     let grid = GridName::Iamond;
     let written = write_outers_of_size(&rt, alloc, grid, 1, NARROW, 1, &Open, &mut sink);
-    assert_eq!(rt; written, Err(WriteStop::Failed));
+    assert_eq!(rt; written, Err(IoStop::Failed));
     assert_eq!(rt; sink.held.as_slice(), RECORD);
     Ok(())
 }

@@ -8,10 +8,10 @@ ghost use Rattle.heesch_catalogue.specs.Rounds.{BeginsOne, WritesOne};
 ghost use Rattle.heesch_outers.specs.Outers.{IsBegunOuters, IsBegunOutersOfSize, IsOuters, IsOutersOfSize};
 
 use crate::answers::OuterText;
-use heesch_catalogue::{WriteStop, write_texts, write_texts_of_size};
+use heesch_catalogue::{write_texts, write_texts_of_size};
 use heesch_cert::Limits;
 use heesch_grid::{Grid, GridName};
-use heesch_io::Sink;
+use heesch_io::{IoStop, Sink};
 use heesch_pool::Gate;
 use heesch_shape::Shape;
 use std::alloc::Global;
@@ -31,7 +31,7 @@ pub fn write_outers_of_size<T: Threads + Sync, W: Sink, H: Gate + Sync>(
     workers: u32,
     gate: &H,
     sink: &mut W,
-) -> Result<(), WriteStop>
+) -> Result<(), IoStop>
     requires size { (1 ≤ n) × (n ≤ 31) }
     requires limits { AreLimits limits }
     requires workers { (1 ≤ workers) × (workers ≤ 64) }
@@ -39,7 +39,7 @@ pub fn write_outers_of_size<T: Threads + Sync, W: Sink, H: Gate + Sync>(
         (WritesOne (IsOutersOfSize (geometry_of grid) limits n) (W.held sink.old) (W.held sink.new)) }
     ensures err { OnErr result
         (BeginsOne (IsBegunOutersOfSize (geometry_of grid) limits n) (W.held sink.old) (W.held sink.new)) }
-    ensures failed { result ≡ Err WriteStop.Failed → Rose (W.faults sink.old) (W.faults sink.new) }
+    ensures failed { result ≡ Err IoStop.Failed → Rose (W.faults sink.old) (W.faults sink.new) }
     ensures later { W.faults sink.old ≤ W.faults sink.new }
 {
     let texts = OuterText { limits };
@@ -62,7 +62,7 @@ pub fn write_outers<G: Grid + Send + Sync, T: Threads + Sync, W: Sink, H: Gate +
     workers: u32,
     gate: &H,
     sink: &mut W,
-) -> Result<(), WriteStop>
+) -> Result<(), IoStop>
     requires canonical { All (λ s. IsCanonicalListOf G.geometry s s) shapes.now }
     requires limits { AreLimits limits }
     requires workers { (1 ≤ workers) × (workers ≤ 64) }
@@ -70,7 +70,7 @@ pub fn write_outers<G: Grid + Send + Sync, T: Threads + Sync, W: Sink, H: Gate +
         (WritesOne (IsOuters G.geometry limits shapes.now) (W.held sink.old) (W.held sink.new)) }
     ensures err { OnErr result
         (BeginsOne (IsBegunOuters G.geometry limits shapes.now) (W.held sink.old) (W.held sink.new)) }
-    ensures failed { result ≡ Err WriteStop.Failed → Rose (W.faults sink.old) (W.faults sink.new) }
+    ensures failed { result ≡ Err IoStop.Failed → Rose (W.faults sink.old) (W.faults sink.new) }
     ensures later { W.faults sink.old ≤ W.faults sink.new }
 {
     let texts = OuterText { limits };

@@ -10,10 +10,10 @@ ghost use Rattle.heesch_catalogue.specs.Rounds.{BeginsOne, WritesOne};
 ghost use Rattle.heesch_parts.specs.Shares.{share_line};
 ghost use Rattle.heesch_share.specs.Written.{IsShare, IsBegunShare, IsShareOfSize, IsBegunShareOfSize};
 
-use heesch_catalogue::{WriteStop, write_catalogue};
+use heesch_catalogue::write_catalogue;
 use heesch_cert::Header;
 use heesch_grid::Grid;
-use heesch_io::{NoMemory, Sink, put};
+use heesch_io::{IoStop, NoMemory, Sink, put};
 use heesch_kite::on_grid;
 use heesch_listing::all_shapes;
 use heesch_parts::{Span, span};
@@ -39,7 +39,7 @@ pub fn write_share<T: Threads + Sync, W: Sink, H: Gate + Sync>(
     workers: u32,
     gate: &H,
     sink: &mut W,
-) -> Result<(), WriteStop>
+) -> Result<(), IoStop>
     requires size { (1 ≤ n) × (n ≤ 31) }
     requires first { 1 ≤ i }
     requires last { i ≤ k }
@@ -52,7 +52,7 @@ pub fn write_share<T: Threads + Sync, W: Sink, H: Gate + Sync>(
     ensures err { OnErr result
         (BeginsOne (IsBegunShareOfSize (geometry_of header.now.grid) header.now n i k)
         (W.held sink.old) (W.held sink.new)) }
-    ensures failed { result ≡ Err WriteStop.Failed → Rose (W.faults sink.old) (W.faults sink.new) }
+    ensures failed { result ≡ Err IoStop.Failed → Rose (W.faults sink.old) (W.faults sink.new) }
     ensures later { W.faults sink.old ≤ W.faults sink.new }
 {
     on_grid!(header.grid, write_one<T, W, H>(rt, alloc, header, n, i, k, workers, gate, sink))
@@ -68,7 +68,7 @@ fn write_one<G: Grid + Send + Sync, T: Threads + Sync, W: Sink, H: Gate + Sync>(
     workers: u32,
     gate: &H,
     sink: &mut W,
-) -> Result<(), WriteStop>
+) -> Result<(), IoStop>
     requires size { (1 ≤ n) × (n ≤ 31) }
     requires first { 1 ≤ i }
     requires last { i ≤ k }
@@ -79,7 +79,7 @@ fn write_one<G: Grid + Send + Sync, T: Threads + Sync, W: Sink, H: Gate + Sync>(
         (WritesOne (IsShareOfSize G.geometry header.now n i k) (W.held sink.old) (W.held sink.new)) }
     ensures err { OnErr result
         (BeginsOne (IsBegunShareOfSize G.geometry header.now n i k) (W.held sink.old) (W.held sink.new)) }
-    ensures failed { result ≡ Err WriteStop.Failed → Rose (W.faults sink.old) (W.faults sink.new) }
+    ensures failed { result ≡ Err IoStop.Failed → Rose (W.faults sink.old) (W.faults sink.new) }
     ensures later { W.faults sink.old ≤ W.faults sink.new }
 {
     let shapes = all_shapes::<G, T, H>(rt, alloc, n, workers, gate)?;
@@ -97,7 +97,7 @@ fn write_share_of<G: Grid + Send + Sync, T: Threads + Sync, W: Sink, H: Gate + S
     workers: u32,
     gate: &H,
     sink: &mut W,
-) -> Result<(), WriteStop>
+) -> Result<(), IoStop>
     requires canonical { All (λ s. IsCanonicalListOf G.geometry s s) shapes.now }
     requires first { 1 ≤ i }
     requires last { i ≤ k }
@@ -108,11 +108,11 @@ fn write_share_of<G: Grid + Send + Sync, T: Threads + Sync, W: Sink, H: Gate + S
         (WritesOne (IsShare G.geometry header.now i k shapes.now) (W.held sink.old) (W.held sink.new)) }
     ensures err { OnErr result
         (BeginsOne (IsBegunShare G.geometry header.now i k shapes.now) (W.held sink.old) (W.held sink.new)) }
-    ensures failed { result ≡ Err WriteStop.Failed → Rose (W.faults sink.old) (W.faults sink.new) }
+    ensures failed { result ≡ Err IoStop.Failed → Rose (W.faults sink.old) (W.faults sink.new) }
     ensures later { W.faults sink.old ≤ W.faults sink.new }
 {
     let Ok(count) = u32::try_from(shapes.len()) else {
-        return Err(WriteStop::NoMemory);
+        return Err(IoStop::NoMemory);
     };
     let Span { from, until } = span(count, i, k);
     put_line(alloc, i, k, sink)?;
@@ -121,10 +121,10 @@ fn write_share_of<G: Grid + Send + Sync, T: Threads + Sync, W: Sink, H: Gate + S
 }
 
 /// Writes the line that names share `i` of `k`.
-fn put_line<W: Sink>(alloc: Global, i: u32, k: u32, sink: &mut W) -> Result<(), WriteStop>
+fn put_line<W: Sink>(alloc: Global, i: u32, k: u32, sink: &mut W) -> Result<(), IoStop>
     ensures ok { OnOk result (Appends (W.held sink.old) (W.held sink.new) (share_line i k)) }
     ensures err { OnErr result (AppendsPrefix (W.held sink.old) (W.held sink.new) (share_line i k)) }
-    ensures failed { result ≡ Err WriteStop.Failed → Rose (W.faults sink.old) (W.faults sink.new) }
+    ensures failed { result ≡ Err IoStop.Failed → Rose (W.faults sink.old) (W.faults sink.new) }
     ensures later { W.faults sink.old ≤ W.faults sink.new }
 {
     let text = line_of(alloc, i, k)?;

@@ -20,13 +20,13 @@ use Rattle.heesch_table.specs.Holed.{IsHoled}
 use Rattle.heesch_tabulate.specs.declared.answers.EntryFault.{EntryFault}
 use Rattle.heesch_tabulate.specs.declared.answers.Onward.{Onward}
 use Rattle.heesch_tabulate.specs.declared.answers.Onward.TheVariants as onwards
-use Rattle.heesch_tabulate.specs.declared.answers.TableStop.{TableStop}
-use Rattle.heesch_tabulate.specs.declared.answers.TableStop.TheVariants as stops
+use Rattle.heesch_io.specs.declared.fault.IoStop.{IoStop}
+use Rattle.heesch_io.specs.declared.fault.IoStop.TheVariants as stops
 use Rattle.heesch_tabulate.specs.declared.table.Table.{Table}
 use Rattle.heesch_tabulate.specs.Entries.{entries_of, IsEntryAt, IsOfGrid, AreShapes, IsCounted}
 
 -- how the input goes on, by what the stream answered
-abbrev pub IsOnward : Result Taken StreamStop → Result Onward TableStop → Type 0
+abbrev pub IsOnward : Result Taken StreamStop → Result Onward IoStop → Type 0
 IsOnward (Ok takens.Piece) result = result ≡ Ok onwards.More
 IsOnward (Ok takens.End) result = result ≡ Ok onwards.End
 IsOnward (Err (stream_stops.NotText line part)) result = result ≡ Ok (onwards.Fault line 6)

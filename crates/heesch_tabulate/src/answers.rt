@@ -1,8 +1,7 @@
 //! What tabulating a catalogue answers.
 
-use heesch_io::NoMemory;
+use heesch_io::IoStop;
 use heesch_stream::{StreamStop, Taken};
-use thiserror::Error;
 
 /// What a catalogue's entries tell.
 #[derive(Debug, PartialEq, Eq, Drop)]
@@ -13,28 +12,6 @@ pub enum Tabulated {
     /// shape, as `ShapeFault::number` says. 6: this line can't stand in a catalogue. 8: the input is too long, and the first
     /// byte too many is on this line.
     Fault { line: u64, number: u32 },
-}
-
-/// Why there is no answer.
-#[derive(Clone, Copy, Debug, PartialEq, Eq, Error)]
-pub enum TableStop {
-    /// The source failed.
-    #[error("the input failed")]
-    Failed,
-    /// Memory was refused.
-    #[error("out of memory")]
-    NoMemory,
-}
-
-impl From<NoMemory> for TableStop {
-    ghost use Rattle.heesch_tabulate.specs.declared.answers.TableStop.TheVariants as stops;
-    ghost use Rattle.std.specs.Prelude.{◌≡◌};
-
-    ghost from_gives = { λ _ e. e ≡ stops.NoMemory };
-
-    fn from(_error: NoMemory) -> TableStop {
-        TableStop::NoMemory
-    }
 }
 
 /// Why the cells of an entry are no shape: the line that it begins on, and the number of the fault.
@@ -59,7 +36,7 @@ impl Onward {
     ghost use Rattle.heesch_tabulate.specs.Steps.{IsOnward};
 
     /// How it goes on by what a stream answered.
-    pub fn by(taken: Result<Taken, StreamStop>) -> Result<Onward, TableStop>
+    pub fn by(taken: Result<Taken, StreamStop>) -> Result<Onward, IoStop>
         ensures { IsOnward taken result }
     {
         match taken {
@@ -67,8 +44,8 @@ impl Onward {
             Ok(Taken::End) => Ok(Onward::End),
             Err(StreamStop::NotText { line, part: _ }) => Ok(Onward::Fault { line, number: 6 }),
             Err(StreamStop::TooLong { line }) => Ok(Onward::Fault { line, number: 8 }),
-            Err(StreamStop::Failed) => Err(TableStop::Failed),
-            Err(StreamStop::NoMemory) => Err(TableStop::NoMemory),
+            Err(StreamStop::Failed) => Err(IoStop::Failed),
+            Err(StreamStop::NoMemory) => Err(IoStop::NoMemory),
         }
     }
 }

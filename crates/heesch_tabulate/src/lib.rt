@@ -7,5 +7,5 @@ pub mod laws;
 mod table;
 mod tabulation;
 
-pub use answers::{TableStop, Tabulated};
+pub use answers::Tabulated;
 pub use tabulation::tabulate;

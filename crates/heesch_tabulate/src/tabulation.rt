@@ -3,9 +3,9 @@ ghost use Rattle.std.specs.Prelude.{◌≡◌, ◌≤◌, Err, IfOk};
 ghost use Rattle.heesch_io.specs.Causes.{Rose};
 ghost use Rattle.heesch_tabulate.specs.Tabulating.{IsTabulated, ReadsNoFurther, EndsAtTally};
 
-use crate::answers::{EntryFault, Onward, TableStop, Tabulated};
+use crate::answers::{EntryFault, Onward, Tabulated};
 use crate::table::Table;
-use heesch_io::{Seq, Source};
+use heesch_io::{IoStop, Seq, Source};
 use heesch_stream::Stream;
 use std::alloc::Global;
 
@@ -16,11 +16,11 @@ use std::alloc::Global;
 /// faults rose, and `NoMemory` where memory was refused; what was read before the last piece decides nothing then either. The
 /// cost is linear in the input, and for each entry that of `Tally::add_shape`. It keeps the entries of one piece of 4,096
 /// bytes.
-pub fn tabulate<R: Source>(alloc: Global, source: &mut R) -> Result<Tabulated, TableStop>
+pub fn tabulate<R: Source>(alloc: Global, source: &mut R) -> Result<Tabulated, IoStop>
     ensures ok { IfOk result (IsTabulated (R.left source.old)) }
     ensures no_further { ReadsNoFurther (R.left source.old) (R.left source.new) }
     ensures ended { IfOk result (EndsAtTally (R.left source.new)) }
-    ensures failed { result ≡ Err TableStop.Failed → Rose (R.faults source.old) (R.faults source.new) }
+    ensures failed { result ≡ Err IoStop.Failed → Rose (R.faults source.old) (R.faults source.new) }
     ensures later { R.faults source.old ≤ R.faults source.new }
 {
     let mut stream = Stream::new(alloc);
