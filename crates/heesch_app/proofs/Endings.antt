@@ -183,18 +183,6 @@ put_write_fault S held old new before now (Ok r) result whole (inr (failed, pref
 put_write_fault S held old new before now (Err stops.Failed) result whole put (same, kept) fault = absurd (let no : ReadFault ≡ WriteFault = sym same ∙ fault in cc)
 put_write_fault S held old new before now (Err stops.NoMemory) result whole put (same, kept) fault = absurd (let no : NoMemory ≡ WriteFault = sym same ∙ fault in cc)
 
--- a catalogue's writing never ends ReadFault
-pub written_read_fault : {A : Type 0} (written : Result A IoStop) (result : Status) → result ≡ written_status written → result ≢ ReadFault
-written_read_fault {A} (Ok x) result same fault = let no : Done ≡ ReadFault = sym same ∙ fault in cc
-written_read_fault {A} (Err stops.Failed) result same fault = let no : WriteFault ≡ ReadFault = sym same ∙ fault in cc
-written_read_fault {A} (Err stops.NoMemory) result same fault = let no : NoMemory ≡ ReadFault = sym same ∙ fault in cc
-
--- and WriteFault only where the sink failed
-pub written_write_fault : {A : Type 0} (P : Type 0) (written : Result A IoStop) (result : Status) → (written ≡ Err stops.Failed → P) → result ≡ written_status written → result ≡ WriteFault → P
-written_write_fault {A} P (Ok x) result rises same fault = absurd (let no : Done ≡ WriteFault = sym same ∙ fault in cc)
-written_write_fault {A} P (Err stops.Failed) result rises same fault = rises refl
-written_write_fault {A} P (Err stops.NoMemory) result rises same fault = absurd (let no : NoMemory ≡ WriteFault = sym same ∙ fault in cc)
-
 -- ---- what follows for the run
 
 writes_whole : (W : Status → List ℕ → Type 0) (B : List ℕ → Type 0) (old new : Option (List ℕ)) (status : Status) → IsWhole status → EndsAs W B old new status → WritesOne (W status) old new

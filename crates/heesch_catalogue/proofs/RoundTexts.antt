@@ -42,9 +42,6 @@ begins_weaker a b weaker (inr (output, is, prefix)) = inr (output, weaker output
 -- ---- rounds
 
 module _ {X : Type 0} (IsText : X → List ℕ → Type 0) (xs : List X) where
-  -- before the first round nothing is written
-  pub no_round : (a : Option (List ℕ)) → WritesOne (AreTexts IsText (take 0 xs)) a a
-  no_round a = ([], no_texts IsText, appends_nothing a)
 
   round_texts : (from until : ℕ) (a b : List ℕ) → from ≤ until → AreTexts IsText (take from xs) a → AreTexts IsText (take (until - from) (drop from xs)) b → AreTexts IsText (take until xs) (a ++ b)
   round_texts from until a b le are are_too =

@@ -112,9 +112,6 @@ pop-push before pushed left x push pop =
     let short : length before ≡ length pushed - 1 = omega (arith, ap length push, length-append before (x ∷ [])) in
     pop ∙ ap (take (length pushed - 1)) push ∙ take_at before (x ∷ []) (length pushed - 1) short
 
-pub LearnsMore-none : (lines : List Line) → LearnsMore lines lines
-LearnsMore-none lines = ([], (sym (append-nil lines), All-nil IsLearn))
-
 pub LearnsMore-one : (first old new : List Line) → LearnsMore first old → LearnsOne old new → LearnsMore first new
 LearnsMore-one first old new more one =
     (more.0 ++ one.0 ∷ [], (one.1.0 ∙ ap (λ ls. ls ++ one.0 ∷ []) more.1.0 ∙ append_assoc first more.0 (one.0 ∷ []), All-push IsLearn more.0 one.0 more.1.1 one.1.1))
@@ -150,6 +147,3 @@ Ready-more old new more before after vars clauses covers marks ready = record {
   clear = subst (λ (m : Marks). AreClear new.vars m.seen.items m.here.items m.touched.items m.pending) (sym marks)
       (subst (λ v. AreClear v before.marks.seen.items before.marks.here.items before.marks.touched.items before.marks.pending) (sym vars) ready.clear);
 }
-
-pub Ready-same : (old new : State) (before after : Workspace) → SameClauses old new → after.decisions.covers ≡ before.decisions.covers → after.marks ≡ before.marks → IsReady old before → IsReady new after
-Ready-same old new before after same covers marks ready = Ready-more old new [] before after same.vars (same.clauses ∙ sym (append-nil old.clauses)) covers marks ready

@@ -57,9 +57,6 @@ AreMarks-clear vars level steps seen here touched pending c = record {
       | inr few ↦ omega arith
     ]
 
-pub MarksClause-none : (seen : List Bool) → MarksClause seen seen []
-MarksClause-none seen = record { kept = λ v h. h; added = λ l h. let lt : h.0 < 0 = h.1 in absurd (omega arith); others = λ v h. inl h }
-
 -- one literal more
 pub MarksClause-more : (old seen : List Bool) (clause : List Lit) (i : ℕ) (d : Lit) → i < length clause → (get_or clause i d).var < length seen → MarksClause old seen (take i clause) → MarksClause old (set seen (get_or clause i d).var true) (take (i + 1) clause)
 MarksClause-more old seen clause i d lt fits m =

@@ -90,9 +90,6 @@ places =
 abbrev at_place : Iso → Cell
 at_place by = apply iamond by up
 
-touching_places : map at_place places ≡ iamond.touching up
-touching_places = refl
-
 abbrev variable_at : Iso → Variable
 variable_at by = record { level = 1; tile = at_place by ∷ [] }
 

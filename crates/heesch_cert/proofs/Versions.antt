@@ -13,8 +13,3 @@ use Rattle.heesch_cert.specs.Formulas.{version_number, IsCountedFormula}
 -- its universe
 pub universe_of : (version : Version) (g : Geometry) (shape : List Cell) (j : ℕ) (vars : List Variable) (count : ℕ) (clauses : List (List Lit)) → IsCountedFormula version g shape j vars count clauses → IsUniverse g shape j vars
 universe_of version g shape j vars count clauses formula = grid.universe_of literals (version_number version) g shape j vars count clauses formula
-
--- the variables of the universe are among those of the formula
-pub universe_within : (version : Version) (g : Geometry) (shape : List Cell) (j : ℕ) (vars : List Variable) (count : ℕ) (clauses : List (List Lit)) → IsCountedFormula version g shape j vars count clauses → length vars ≤ count
-universe_within One g shape j vars count clauses formula = let e = formula.1 in omega arith
-universe_within Two g shape j vars count clauses formula = let e = formula.count_is in omega arith

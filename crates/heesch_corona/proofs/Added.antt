@@ -60,9 +60,6 @@ all_append P xs ys p q =
 pub all_one : {A : Type 0} (P : A → Type 0) (x : A) → P x → All P (x ∷ [])
 all_one P x p = All-from_members P (x ∷ []) (λ y m. elim (member_cases x [] y m) [ inl e ↦ subst P e p | inr n ↦ absurd (no_member y n) ])
 
-pub added_none : (g : Geometry) (shape : List Cell) (old : List (List Cell)) → AreAdded g shape [] old old
-added_none g shape old = record { tiles = []; are_given = tt; are_shapes = All-from_members (IsShape g) [] (λ y m. absurd (no_member y m)); is = sym (append-nil old) }
-
 pub added_more : (g : Geometry) (shape : List Cell) (layer : List Iso) (i : ℕ) (d : Iso) (old mid new : List (List Cell)) → i < length layer → AreAdded g shape (take i layer) old mid → IsAdded g shape (get_or layer i d) mid new → AreAdded g shape (take (i + 1) layer) old new
 added_more g shape layer i d old mid new less p q =
     record {

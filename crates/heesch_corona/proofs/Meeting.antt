@@ -79,11 +79,6 @@ module _ (sets : List (List Cell)) (c : Cell) (number : ℕ) (ns : List ℕ) (e 
 
 -- one more cell of a set
 module _ (sets : List (List Cell)) (xs ys : List Cell) (c : Cell) (number : ℕ) (more : (t : List Cell) → meet ys t ≡ (meet xs t || meet (c ∷ []) t)) where
-  pub next_more : (a b : Option ℕ) → IsNextMeeting sets xs number a → IsNextMeeting sets (c ∷ []) number b → IsNextMeeting sets ys number (lesser_of a b)
-  next_more (Some m) (Some n) p q = by (nat_lt m n) refl
-    where
-      below : (m n : ℕ) → nat_lt m n ≡ true → m < n
-      below m n h = grind arith
 
       above : (m n : ℕ) → nat_lt m n ≡ false → n ≤ m
       above m n h = grind arith
@@ -107,6 +102,3 @@ module _ (sets : List (List Cell)) (xs ys : List Cell) (c : Cell) (number : ℕ)
   next_more None (Some n) p q =
       (q.0, q.1, more (set_of sets n) ∙ or_second (meet xs (set_of sets n)) (meet (c ∷ []) (set_of sets n)) q.2, λ k a b. more (set_of sets k) ∙ or_of (meet xs (set_of sets k)) (meet (c ∷ []) (set_of sets k)) (p k a (let l = q.1 in omega (arith, l, b))) (q.3 k a b))
   next_more None None p q = λ k a b. more (set_of sets k) ∙ or_of (meet xs (set_of sets k)) (meet (c ∷ []) (set_of sets k)) (p k a b) (q k a b)
-
-pub meet_more : (xs : List Cell) (i : ℕ) (d : Cell) → i < length xs → (t : List Cell) → meet (take (i + 1) xs) t ≡ (meet (take i xs) t || meet (get_or xs i d ∷ []) t)
-meet_more xs i d l t = list_any_more (has t) xs i d l ∙ ap (λ b. meet (take i xs) t || b) (sym (one_cell (get_or xs i d) t))

@@ -81,16 +81,6 @@ border_variable_is vars k hole n low high level levels below tile tiles r e =
       (λ b. let v : IsBorderVariable vars k hole n = b in e ∙ ap not (ap (λ t. meet t hole) (tiles v.variable v.is_variable) ∙ v.apart)),
     )
 
--- a number out of range or of too high a level is none of the border
-pub no_border_zero : (vars : List Variable) (k : ℕ) (hole : List Cell) (n : ℕ) → n ≡ 0 → IsBorderVariable vars k hole n → ⊥
-no_border_zero vars k hole n e b = let low = b.is_variable.0 in absurd (omega arith)
-
-pub no_border_past : (vars : List Variable) (k : ℕ) (hole : List Cell) (n : ℕ) → length vars < n → IsBorderVariable vars k hole n → ⊥
-no_border_past vars k hole n past b = let high = (number_range vars n b.variable b.is_variable).1 in absurd (omega arith)
-
-pub no_border_above : (vars : List Variable) (k : ℕ) (hole : List Cell) (n level : ℕ) → ((x : Variable) → IsVariableAt vars n x → level ≡ x.level) → k < level → IsBorderVariable vars k hole n → ⊥
-no_border_above vars k hole n level levels above b = let same = levels b.variable b.is_variable in let l = b.level in absurd (omega arith)
-
 -- ---- what encloses the hole
 
 module _ (g : Geometry) (law : IsGrid g) (shape : List Cell) (vars : List Variable) (k : ℕ) (hole : List Cell) (marks : List Bool) (border : List ℕ) (marked : (n : ℕ) → is_marked marks n ≡ is_in border n) where

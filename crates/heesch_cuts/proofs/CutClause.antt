@@ -45,10 +45,6 @@ fills_is vars k hole x m =
     (λ t. let r = any_member fills hole t in let both = and_parts low (has x.1.tile r.0) (sym (covering_is vars k r.0 x m) ∙ r.2) in and_from low (meet x.1.tile hole) both.0 (meet-is x.1.tile hole r.0 (has-true x.1.tile r.0 both.1) r.1))
     (λ t. let both = and_parts low (meet x.1.tile hole) t in let r = meet-true x.1.tile hole both.1 in member_any fills hole r.0 r.2 (covering_is vars k r.0 x m ∙ and_from low (has x.1.tile r.0) both.0 (has-is x.1.tile r.0 r.1)))
 
--- marks over none are those that were made
-pub marked_alone : (count : ℕ) (marks : List Bool) (p : ℕ → Bool) → ((n : ℕ) → is_marked marks n ≡ (is_marked (replicate count false) n || p n)) → (n : ℕ) → is_marked marks n ≡ p n
-marked_alone count marks p h n = h n ∙ ap (λ b. b || p n) (none_marked count n)
-
 pub clause_is : (vars : List Variable) (cut : Cut) (border fillers : List Bool) → ((n : ℕ) → is_marked border n ≡ is_in cut.border n) → ((n : ℕ) → is_marked fillers n ≡ list_any (λ c. is_in (covering vars cut.level c) n) cut.hole) → filter_map (λ n. literal_of (is_marked border n) (is_marked fillers n) n) (range_with_len 1 (length vars)) ≡ cut_clause vars cut
 clause_is vars cut border fillers b f =
     over_numbers (λ n. literal_of (is_marked border n) (is_marked fillers n) n)

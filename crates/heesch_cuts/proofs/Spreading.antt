@@ -67,9 +67,6 @@ unmarked_less reached p l f =
     let was : one (get_or reached p false) ≡ 1 = ap one f in
     omega (arith, moved, was)
 
-pub went_nowhere : (hole : List Cell) (reached : List Bool) (todo : List ℕ) → WentOn hole reached todo reached todo
-went_nowhere hole reached todo = record { grows = λ n t. t; keeps = λ p m. m; fresh = λ p t. inl t; below = λ h. h; work = omega arith; size = refl }
-
 pub went_one : (hole : List Cell) (reached : List Bool) (todo : List ℕ) (p : ℕ) → length reached ≡ length hole → p < length hole → is_marked reached p ≡ false → WentOn hole reached todo (set reached p true) (todo ++ p ∷ [])
 went_one hole reached todo p size less f =
     let room : p < length reached = omega arith in
@@ -101,21 +98,6 @@ reached_grows hole old new grows ds h = All-weaker (IsReached hole old) (IsReach
 -- ---- the spread
 
 module _ (g : Geometry) (law : IsGrid g) (hole : List Cell) where
-  -- where it begins
-  pub spread_start : 0 < length hole → IsSpread g hole (set (replicate (length hole) false) 0 true) (0 ∷ [])
-  spread_start some =
-      let none = replicate (length hole) false in
-      let long : length none ≡ length hole = length-replicate (length hole) false in
-      let first : is_marked (set none 0 true) 0 ≡ true = marked-set_same none 0 (omega arith) in
-      record {
-        size = length-set none 0 true ∙ long;
-        first = first;
-        below = All-cons (λ p. p < length hole) 0 [] some (All-nil (λ p. p < length hole));
-        pending = λ p t. elim (cases_Bool (nat_eq p 0)) [
-          | inl e ↦ inl (subst (Contains (0 ∷ [])) (sym (eqb-true p 0 e)) (member_here 0 []))
-          | inr n ↦ absurd (true≢false (sym t ∙ marked-set_other none 0 p (λ e. true≢false (sym (eq-eqb p 0 e) ∙ n)) ∙ none_marked (length hole) p))
-        ];
-      }
 
   -- one place's turn
   pub spread_on : (reached : List Bool) (todo rest : List ℕ) (at : ℕ) (new : List Bool) (later : List ℕ) (c : Cell) → IsSpread g hole reached todo → todo ≡ rest ++ at ∷ [] → slice_get hole at ≡ Some c → IsCell g c → WentOn hole reached rest new later → All (IsReached hole new) (g.adjacent c) → IsSpread g hole new later
@@ -137,10 +119,6 @@ module _ (g : Geometry) (law : IsGrid g) (hole : List Cell) where
                 let is : c ≡ x = ap (λ o. unwrap_or o c) (sym is_c ∙ ap (slice_get hole) same ∙ i) in
                 All-contains (IsReached hole new) (g.adjacent c) d around (has-true (g.adjacent c) d ((adjacent_exact g law c d c_in).1 (subst (λ z. Adjacent g z d) (sym is) a))))
           ]
-
-  -- where nothing is left to look at, all is closed
-  pub spread_end : (reached : List Bool) (todo : List ℕ) → IsSpread g hole reached todo → todo ≡ [] → IsClosed g hole reached
-  spread_end reached todo s e p t = elim (s.pending p t) [ inl m ↦ absurd (no_member p (subst (λ xs. Contains xs p) e m)) | inr h ↦ h ]
 
 -- ---- the reached cells
 

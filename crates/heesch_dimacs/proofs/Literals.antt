@@ -147,14 +147,6 @@ parsed {E} ds (Err x) begins told = λ n low fits e. let good = parse-decimal {E
 abbrev pub NoLiteral : List ℕ → Type 0
 NoLiteral word = (l : Lit) → IsLiteral l → lit_text l ≡ word → ⊥
 
-no_minus_at : (var : ℕ) (positive : Bool) (word : List ℕ) → ((rest : List ℕ) → word ≢ 45 ∷ rest) → NoNumber word → 1 ≤ var → var < 2 ^ 32 → lit_text (record { var = var; positive = positive }) ≡ word → ⊥
-no_minus_at var true word other none low fits e = none var low fits e
-no_minus_at var false word other none low fits e = other (decimal var) (sym e)
-
--- without `-`, and no number
-pub no_positive : (word : List ℕ) → ((rest : List ℕ) → word ≢ 45 ∷ rest) → NoNumber word → NoLiteral word
-no_positive word other none l fits e = no_minus_at l.var l.positive word other none fits.0 fits.1 e
-
 minus_at : (var : ℕ) (positive : Bool) (digits : List ℕ) → NoNumber digits → 1 ≤ var → var < 2 ^ 32 → lit_text (record { var = var; positive = positive }) ≡ 45 ∷ digits → ⊥
 minus_at var true digits none low fits e =
     let begins = decimal_begins var low fits in

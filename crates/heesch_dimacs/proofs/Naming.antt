@@ -130,20 +130,8 @@ none_named count = record {
 pub is_fresh : (x : List Lit) (named : List Bool) (l : Lit) → AreNamed x named → 1 ≤ l.var → l.var ≤ length named → get_or named (l.var - 1) false ≡ false → IsFresh (length named) x l
 is_fresh x named l marks one fits off = record { most = fits; unnamed = λ h. let on : get_or named (l.var - 1) false ≡ true = (marks.marks l.var one fits).1 h in absurd cc }
 
-pub marked_not_fresh : (x : List Lit) (named : List Bool) (l : Lit) → AreNamed x named → 1 ≤ l.var → l.var ≤ length named → get_or named (l.var - 1) false ≡ true → ¬ (IsFresh (length named) x l)
-marked_not_fresh x named l marks one fits on fresh = fresh.unnamed ((marks.marks l.var one fits).0 on)
-
-pub high_not_fresh : (vars : ℕ) (x : List Lit) (l : Lit) → 1 ≤ l.var → vars ≤ l.var - 1 → ¬ (IsFresh vars x l)
-high_not_fresh vars x l one high fresh = let most = fresh.most in absurd (omega arith)
-
 -- ---- values
 
-pub none_true : (vars : ℕ) → IsAssignment vars [] (replicate vars false)
-none_true vars = record {
-  count = length-replicate vars false;
-  value = λ var low high.
-      let unset : get_or (replicate vars false) (var - 1) false ≡ false = get_or-replicate vars (var - 1) false false (omega arith) in
-      (λ t. absurd cc, λ h. absurd (Contains-none (positive_of var) h));
 }
 
 positive_more : (x : List Lit) (l : Lit) (var : ℕ) → Contains (x ++ l ∷ []) (positive_of var) → Contains x (positive_of var) ⊎ (l ≡ positive_of var)
@@ -178,16 +166,6 @@ true_more vars x values l so positive one fits =
       ];
     }
 
-pub false_more : (vars : ℕ) (x : List Lit) (values : List Bool) (l : Lit) → IsAssignment vars x values → l.positive ≡ false → IsAssignment vars (x ++ l ∷ []) values
-false_more vars x values l so negative = record {
-  count = so.count;
-  value = λ var low high. (
-    λ t. Contains-append_left x (l ∷ []) (positive_of var) ((so.value var low high).0 t),
-    λ h. elim (positive_more x l var h) [
-      | inl a ↦ (so.value var low high).1 a
-      | inr e ↦ let sign : l.positive ≡ true = ap (λ (m : Lit). m.positive) e in absurd cc
-    ],
-  );
 }
 
 -- ---- literals taken one by one

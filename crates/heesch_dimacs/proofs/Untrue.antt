@@ -6,10 +6,6 @@ use Rattle.heesch_dimacs.specs.Formulas.{IsFirstFalse}
 
 -- none of the first literals is true
 pub record NoneTrue (v : ℕ → Bool) (clause : List Lit) (count : ℕ) : Type 0 where
-  pub false_at : (k : ℕ) (d : Lit) → k < count → ¬ (IsMadeTrue v (get_or clause k d))
-
-pub not_satisfied : (v : ℕ → Bool) (clause : List Lit) (count : ℕ) → length clause ≤ count → NoneTrue v clause count → ¬ (IsSatisfied v clause)
-not_satisfied v clause count le none s = none.false_at s.1.0.0 s.0 (omega (arith, s.1.0.1)) (subst (IsMadeTrue v) (sym s.1.0.2) s.1.1)
 
 pub first_is : (v : ℕ → Bool) (clauses : List (List Lit)) (i : ℕ) → i < length clauses → ¬ (IsSatisfied v (get_or clauses i [])) → Satisfies v (take i clauses) → IsFirstFalse v clauses (i + 1)
 first_is v clauses i lt is_false others =

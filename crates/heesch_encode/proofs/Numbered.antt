@@ -42,17 +42,3 @@ placed vars xs ns i part is l =
       numbered = subst (λ n. IsNumbered vars n x.1) (sym number) (entry_at vars 1 x member);
       range = subst (λ n. (1 ≤ n) × (n ≤ length vars)) (sym number) (entry_range vars x member);
     }
-
--- one number more, where its entry passes
-pub number_keeps : (p : ℕ × Variable → Bool) (old now : List ℕ) (xs : Entries) (i n : ℕ) (x : ℕ × Variable) → i < length xs → get_or xs i x ≡ x → n ≡ x.0 → p x ≡ true → now ≡ old ++ numbers_of (filter p (take i xs)) → now ++ n ∷ [] ≡ old ++ numbers_of (filter p (take (i + 1) xs))
-number_keeps p old now xs i n x l at number t is =
-    ap (λ zs. zs ++ n ∷ []) is ∙ append_assoc old (numbers_of (filter p (take i xs))) (n ∷ [])
-    ∙ ap (λ zs. old ++ zs)
-    (ap (λ m. numbers_of (filter p (take i xs)) ++ m ∷ []) number ∙ sym (map-append (λ (x : ℕ × Variable). x.0) (filter p (take i xs)) (x ∷ []))
-    ∙ ap numbers_of (ap (λ zs. filter p (take i xs) ++ zs) (ap (λ b. cond b (x ∷ []) []) (sym t) ∙ ap (λ z. cond (p z) (z ∷ []) []) (sym at)) ∙ sym (filter_more p xs i x l)))
-
-pub number_skips : (p : ℕ × Variable → Bool) (old now : List ℕ) (xs : Entries) (i : ℕ) (x : ℕ × Variable) → i < length xs → get_or xs i x ≡ x → p x ≡ false → now ≡ old ++ numbers_of (filter p (take i xs)) → now ≡ old ++ numbers_of (filter p (take (i + 1) xs))
-number_skips p old now xs i x l at f is =
-    is
-    ∙ ap (λ zs. old ++ numbers_of zs)
-    (sym (append-nil (filter p (take i xs))) ∙ ap (λ zs. filter p (take i xs) ++ zs) (ap (λ b. cond b (x ∷ []) []) (sym f) ∙ ap (λ z. cond (p z) (z ∷ []) []) (sym at)) ∙ sym (filter_more p xs i x l))

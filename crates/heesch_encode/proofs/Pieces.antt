@@ -224,9 +224,6 @@ pub support_family : (g : Geometry) (around : List Cell → List Cell) (shape : 
 support_family g around shape j vars =
     flat_map_filter (λ (x : ℕ × Variable). nat_le 2 x.1.level) (λ (x : ℕ × Variable). clause_of literals (is_numbered x.0) (λ y. (y.1.level + 1 == x.1.level) && touch g y.1.tile x.1.tile) vars) (enumerate_from 1 vars)
 
-pub apart_family : (g : Geometry) (around : List Cell → List Cell) (shape : List Cell) (j : ℕ) (vars : List Variable) → flat_map (clauses_at Apart g around shape j vars) (enumerate_from 1 vars) ≡ apart_clauses literals vars
-apart_family g around shape j vars = refl
-
 -- ---- numbers below 2^31
 
 pub supporting_small : (g : Geometry) (vars : List Variable) (level : ℕ) (tile : List Cell) (size : ℕ) → length vars < size → All (λ n. n < size) (supporting g vars level tile)

@@ -20,9 +20,6 @@ pub record Going (g : Geometry) (first now : Option (List ℕ)) (count : ℕ) (s
   pub read : IsRead g bytes shapes s
   pub count_is : count ≡ length bytes
 
-pub going_first : (g : Geometry) (left : Option (List ℕ)) (shapes : List (List Cell)) (s : Scanned) → IsRead g [] shapes s → Going g left left 0 shapes s
-going_first g left shapes s read = record { bytes = []; consumed = consumes_none left; read = read; count_is = refl }
-
 -- what was read stands first in the room, and is as long
 piece_read : (before now : Option (List ℕ)) (more : ℕ) (room rest : List ℕ) → more ≤ length room → Consumes before now (take more room) → Consumes before now (take more (room ++ rest)) × (length (take more (room ++ rest)) ≡ more)
 piece_read before now more room rest fits c =

@@ -25,9 +25,6 @@ given_some false x y e = absurd cc
 pub lead_whole : (p : Place) → Lead p [] → is_whole p ≡ true
 lead_whole p l = let e : p ≡ l.end = cc in ap is_whole e ∙ l.whole
 
-pub lead_on : (p q : Place) (line : Line) (ls : List Line) → next false p line ≡ Some q → Lead p (line ∷ ls) → Lead q ls
-lead_on p q line ls e l = record { end = l.end; reached = subst (λ (o : Option Place). option_and_then (λ x. follow false x ls) o ≡ Some l.end) e l.reached; whole = l.whole }
-
 pub lead_given : (b : Bool) (p : Place) (ls : List Line) (end : Place) → option_and_then (λ q. follow false q ls) (then_some b p) ≡ Some end → is_whole end ≡ true → (b ≡ true) × Lead p ls
 lead_given true p ls end e w = (refl, record { end = end; reached = e; whole = w })
 lead_given false p ls end e w = absurd cc

@@ -40,10 +40,6 @@ steps_through brief s t ls ms e = steps_append brief s ls ms ∙ ap (λ (o : Opt
 pub steps_push : (brief : Bool) (s t u : Spot) (ls : List Line) (line : Line) → steps brief s ls ≡ Some t → step brief t line ≡ Some u → steps brief s (ls ++ line ∷ []) ≡ Some u
 steps_push brief s t u ls line e f = steps_through brief s t ls (line ∷ []) e ∙ ap (λ (o : Option Spot). option_and_then (λ x. Some x) o) f
 
--- behind lines that may stand, one that may not
-pub steps_refused : (brief : Bool) (s t : Spot) (ls ms : List Line) (line : Line) → steps brief s ls ≡ Some t → step brief t line ≡ None → steps brief s (ls ++ line ∷ ms) ≡ None
-steps_refused brief s t ls ms line e f = steps_through brief s t ls (line ∷ ms) e ∙ ap (λ (o : Option Spot). option_and_then (λ x. steps brief x ms) o) f
-
 -- where lines lead in two pieces
 pub steps_split : (brief : Bool) (s u : Spot) (ls ms : List Line) → steps brief s (ls ++ ms) ≡ Some u → (t : Spot) × (steps brief s ls ≡ Some t) × (steps brief t ms ≡ Some u)
 steps_split brief s u ls ms e = bind_some (steps brief s ls) (λ t. steps brief t ms) u (sym (steps_append brief s ls ms) ∙ e)

@@ -39,16 +39,7 @@ held vars c (n ∷ ns) e l =
     let p = filter_member (λ (x : Entry). has x.1.tile c) (enumerate_from 1 vars) x r.1 in
     member_flat_map (λ (v : Variable). v.tile) vars x.1 c (entry_variable vars 1 x p.0) (has-true x.1.tile c p.1)
 
-pub owned_given : (vars : List Variable) → ListsExactly cell_before (IsOwned vars) (owned_cells vars)
-owned_given vars = record {
-  rising = (sorted_list (filter (is_owned vars) (tile_cells vars))).rising;
-  only = All-from_members (IsOwned vars) (owned_cells vars) (λ c m. leb-true 2 (length (holders vars c)) (filter_member (is_owned vars) (tile_cells vars) c (has_sorted (filter (is_owned vars) (tile_cells vars)) c m)).1);
-  every = λ c l. sorted_has (filter (is_owned vars) (tile_cells vars)) c (member_filter (is_owned vars) (tile_cells vars) c (held vars c (holders vars c) refl (omega arith)) (le-leb 2 (length (holders vars c)) l));
 }
-
--- the second formula over a universe
-pub owner_formula : {L : Type 0} (ls : Literals L) (g : Geometry) → IsGrid g → (shape : List Cell) (j : ℕ) (vars : List Variable) → IsUniverse g shape j vars → IsOwnerFormula ls g shape j vars (length vars + sum_by (owner_count vars) (owned_cells vars)) (owned_corona_clauses ls g (cells_around g) shape j vars (owned_cells vars))
-owner_formula ls g law shape j vars universe = record { is_universe = universe; around = cells_around g; gives_around = around_given g law; owned = owned_cells vars; are_owned = owned_given vars; count_is = refl; is = refl }
 
 -- ---- binary digits
 

@@ -223,15 +223,8 @@ module _ (g : Geometry) (u inner : Levels) (whole : IsUniverseOf g u) (part : Is
 -- ---- where holes are forbidden at all levels, or at none
 
 module _ (g : Geometry) (u : Levels) (k : ℕ) (values : List Bool) where
-  pub free_at_none : k ≡ 0 → IsFreeUpTo g u k values
-  free_at_none none = subst (λ n. IsFreeUpTo g u n values) (sym none) tt
 
   module _ (all : k ≡ u.level) where
-    pub free_at_all : IsOpen g u values → IsFreeUpTo g u k values
-    free_at_all free = subst (λ n. IsFreeUpTo g u n values) (sym all) free
-
-    pub cut_at_all : (cut : Cut) → CutsOff g u values cut → CutsOff g u values cut × IsCutUpTo g u k cut
-    cut_at_all cut c = (c, record { lawful = c.lawful; up_to = let to = c.lawful.level_to in omega (arith, to, all) })
 
 -- what an answer with a cut or without says, said of other things
 pub if_ok_option : {X E P R : Type 0} (Q S : X → Type 0) → (P → R) → ((x : X) → Q x → S x) → (r : Result (Option X) E) → IfOk r (λ o. MatchOption o P Q) → IfOk r (λ o. MatchOption o R S)

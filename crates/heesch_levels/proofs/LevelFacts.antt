@@ -202,13 +202,6 @@ module _ (version : Version) (g : Geometry) (law : IsGrid g) (shape : List Cell)
       subst (λ p. Says (Spent p)) (sym proof_is)
       (says made (spent_up_to version g law u free_levels s ending e under.formula size under.fits (subst (IsEnding g u free_levels s.solver) is e.ends)) (names_none version g law u free_levels s ending e under.formula other made))
 
--- the formula of a universe is that of the same universe's search
-pub formula_kept : (version : Version) (g : Geometry) (shape : List Cell) (j : ℕ) (e u : Levels) (n m : ℕ) (cs ds : List (List Lit)) → e.shape ≡ shape → e.level ≡ j → IsCountedFormula version g shape j e.vars n cs → u ≡ e → m ≡ n → ds ≡ cs → IsCountedFormula version g u.shape u.level u.vars m ds
-formula_kept version g shape j e u n m cs ds shape_is level_is formula same vars clauses =
-    subst (λ (v : Levels). IsCountedFormula version g v.shape v.level v.vars m ds) (sym same)
-    (subst (λ cells. IsCountedFormula version g cells e.level e.vars m ds) (sym shape_is) (subst (λ k. IsCountedFormula version g shape k e.vars m ds) (sym level_is)
-    (subst (λ k. IsCountedFormula version g shape j e.vars k ds) (sym vars) (subst (λ ks. IsCountedFormula version g shape j e.vars n ks) (sym clauses) formula))))
-
 -- a refutation with holes forbidden has a cut where coronas with holes exist
 pub has_cut : (version : Version) (g : Geometry) (shape : List Cell) (j size : ℕ) (proof : Proof) (layers : Layers) → RefutesLevel version g shape j true size proof → SpellsCoronas g shape j false layers → ¬ HasNoCut proof
 has_cut version g shape j size proof layers r s none =

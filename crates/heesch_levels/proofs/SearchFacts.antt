@@ -80,16 +80,7 @@ search_gives g u k s q more cut clause values is lawful clause_is after more_are
 }
 
 -- what goes on and then on goes on
-pub goes_on_then : (g : Geometry) (u : Levels) (k : ℕ) (first second third : Search) → GoesOn g u k first second → GoesOn g u k second third → GoesOn g u k first third
-goes_on_then g u k first second third a b = record {
-  search = b.search;
-  same = record { vars = b.same.vars ∙ a.same.vars; clauses = b.same.clauses ∙ a.same.clauses; turns = b.same.turns ∙ a.same.turns };
-  turns = b.turns ∙ a.turns;
 }
-
--- what has not changed goes on
-pub goes_on_same : (g : Geometry) (u : Levels) (k : ℕ) (s : Search) → IsSearch g u k s → GoesOn g u k s s
-goes_on_same g u k s is = record { search = is; same = record { vars = refl; clauses = refl; turns = refl }; turns = refl }
 
 -- where a model is kept, no final line holds
 no_final_by : (clauses : List (List Lit)) (v : ℕ → Bool) → Satisfies v clauses → NoFinal clauses

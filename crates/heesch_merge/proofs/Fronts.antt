@@ -86,10 +86,6 @@ taken_right l r r' (Some x) more e rising = inr (inr ((refl, below l x before ri
 equal_is : (x y : List Cell) → slice_cmp cell_cmp x y ≡ Equal → x ≡ y
 equal_is x y e = cells_before-total x y (sym (cells_less x y) ∙ ap is_lt e) (sym (cells_greater x y) ∙ ap is_gt e)
 
-some_first : (l : Lists) → 0 < length l → (y : List Cell) × (first_of l ≡ Some y)
-some_first [] long = absurd (omega (arith, long))
-some_first (y ∷ ys) long = (y, refl)
-
 -- where the first items are the same, both lists give it up, or both are empty
 pub taken_both : (l l' r r' : Lists) (o p : Option (List Cell)) → compared_options (first_of l) (first_of r) ≡ Equal → l ≡ option_to_list o ++ l' → r ≡ option_to_list p ++ r' → (0 < length r → IsSome p) → IfSome o (λ x. TakesLeast x l l' r r')
 taken_both l l' r r' None p same e f has = tt
@@ -116,20 +112,6 @@ pub record IsMerging (all_left all_right left right merged : Lists) : Type 0 whe
   pub only : (x : List Cell) → Contains merged x → IsInOne all_left all_right x
   pub every_left : (x : List Cell) → Contains all_left x → Contains left x ⊎ Contains merged x
   pub every_right : (x : List Cell) → Contains all_right x → Contains right x ⊎ Contains merged x
-
-pub merging_first : (l r left right merged : Lists) → left ≡ l → right ≡ r → merged ≡ [] → IsRising cells_before l → IsRising cells_before r → IsMerging l r left right merged
-merging_first l r left right merged e f none a b =
-    subst (IsMerging l r left right) (sym none)
-    (subst (λ (k : Lists). IsMerging l r left k []) (sym f)
-    (subst (λ (k : Lists). IsMerging l r k r []) (sym e) record {
-      left_rising = a;
-      right_rising = b;
-      only_left = λ x m. m;
-      only_right = λ x m. m;
-      only = λ x m. absurd (no_member x m);
-      every_left = λ x m. inl m;
-      every_right = λ x m. inl m;
-    }))
 
 pub left_stays : (l r left right m : Lists) → IsMerging l r left right m → IsRising cells_before left
 left_stays l r left right m g = rising_back m left g.left_rising

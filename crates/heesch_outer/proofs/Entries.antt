@@ -83,9 +83,6 @@ admitted_too limits n (PlainHalfTurn t da db) h = h
 pub no_plain_still : (g : Geometry) (limits : Limits) (cells : List Cell) (n : ℕ) → HasNoPlain g limits cells → HasNoPlain g (with_levels limits n) cells
 no_plain_still g limits cells n none plain is admitted = none plain is (admitted_too limits n plain admitted)
 
-pub limits_still : (limits : Limits) (n : ℕ) → 1 ≤ n → n ≤ 6 → AreLimits limits → AreLimits (with_levels limits n)
-limits_still limits n low high are = record { turns_range = are.turns_range; levels_range = (low, high); domain_range = are.domain_range; size_range = are.size_range }
-
 -- ---- nearness
 
 module _ (g : Geometry) (law : IsGrid g) (cells : List Cell) (shape : AreCanonical g cells) where
@@ -153,46 +150,13 @@ part_by_failing g limits entry part failing before f = (holds, other)
 -- ---- the parts before
 
 module _ (g : Geometry) (limits : Limits) (entry : Entry) (shape : ShapeHolds g entry) (form : FormHolds g limits entry) (cover : CoverHolds g entry.cells entry.evidence) (classes : ClassesHold g entry.cells entry.verdict entry.evidence) where
-  pub before_five : (k : ℕ) → k < 5 → PartHolds g limits entry k
-  before_five zero l = tt
-  before_five (suc zero) l = shape
-  before_five (suc (suc zero)) l = form
-  before_five (suc (suc (suc zero))) l = cover
-  before_five (suc (suc (suc (suc zero)))) l = classes
-  before_five (suc (suc (suc (suc (suc n))))) l = absurd (omega (arith, l))
 
   module _ (free : FreeHolds g entry.cells entry.verdict entry.evidence) where
-    pub before_six : (k : ℕ) → k < 6 → PartHolds g limits entry k
-    before_six zero l = tt
-    before_six (suc zero) l = shape
-    before_six (suc (suc zero)) l = form
-    before_six (suc (suc (suc zero))) l = cover
-    before_six (suc (suc (suc (suc zero)))) l = classes
-    before_six (suc (suc (suc (suc (suc zero))))) l = free
-    before_six (suc (suc (suc (suc (suc (suc n)))))) l = absurd (omega (arith, l))
-
-    pub before_seven : WallHolds g limits entry.cells entry.verdict entry.evidence → (k : ℕ) → k < 7 → PartHolds g limits entry k
-    before_seven wall zero l = tt
-    before_seven wall (suc zero) l = shape
-    before_seven wall (suc (suc zero)) l = form
-    before_seven wall (suc (suc (suc zero))) l = cover
-    before_seven wall (suc (suc (suc (suc zero)))) l = classes
-    before_seven wall (suc (suc (suc (suc (suc zero))))) l = free
-    before_seven wall (suc (suc (suc (suc (suc (suc zero)))))) l = wall
-    before_seven wall (suc (suc (suc (suc (suc (suc (suc n))))))) l = absurd (omega (arith, l))
 
 module _ (g : Geometry) (limits : Limits) (cells : List Cell) (free : List (List Iso)) (found : IsFound g limits cells free) where
-  pub before_refuted : (proof : Proof) (k : ℕ) → k < 6 → PartHolds g limits (refuted_entry cells free proof) k
-  before_refuted proof = before_six g limits (refuted_entry cells free proof) found.shape (found.no_plain, (omega arith, found.level, tt, inl (refl, refl, refl))) tt tt (refl, (found.tiles, found.spelled, found.coronas))
-
-  pub before_spent : (proof : Proof) (k : ℕ) → k < 6 → PartHolds g limits (spent_entry cells free proof) k
-  before_spent proof = before_six g limits (spent_entry cells free proof) found.shape (found.no_plain, (refl, found.level, tt, refl, refl)) tt tt (refl, (found.tiles, found.spelled, found.coronas))
 
   pub before_open : (proof : Proof) (wider : List (List Iso)) → length wider ≡ length free + 1 → RefutesCoronas limits.version g cells (length free + 1) limits.size proof
       → (k : ℕ) → k < 7 → PartHolds g (with_levels limits (length wider)) (open_entry cells free proof wider) k
   before_open proof wider more wall =
       before_seven g (with_levels limits (length wider)) (open_entry cells free proof wider) found.shape (no_plain_still g limits cells (length wider) found.no_plain, (omega (arith, more), tt, refl, (record { layers = wider }, refl, refl))) tt tt
       (refl, (found.tiles, found.spelled, found.coronas)) wall
-
-pub before_free : (g : Geometry) (limits : Limits) (cells : List Cell) (free : List (List Iso)) → AreCanonical g cells → HasNoPlain g limits cells → (k : ℕ) → k < 5 → PartHolds g (with_levels limits (length free)) (free_entry cells free) k
-before_free g limits cells free shape none = before_five g (with_levels limits (length free)) (free_entry cells free) shape (no_plain_still g limits cells (length free) none, (refl, refl, refl, refl)) tt tt

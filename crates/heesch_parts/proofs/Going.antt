@@ -31,9 +31,6 @@ pub record Going (first now : Option (List ℕ)) (count : ℕ) (kept : Kept) (gi
   pub count_is : count ≡ length bytes
   pub room : kept.lines + length kept.left ≤ count
 
-pub going_first : (left : Option (List ℕ)) (kept : Kept) (given : List Item) → given ≡ [] → IsFed [] [] kept → kept.lines + length kept.left ≤ 0 → Going left left 0 kept given
-going_first left kept given none fed room = record { bytes = []; consumed = consumes_none left; fed = subst (λ (x : List Item). IsFed [] x kept) (sym none) fed; count_is = refl; room = room }
-
 -- a piece more
 pub going_on : (first before now : Option (List ℕ)) (count more : ℕ) (room rest : List ℕ) (given after : List Item) (old new : Kept) → Going first before count old given → more ≤ length room → Consumes before now (take more room)
     → ((bytes : List ℕ) (items : List Item) → IsFed bytes items old → GoesTo (bytes ++ take more (room ++ rest)) items given after new) → LeavesRoom old new (length (take more (room ++ rest))) → Going first now (count + more) new after
@@ -58,11 +55,6 @@ piece_stops most first before now count more room rest given after old new (join
     let all = front_given first now (o.bytes ++ piece) (consumes_both first before now o.bytes piece o.consumed read.0) in
     ((o.bytes ++ piece) ++ all.0, all.1, told o.bytes given o.fed most all.0 (omega (arith, few, o.count_is, read.1, length-append o.bytes piece)))
 piece_stops most first before now count more room rest given after old new join_stops.NoMemory o fits c few told = tt
-
--- a joiner's reason isn't that the source failed
-pub not_failed : (e : JoinStop) → stop_of e ≡ stops.Failed → ⊥
-not_failed (join_stops.Fault line fault) is = absurd cc
-not_failed join_stops.NoMemory is = absurd cc
 
 -- ---- the end
 

@@ -96,21 +96,10 @@ pub moved_more : (f : Cell → Cell) (from to : List Cell) (i : ℕ) (d e : Cell
 moved_more f from to i d e lf lt is so_far =
     take_more to i e lt ∙ ap (λ zs. zs ++ get_or to i e ∷ []) so_far ∙ ap (λ z. map f (take i from) ++ z ∷ []) is ∙ sym (map_more f from i d lf)
 
-pub moved_all : (f : Cell → Cell) (from to : List Cell) (i : ℕ) → i ≡ length from → length from ≡ length to → take i to ≡ map f (take i from) → to ≡ map f from
-moved_all f from to i e long so_far =
-    sym (take-length to) ∙ ap (λ n. take n to) (sym (e ∙ long)) ∙ so_far ∙ ap (λ n. map f (take n from)) e ∙ ap (map f) (take-length from)
-
 get_or_map : (f : Cell → Cell) (xs : List Cell) (i : ℕ) (d e : Cell) → i < length xs → get_or (map f xs) i e ≡ f (get_or xs i d)
 get_or_map f [] i d e l = absurd (omega arith)
 get_or_map f (x ∷ xs) zero d e l = refl
 get_or_map f (x ∷ xs) (suc i) d e l = get_or_map f xs i d e (omega arith)
-
--- a list that differs at a place is not the moved list
-pub differs_at : (f : Cell → Cell) (from to : List Cell) (i : ℕ) (d e : Cell) → i < length from → (get_or to i e ≡ f (get_or from i d) → ⊥) → to ≡ map f from → ⊥
-differs_at f from to i d e l n is = n (ap (λ zs. get_or zs i e) is ∙ get_or_map f from i d e l)
-
-pub differs_in_length : (f : Cell → Cell) (from to : List Cell) → (length from ≡ length to → ⊥) → to ≡ map f from → ⊥
-differs_in_length f from to n is = n (sym (ap length is ∙ length-map from f))
 
 -- ---- isometries of least turn
 

@@ -139,8 +139,6 @@ module _ (g : Geometry) (shape : List Cell) where
 
 -- ---- entries
 module _ {E : Type 0} (variable : E → Variable) (by : E → Iso) (g : Geometry) (shape : List Cell) (level : ℕ) where
-  pub tiles_none : (old : List E) → AddTiles variable by g shape level [] old old
-  tiles_none old = record { variables = sym (append-nil (map variable old)); least = λ h. h }
 
   pub tiles_more : (tiles : List (List Cell)) (i : ℕ) (d : List Cell) (old mid new : List E) (e : E) → i < length tiles → AddTiles variable by g shape level (take i tiles) old mid → new ≡ mid ++ e ∷ [] → variable e ≡ record { level = level; tile = get_or tiles i d } → IsLeastIsometry g shape (variable e).tile (by e) → AddTiles variable by g shape level (take (i + 1) tiles) old new
   tiles_more tiles i d old mid new e less a is at least = record {
@@ -155,18 +153,7 @@ module _ {E : Type 0} (variable : E → Variable) (by : E → Iso) (g : Geometry
     ]));
   }
 
-  pub tiles_all : (tiles : List (List Cell)) (i : ℕ) (old new : List E) → i ≡ length tiles → AddTiles variable by g shape level (take i tiles) old new → AddTiles variable by g shape level tiles old new
-  tiles_all tiles i old new e a = subst (λ ts. AddTiles variable by g shape level ts old new) (ap (λ n. take n tiles) e ∙ take-length tiles) a
-
 -- the entries of a level after a universe
 pub level_added : {E : Type 0} (variable : E → Variable) (by : E → Iso) (g : Geometry) (shape : List Cell) (k : ℕ) (tiles : List (List Cell)) (old new : List E) → AddTiles variable by g shape (k + 1) tiles old new → IsUniverse g shape k (map variable old) → HaveLeast variable by g shape old → ListsExactly cells_before (IsAtLevel g shape (k + 1)) tiles → IsUniverse g shape (k + 1) (map variable new) × HaveLeast variable by g shape new
 level_added variable by g shape k tiles old new a u least l =
     (subst (IsUniverse g shape (k + 1)) (sym a.variables) (universe_more g shape k (map variable old) tiles u l), a.least least)
-
--- one more of a mapped list, and all of it
-pub mapped_more : {X Y : Type 0} (f : X → Y) (xs : List X) (i : ℕ) (d : X) (ys zs : List Y) → i < length xs → ys ≡ map f (take i xs) → zs ≡ ys ++ f (get_or xs i d) ∷ [] → zs ≡ map f (take (i + 1) xs)
-mapped_more f xs i d ys zs less so_far is =
-    is ∙ ap (λ ws. ws ++ f (get_or xs i d) ∷ []) so_far ∙ sym (map-append f (take i xs) (get_or xs i d ∷ [])) ∙ ap (map f) (sym (take_more xs i d less))
-
-pub mapped_all : {X Y : Type 0} (f : X → Y) (xs : List X) (i : ℕ) (ys : List Y) → i ≡ length xs → ys ≡ map f (take i xs) → ys ≡ map f xs
-mapped_all f xs i ys e so_far = so_far ∙ ap (λ n. map f (take n xs)) e ∙ ap (map f) (take-length xs)

@@ -249,9 +249,6 @@ module _ (allowed old new : List ℕ) (to from count k : ℕ) (less : k < count)
       last x (suc zero) z e p q f = inl refl
       last x (suc (suc y)) z e p q f = absurd (omega arith)
 
-pub narrowed_none : (allowed words : List ℕ) (to from count : ℕ) → AreNarrowed allowed to from count words words
-narrowed_none allowed words to from count = record { only = λ n h. h; keeps = λ test closed before n t. before n t }
-
 pub narrowed_then : (allowed old mid new : List ℕ) (to from count : ℕ) → AreNarrowed allowed to from count old mid → AreNarrowed allowed to from count mid new → AreNarrowed allowed to from count old new
 narrowed_then allowed old mid new to from count p q =
     record { only = λ n h. p.only n (q.only n h); keeps = λ test closed before. q.keeps test closed (p.keeps test closed before) }

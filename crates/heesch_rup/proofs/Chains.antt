@@ -89,9 +89,6 @@ module _ (counts : List ℕ) where
     pub last : IsLastBelow counts clauses bound slot next
     pub above : (k : ℕ) → bound ≤ k → k < n → slot_at counts clauses k ≡ slot → IsFalsified values (get_or clauses k []) → ⊥
 
-  pub walk_begins : (values : Values) (clauses : List (List Lit)) (size n slot : ℕ) (next : Option ℕ) → n ≤ size → IsLastBelow counts clauses size slot next → Walks values clauses size n slot next
-  walk_begins values clauses size n slot next few last = record { bound = size; within = omega arith; last = last; above = λ k le lt. absurd (omega arith) }
-
   pub walk_at : (values : Values) (clauses : List (List Lit)) (size n slot : ℕ) (next : Option ℕ) (i : ℕ) → next ≡ Some i → Walks values clauses size n slot next → (i < size) × (slot_at counts clauses i ≡ slot)
   walk_at values clauses size n slot next i is walks =
       let last = subst (IsLastBelow counts clauses walks.bound slot) is walks.last in
@@ -113,12 +110,3 @@ module _ (counts : List ℕ) where
           | inr over ↦ walks.above k over lt same falsified
         ];
       }
-
-  pub walk_smaller : (clauses : List (List Lit)) (i slot : ℕ) (next o : Option ℕ) → next ≡ Some i → IsLastBelow counts clauses i slot o → places_left o < places_left next
-  walk_smaller clauses i slot next None is last = subst (λ (p : Option ℕ). 0 < places_left p) (sym is) (omega arith)
-  walk_smaller clauses i slot next (Some j) is last = subst (λ (p : Option ℕ). suc j < places_left p) (sym is) (let lt : j < i = last.0 in omega arith)
-
-  pub walk_ends : (values : Values) (clauses : List (List Lit)) (size n slot : ℕ) (next : Option ℕ) → next ≡ None → Walks values clauses size n slot next → NoneFalsifiedAt counts values clauses n slot
-  walk_ends values clauses size n slot next is walks k lt same falsified =
-      let last = subst (IsLastBelow counts clauses walks.bound slot) is walks.last in
-      elim (cases_lt k walks.bound) [ inl below ↦ last k below same | inr over ↦ walks.above k over lt same falsified ]

@@ -35,25 +35,6 @@ AreClauses-whole vars clauses lines form hold =
 pub AreClauses-added : (f added : Clauses) (lines : List Line) → AreClauses f.vars f.clauses → LinesHold f.vars f.clauses lines → added ≡ record { vars = f.vars; clauses = clauses_of lines } → AreClauses f.vars (f.clauses ++ added.clauses)
 AreClauses-added f added lines form hold is = subst (λ (a : Clauses). AreClauses f.vars (f.clauses ++ a.clauses)) (sym is) (AreClauses-whole f.vars f.clauses lines form hold)
 
--- whether a line without hints holds is whether its clause is one over the variables
-pub given_holds : (vars : ℕ) (before : List (List Lit)) (line : Line) (clause : List Lit) (formed : Bool) → clause ≡ clause_of line → hints_of line ≡ None → IsTrue formed ↔ IsClause vars clause → IsTrue formed ↔ LineHolds vars before line
-given_holds vars before (Learn c hs) clause formed is none form = absurd (let bad : Some hs ≡ None = none in cc)
-given_holds vars before (Given c) clause formed is none form = subst (λ (ls : List Lit). IsTrue formed ↔ IsClause vars ls) is form
-
--- a line with hints doesn't hold where its clause is empty or none over the variables
-pub learnable : (vars : ℕ) (before : List (List Lit)) (line : Line) (clause : List Lit) (hints : List ℕ) → clause ≡ clause_of line → hints_of line ≡ Some hints → LineHolds vars before line → (clause ≢ []) × IsClause vars clause
-learnable vars before (Learn c hs) clause hints is some holds = subst (λ (ls : List Lit). (ls ≢ []) × IsClause vars ls) (sym is) (holds.0, holds.1.0)
-learnable vars before (Given c) clause hints is some holds = absurd (let bad : None ≡ Some hints = some in cc)
-
--- whether a line with hints holds, whose clause isn't empty and is over the variables, is whether its hints show the clause
-pub learn_holds : (vars : ℕ) (before : List (List Lit)) (line : Line) (clause : List Lit) (hints : List ℕ) (shows : Bool) → clause ≡ clause_of line → hints_of line ≡ Some hints → clause ≢ [] → IsClause vars clause →
-    IsTrue shows ↔ IsShown before clause hints → IsTrue shows ↔ LineHolds vars before line
-learn_holds vars before (Learn c hs) clause hints shows is some filled form shown =
-    let same : hs ≡ hints = cc in
-    let both = subst (λ (ks : List ℕ). IsTrue shows ↔ IsShown before c ks) (sym same) (subst (λ (ls : List Lit). IsTrue shows ↔ IsShown before ls hints) is shown) in
-    (λ e. (subst (λ (ls : List Lit). ls ≢ []) is filled, (subst (IsClause vars) is form, both.0 e)), λ h. both.1 h.1.1)
-learn_holds vars before (Given c) clause hints shows is some filled form shown = absurd (let bad : None ≡ Some hints = some in cc)
-
 -- the clauses of one line more
 clauses_of-more : (lines : List Line) (i : ℕ) (clause : List Lit) → i < length lines → ((d : Line) → clause ≡ clause_of (get_or lines i d)) → clauses_of (take i lines) ++ clause ∷ [] ≡ clauses_of (take (i + 1) lines)
 clauses_of-more lines i clause lt is =

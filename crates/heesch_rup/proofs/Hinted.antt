@@ -21,16 +21,6 @@ has_place n values clause l fits one =
     let P : Lit → Type 0 = λ m. m.var < n in
     All-head P l [] (subst (All P) one (All-filter (λ m. not (is_false_value (lit_value values m))) P clause fits))
 
--- a hint that makes a literal true
-pub reaches-step : (clauses : List (List Lit)) (values : Values) (hints : List ℕ) (i : ℕ) (l : Lit) → i < length hints → IsUnit values (numbered clauses (get_or hints i 0)) l →
-    reaches_conflict clauses values (drop i hints) ≡ reaches_conflict clauses (with_true l values) (drop (i + 1) hints)
-reaches-step clauses values hints i l lt unit =
-    let rest = drop (i + 1) hints in
-    let next : Lit → Bool = λ m. reaches_conflict clauses (with_true m values) rest in
-    ap (reaches_conflict clauses values) (drop_more hints i 0 lt)
-    ∙ ap (λ left. after_hint values left (is_empty rest) next) unit.0
-    ∙ ap (λ o. is_none o && next l) unit.1
-
 -- the values that refute a clause, one literal more
 pub refuting-drop_more : (clause : List Lit) (i : ℕ) (d : Lit) → i < length clause → with_true (opposite (get_or clause i d)) (refuting (drop (i + 1) clause)) ≡ refuting (drop i clause)
 refuting-drop_more clause i d lt = ap refuting (sym (drop_more clause i d lt))

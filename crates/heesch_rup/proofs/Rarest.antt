@@ -17,14 +17,6 @@ rarest-of counts P first (l ∷ ls) p all =
     by_test true one other = one
     by_test false one other = other
 
--- the first literal, read once more, changes nothing
-pub rarest-again : (counts : List ℕ) (l : Lit) (ls : List Lit) → rarest counts (code_of l) (l ∷ ls) ≡ slot_of counts (l ∷ ls)
-rarest-again counts l ls = by_test (nat_lt (count_at counts (code_of l)) (count_at counts (code_of l)))
-  where
-    by_test : (t : Bool) → rarest counts (cond t (code_of l) (code_of l)) ls ≡ rarest counts (code_of l) ls
-    by_test true = refl
-    by_test false = refl
-
 pub code-lt : (l : Lit) (vars n : ℕ) → l.var ≤ vars → 2 * vars + 1 < n → code_of l < n
 code-lt l vars n le room = by_sign l.positive
   where

@@ -21,9 +21,6 @@ pub record AreGrownSoFar (g : Geometry) (n seed made : ℕ) (shapes : List (List
   pub grown : AreGrown g n seed made shapes
   pub state_is : state ≡ state_after (made * (n - 1)) seed
 
-pub grown_none : (g : Geometry) (n seed : ℕ) → AreGrownSoFar g n seed 0 [] seed
-grown_none g n seed = record { grown = refl; state_is = let e : 0 * (n - 1) ≡ 0 = omega arith in sym (ap (λ k. state_after k seed) e) }
-
 pub grown_next : (g : Geometry) (n seed made : ℕ) (shapes more : List (List Cell)) (state next : ℕ) (cells shape : List Cell)
     → AreGrownSoFar g n seed made shapes state → IsGrownBy g state (n - 1) cells → next ≡ state_after (n - 1) state → IsCanonicalListOf g cells shape → more ≡ shapes ++ shape ∷ []
     → AreGrownSoFar g n seed (made + 1) more next

@@ -14,19 +14,6 @@ use Rattle.heesch_reader.specs.Items.{item_lines, lines_of}
 use Rattle.heesch_parts.specs.Shares.{items_behind, share_items, joined_items, line_count, entries_of}
 use Rattle.heesch_share.specs.Joined.{IsFull}
 
--- one item more
-pub written_more : (all : List Item) (k : ℕ) (item : Item) (old new : List ℕ) → k < length all → item ≡ get_or all k item → old ≡ text_of (lines_of (take k all))
-    → new ≡ old ++ text_of (item_lines item) → new ≡ text_of (lines_of (take (k + 1) all))
-written_more all k item old new below is before after =
-    let front : List Item = take k all in
-    let more : take (k + 1) all ≡ front ++ item ∷ [] = take_more all k item below ∙ ap (λ (x : Item). front ++ x ∷ []) (sym is) in
-    let ls : lines_of (front ++ item ∷ []) ≡ lines_of front ++ item_lines item = flat_map-append item_lines front (item ∷ []) ∙ ap (λ (x : List Line). lines_of front ++ x) (append-nil (item_lines item)) in
-    after
-    ∙ ap (λ (x : List ℕ). x ++ text_of (item_lines item)) before
-    ∙ sym (flat_map-append line_text (lines_of front) (item_lines item))
-    ∙ ap text_of (sym ls)
-    ∙ ap (λ (x : List Item). text_of (lines_of x)) (sym more)
-
 behind_full : (before : ℕ) (es : List Entry) → All IsFull (items_behind before es)
 behind_full before [] = All-nil IsFull
 behind_full before (e ∷ es) = All-cons IsFull (items.Entry (before + 1) e) (items_behind (before + length (entry_lines e)) es) tt (behind_full (before + length (entry_lines e)) es)

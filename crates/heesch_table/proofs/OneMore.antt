@@ -14,38 +14,9 @@ use Rattle.heesch_table.specs.Steps.{with_one, with_tiling, with_undecided, Tili
 more : {X : Type 0} (p : X → Bool) (xs : List X) (x : X) → with_one (p x) (count_by p xs) ≡ count_by p (xs ++ x ∷ [])
 more p xs x = sym (sum_by_push (λ y. cond (p y) 1 0) xs x)
 
-pub tilings_more : (vs : List Verdict) (v : Verdict) → with_tiling v (tilings_of vs) ≡ tilings_of (vs ++ v ∷ [])
-tilings_more vs v = λ i. record {
-  translation = more is_translation vs v i;
-  halfturn = more is_halfturn vs v i;
-  periodic = more is_periodic vs v i;
-  isohedral = more is_isohedral vs v i;
 }
 
-pub undecided_more : (vs : List Verdict) (v : Verdict) → with_undecided v (undecided_of vs) ≡ undecided_of (vs ++ v ∷ [])
-undecided_more vs v = λ i. record {
-  levels = more is_levels vs v i;
-  holes = more is_holes vs v i;
-  turns = more is_turns vs v i;
-  size = more is_size vs v i;
 }
-
--- the counts after one more shape, each by how it came about
-pub counts_more : (found : List (Bool × Verdict)) (holed : Bool) (v : Verdict) (new : Counts)
-    → new.shapes ≡ length found + 1
-    → new.holed ≡ with_one holed (count_by (λ (f : Bool × Verdict). f.0) found)
-    → new.tilings ≡ with_tiling v (tilings_of (verdicts_of found))
-    → new.heesch ≡ heesch_of (verdicts_of found ++ v ∷ [])
-    → new.undecided ≡ with_undecided v (undecided_of (verdicts_of found))
-    → new ≡ counts_of (found ++ (holed, v) ∷ [])
-counts_more found holed v new shapes holes tilings heesch undecided =
-    let split : verdicts_of found ++ v ∷ [] ≡ verdicts_of (found ++ (holed, v) ∷ []) = sym (map_push (λ (f : Bool × Verdict). f.1) found (holed, v)) in
-    let shapes' : new.shapes ≡ length (found ++ (holed, v) ∷ []) = shapes ∙ sym (length-append found ((holed, v) ∷ [])) in
-    let holes' : new.holed ≡ count_by (λ (f : Bool × Verdict). f.0) (found ++ (holed, v) ∷ []) = holes ∙ more (λ (f : Bool × Verdict). f.0) found (holed, v) in
-    let tilings' : new.tilings ≡ tilings_of (verdicts_of (found ++ (holed, v) ∷ [])) = tilings ∙ tilings_more (verdicts_of found) v ∙ ap tilings_of split in
-    let heesch' : new.heesch ≡ heesch_of (verdicts_of (found ++ (holed, v) ∷ [])) = heesch ∙ ap heesch_of split in
-    let undecided' : new.undecided ≡ undecided_of (verdicts_of (found ++ (holed, v) ∷ [])) = undecided ∙ undecided_more (verdicts_of found) v ∙ ap undecided_of split in
-    λ i. record { shapes = shapes' i; holed = holes' i; tilings = tilings' i; heesch = heesch' i; undecided = undecided' i }
 
 one_within : (b : Bool) (count n : ℕ) → count ≤ n → with_one b count ≤ n + 1
 one_within b count n l = grind arith

@@ -116,9 +116,6 @@ module _ (g : Geometry) (xs : List Cell) (area : ℕ) where
     first = λ u h b. first_left area (CoversAlone g xs) t ts s u h.of_area h.covers b;
   }
 
-  pub no_translation : IsSearch area (CoversAlone g xs) [] → NoTranslation g xs area
-  no_translation s t h = none_left area (CoversAlone g xs) s t h.of_area h.covers
-
   abbrev pub HasShift : Triple → Type 0
   HasShift t = (v : Cell) × IsTurnedShift g xs t v
 
@@ -128,9 +125,6 @@ module _ (g : Geometry) (xs : List Cell) (area : ℕ) where
     shift = f;
     first = λ u w h b. first_left area HasShift t ts s u h.of_area (w, h.turned) b;
   }
-
-  pub no_half_turn : IsSearch area HasShift [] → NoHalfTurn g xs area
-  no_half_turn s t v h = none_left area HasShift s t h.of_area (v, h.turned)
 
 -- ---- areas
 pub exact_quotient : (p x y : ℕ) → 1 ≤ p → p * x ≡ p * y → x ≡ y

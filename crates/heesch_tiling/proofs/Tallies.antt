@@ -70,10 +70,6 @@ module _ (g : Geometry) (t : Triple) where
   pub adds_none : (counts : List ℕ) → AddsCounts g t [] counts counts
   adds_none counts = record { same = refl; each = λ k l. omega arith }
 
-  pub no_counts : (n : ℕ) → n ≡ window_size g t → AreCounts g t [] (replicate n 0)
-  no_counts n e = record {
-    all = length-replicate n 0 ∙ e;
-    each = λ k l. get_or-replicate n k 0 0 (omega (arith, e, l));
   }
 
   pub then_counts : (xs ys : List Cell) (old new : List ℕ) → AreCounts g t xs old → AddsCounts g t ys old new → AreCounts g t (xs ++ ys) new

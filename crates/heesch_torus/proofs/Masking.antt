@@ -80,9 +80,6 @@ module _ (g : Geometry) (t : Triple) where
     pub count_is : count ≡ cells_until k
     pub few : count ≤ k
 
-  pub numbered_none : Numbered 0 [] 0
-  numbered_none = record { long = refl; each = λ n l. absurd (omega arith); count_is = refl; few = omega arith }
-
   pub numbered_more : (k : ℕ) (old new : List ℕ) (count now : ℕ) (b : Bool) → is_cell_at k ≡ b → new ≡ old ++ count ∷ [] → now ≡ count + cond b 1 0 → Numbered k old count → Numbered (k + 1) new now
   numbered_more k old new count now b cell e is h = record {
     long = ap length e ∙ length-append old (count ∷ []) ∙ ap (λ n. n + 1) h.long;
@@ -283,9 +280,6 @@ module _ (g : Geometry) (shape : List Cell) (t : Triple) (law : IsGrid g) (tripl
         ]
 
   -- ---- the masks of later turns
-
-  pub no_masks_from : HasMasksFrom g shape t g.turns []
-  no_masks_from = record { only = λ m i. absurd (no_member m i); every = λ by p l m is. absurd (omega arith); few = omega arith }
 
   -- a tile and the one that a lattice vector moves it to have the same reduced cells
   module _ (form : (c : Cell) → Contains shape c → IsCell g c) where

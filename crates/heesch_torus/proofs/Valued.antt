@@ -227,20 +227,6 @@ module _ (g : Geometry) (law : IsGrid g) (shape : List Cell) (t : Triple) (tripl
   pub double_among : (by : Iso) → HasDouble g shape t by → (false ≡ true) ↔ HasMaskAmong g shape t masks by
   double_among by double = ((λ e. absurd (true≢false (sym e))), (λ a. absurd (double_unmasked g shape t law triple by a.0 double a.1)))
 
-pub variable_range : (g : Geometry) (shape : List Cell) (t : Triple) → t.p * t.q ≤ 384 → IsTriple t → (x : TorusVariable) → HasIsometry g shape t x → IsInRange g x.by
-variable_range g shape t small triple x h =
-    let w : IsWithinTriple t x.by = h.holds.0 in
-    let a = natural_below x.by.da t.p w.da_from w.da_below in
-    let b = natural_below x.by.db t.q w.db_from w.db_below in
-    let p = first_few t.p t.q triple.q_positive in
-    let q = second_few t.p t.q triple.p_positive in
-    let al : a.0 < t.p = a.2 in
-    let bl : b.0 < t.q = b.2 in
-    record { turn = h.holds.1.is_isometry; near = near x.by.da x.by.db a.0 b.0 a.1 b.1 (omega arith) (omega arith) }
-  where
-    first_few : (p q : ℕ) → 1 ≤ q → p ≤ p * q
-    first_few p q some = grind arith
-
     second_few : (p q : ℕ) → 1 ≤ p → q ≤ p * q
     second_few p q some = grind arith
 

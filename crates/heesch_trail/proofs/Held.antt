@@ -286,21 +286,6 @@ count-replicate : (n : ℕ) → count_by is_open (replicate n Open) ≡ n
 count-replicate zero = refl
 count-replicate (suc n) = omega (arith, sum_by-append weight (Open ∷ []) (replicate n Open), count-replicate n)
 
--- no assignments
-pub IsInner-empty : (vars : ℕ) (clauses : List (List Lit)) (values : List Truth) (levels reasons : List ℕ) (made : List Lit) → AreClauses vars clauses →
-    values ≡ replicate (2 * (vars + 1)) Open → levels ≡ replicate (vars + 1) 0 → reasons ≡ replicate (vars + 1) 0 → made ≡ [] → IsInner vars clauses values levels reasons made
-IsInner-empty vars clauses values levels reasons made form v a r m =
-    subst (λ x. IsInner vars clauses x levels reasons made) (sym v)
-    (subst (λ x. IsInner vars clauses (replicate (2 * (vars + 1)) Open) levels reasons x) (sym m) (record {
-      valid = record { clauses = form; steps = λ i d lt. absurd (omega arith); few = omega arith };
-      room = omega (arith, length-replicate (2 * (vars + 1)) Open);
-      level_room = ap length a ∙ length-replicate (vars + 1) 0;
-      reason_room = ap length r ∙ length-replicate (vars + 1) 0;
-      values_are = λ l le. ap value_in (open-replicate (2 * (vars + 1)) (code_of l)) ∙ sym (signed-none l.positive None refl);
-      open_at_zero = open-replicate (2 * (vars + 1)) 0;
-      counted = omega (arith, count-replicate (2 * (vars + 1)));
-    }))
-
 -- there is room for one more assignment
 pub Room-left : (vars : ℕ) (clauses : List (List Lit)) (values : List Truth) (levels reasons : List ℕ) (made : List Lit) (l : Lit) (n : ℕ) →
     IsInner vars clauses values levels reasons made → StepHolds vars clauses (steps_of levels reasons made) (record { lit = l; level = n; reason = None }) → length (steps_of levels reasons made) + 1 ≤ vars

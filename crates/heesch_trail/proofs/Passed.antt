@@ -17,18 +17,6 @@ use Rattle.heesch_trail.proofs.Levels.{Continues-none}
 use Rattle.heesch_trail.proofs.Visits.{HasTrue-continues}
 use Rattle.heesch_trail.proofs.Guards.{Code-same}
 
--- a pair of literals that aren't false hasn't a false one
-pub Unwatched-up : (trail : State) (watching : Watching) (l : Lit) (k : ℕ) → lit_value (values_of trail.steps) l ≡ Some false → AreNotFalse (values_of trail.steps) (pair_of watching.pairs k) → IsUnwatched watching l k
-Unwatched-up trail watching l k turned up p is =
-    let both = subst (AreNotFalse (values_of trail.steps)) is up in
-    (λ e. both.0 (subst (λ m. lit_value (values_of trail.steps) m ≡ Some false) (sym e) turned), λ e. both.1 (subst (λ m. lit_value (values_of trail.steps) m ≡ Some false) (sym e) turned))
-
--- the end of a clause, seen from the list of a literal
-pub By-end : (trail : State) (watching : Watching) (l : Lit) (k : ℕ) (found : Visit) → IsEnd trail k found → IsVisitBy trail watching l k found
-By-end trail watching l k TrueVisit h = h
-By-end trail watching l k Watched h = absurd h
-By-end trail watching l k (AllFalse n) h = h
-
 -- a false literal that isn't of a pair isn't of the next
 Unwatched-may : (values : Values) (l m : Lit) (pair : Option Pair) → lit_value values l ≡ Some false → ((q : Pair) → pair ≡ Some q → (q.one ≢ l) × (q.other ≢ l)) → MayWatch values pair m → m ≢ l
 Unwatched-may values l m pair turned un (inl up) = λ e. up (subst (λ x. lit_value values x ≡ Some false) (sym e) turned)

@@ -40,12 +40,6 @@ GoesOn-same trail old new valid whole same =
     subst (GoesOn trail old trail) (sym same) (GoesOn-lists trail old old valid whole refl refl (λ place e has. has) whole.sound)
 
 -- more assignments at the same level, and nothing moved
-pub GoesOn-steps : (old new : State) (w : Watching) → IsTrail new → Continues old new → AreWhole old.vars old.clauses w → GoesOn old w new w
-GoesOn-steps old new w valid go whole = record {
-  valid = valid;
-  steps = go;
-  moved = λ k. inl refl;
-  whole = subst (λ (st : State). AreWhole st.vars st.clauses w) (sym go.1.0) whole;
 }
 
 -- a binary clause in a false literal's list: its other literals but the blocker are false

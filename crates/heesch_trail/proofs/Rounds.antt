@@ -49,9 +49,6 @@ Made-at steps made i e d is lt =
     let count = ap length is ∙ length-map steps (λ (s : Step). s.lit) in
     ap (λ ls. get_or ls i e) is ∙ get_or-map (λ (s : Step). s.lit) steps i d e (omega (arith, lt, count))
 
-pub Opposite-at : (steps : List Step) (made : List Lit) (i : ℕ) (e l : Lit) → made ≡ made_by steps → i < length made → l ≡ opposite (get_or made i e) → (d : Step) → l ≡ opposite (get_or steps i d).lit
-Opposite-at steps made i e l is lt turned d = turned ∙ ap opposite (Made-at steps made i e d is lt)
-
 pub Made-few : (steps : List Step) (made : List Lit) → made ≡ made_by steps → length made ≡ length steps
 Made-few steps made is = ap length is ∙ length-map steps (λ (s : Step). s.lit)
 

@@ -77,12 +77,6 @@ module _ (g : Geometry) (limits : Limits) (shape : List Cell) where
     none_else = λ decided. absurd (decided undecided);
   }
 
-  -- and none, where the verdict is decided
-  pub no_triples : (verdict : Verdict) (triples : List TripleProof) → triples ≡ [] → (¬ IsUndecided verdict) → TriplesShow g limits shape verdict triples
-  no_triples verdict triples e decided =
-      subst (λ (xs : List TripleProof). TriplesShow g limits shape verdict xs) (sym e)
-      (record { all_searched = λ u. absurd (decided u); settled = All-nil (λ (x : TripleProof). SettlesTriple g shape limits.turns x.triple x.proof); none_else = λ _. refl })
-
   -- the searches of all triples end as an undecided verdict asks
   settled_for : (verdict : Verdict) (triples : List Triple) → AreUpTo g (length shape) limits.domain triples → IsUndecided verdict → (settled : Settled) → AreDomains g limits shape triples settled → IsSettledFor g limits shape verdict settled
   settled_for verdict triples a undecided (FirstCover tiling) s = s
@@ -92,25 +86,6 @@ module _ (g : Geometry) (limits : Limits) (shape : List Cell) where
   settled_result verdict triples a undecided (Ok settled) s = settled_for verdict triples a undecided settled s
   settled_result verdict triples a undecided (Err e) s = tt
 
-  pub searched_true : IsCanonicalShape g shape → (cells : List Cell) → cells ≡ shape → (searched : Searched) (triples : List TripleProof) → HasNoPlain g limits shape → IsSearched g limits shape searched → TriplesShow g limits shape searched.verdict triples
-      → IsTrueEntry g limits (record { cells = cells; verdict = searched.verdict; evidence = Search searched.free searched.wall searched.bare searched.wider triples })
-  searched_true s cells is searched triples none w show =
-      subst (λ (xs : List Cell). IsTrueEntry g limits (record { cells = xs; verdict = searched.verdict; evidence = evidence })) (sym is)
-      (record {
-        shape = (length shape, s.is_shape.polyform.some, s.is_shape.few, record { cells = shape; polyform = s.is_shape.polyform; size = refl; canonical = s.canonical });
-        form = form_of g limits shape searched.verdict searched.free searched.wall searched.bare searched.wider triples (none, w.fits);
-        cover = tt;
-        classes = no_classes searched.verdict;
-        free = (w.free.count, (w.free.tiles, w.free.spelled, w.free.free refl));
-        wall = w.wall;
-        wider = w.wider;
-        bare = (w.same, w.bare);
-        triples = show;
-      })
-    where
-      evidence : Evidence
-      evidence = Search searched.free searched.wall searched.bare searched.wider triples
-
       no_classes : (v : Verdict) → ClassesHold g shape v evidence
       no_classes (Tiles kind domain count) = tt
       no_classes (Heesch h m) = tt
@@ -118,15 +93,6 @@ module _ (g : Geometry) (limits : Limits) (shape : List Cell) where
       no_classes (Holes h) = tt
       no_classes (Turns h phase at) = tt
       no_classes (Size h phase at) = tt
-
--- an entry without a cover writes none
-pub no_cover_written : (g : Geometry) (limits : Limits) (cells : List Cell) (verdict : Verdict) (searched : Searched) (triples : List TripleProof) → HasEarliestCover g limits (record { cells = cells; verdict = verdict; evidence = Search searched.free searched.wall searched.bare searched.wider triples })
-no_cover_written g limits cells (Tiles kind domain count) searched triples = tt
-no_cover_written g limits cells (Heesch h m) searched triples = tt
-no_cover_written g limits cells (Levels h) searched triples = tt
-no_cover_written g limits cells (Holes h) searched triples = tt
-no_cover_written g limits cells (Turns h phase at) searched triples = tt
-no_cover_written g limits cells (Size h phase at) searched triples = tt
 
 -- a true entry has a right verdict
 pub right_of : (g : Geometry) → IsGrid g → (limits : Limits) → AreLimits limits → (r : Result Entry NoMemory) → IfOk r (IsTrueEntry g limits) → IfOk r (λ e. HasRightVerdict g limits e)

@@ -20,9 +20,6 @@ module _ (g : Geometry) (shape : List Cell) (turns : ℕ) where
   abbrev Settles : TripleProof → Type 0
   Settles x = SettlesTriple g shape turns x.triple x.proof
 
-  pub none_settled : AreSettled g shape turns [] []
-  none_settled = record { same = refl; settles = All-nil Settles; passed = All-nil (IsPassedOver g shape turns) }
-
   module _ (ts : List Triple) (i : ℕ) (d : Triple) (below : i < length ts) (old : List TripleProof) (s : AreSettled g shape turns (take i ts) old) where
     -- one triple more is settled
     pub one_settled : (new : List TripleProof) → SettlesOne g shape turns (get_or ts i d) old new → AreSettled g shape turns (take (i + 1) ts) new
