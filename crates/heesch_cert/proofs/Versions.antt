@@ -1,11 +1,10 @@
 -- What holds of the corona formula of both versions.
-use Rattle.std.proofs.Common.{ℕ, ◌≤◌, List, length, arith}
+use Rattle.std.proofs.Common.{ℕ, List, arith}
 use Rattle.heesch_grid.specs.declared.Cell.{Cell}
 use Rattle.heesch_grid.specs.Geometry.{Geometry}
 use Rattle.heesch_grid.specs.CoronaFormula.{Variable, IsUniverse}
 use Rattle.heesch_cnf.specs.declared.literal.Lit.{Lit}
 use Rattle.heesch_cnf.specs.declared.version.Version.{Version}
-use Rattle.heesch_cnf.specs.declared.version.Version.TheVariants.{One, Two}
 use Rattle.heesch_grid.proofs.VersionFacts as grid
 use Rattle.heesch_cert.specs.Literals.{literals}
 use Rattle.heesch_cert.specs.Formulas.{version_number, IsCountedFormula}

@@ -1,15 +1,14 @@
 -- The search for two sets that meet.
-use Rattle.std.proofs.Common.{◌≡◌, refl, sym, ap, subst, ◌∙◌, ℕ, suc, ◌+◌, ◌<◌, ◌≤◌, Bool, true, false, ◌||◌, min, Some, None, List, [], ◌∷◌, length, get_or, take, inl, inr, arith, true≢false, Contains}
-use Rattle.std.specs.Prelude.{nat_lt, Option}
+use Rattle.std.proofs.Common.{◌≡◌, refl, sym, ap, subst, ◌∙◌, ℕ, suc, ◌<◌, ◌≤◌, Bool, true, false, ◌||◌, min, Some, None, List, [], ◌∷◌, length, get_or, inl, inr, arith, true≢false, Contains}
+use Rattle.std.specs.Prelude.{nat_lt}
 use Rattle.std.proofs.lemmas.Bool.{cases_Bool}
-use Rattle.std.proofs.lemmas.List.Folds.{list_any_more}
 use Rattle.std.proofs.lemmas.List.Elements.{Contains-get_or}
 use Rattle.heesch_grid.specs.declared.Cell.{Cell}
 use Rattle.heesch_grid.specs.Listing.{IsRising}
 use Rattle.heesch_grid.specs.Cells.{has, meet}
 use Rattle.heesch_index.specs.Covering.{numbers_with}
 use Rattle.heesch_index.proofs.NumberFacts.{IsRising-numbers_with, numbers_with-range, has-numbers_with, Contains-numbers_with}
-use Rattle.heesch_corona.specs.Searches.{set_of, lesser_of, IsNextMeeting}
+use Rattle.heesch_corona.specs.Searches.{set_of, IsNextMeeting}
 use Rattle.heesch_corona.proofs.Members.{rising_at, number_at}
 
 or_false : (a b : Bool) → (a || b) ≡ false → (a ≡ false) × (b ≡ false)

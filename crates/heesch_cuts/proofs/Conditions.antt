@@ -25,7 +25,7 @@ use Rattle.heesch_cert.specs.Cuts.{IsVariableAt, IsBorderVariable, IsInBorder, I
 use Rattle.heesch_place.specs.Universes.{covering}
 use Rattle.heesch_cuts.specs.Marks.{is_marked, is_in}
 use Rattle.heesch_cuts.specs.Enclosing.{IsOutside, is_covered, is_held, are_held}
-use Rattle.heesch_cuts.proofs.Covering.{Entry, numbered, number_range, number_same, covering_entry, entry_covering}
+use Rattle.heesch_cuts.proofs.Covering.{Entry, numbered, number_same, covering_entry, entry_covering}
 
 -- ---- tests of each element
 

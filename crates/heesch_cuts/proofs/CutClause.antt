@@ -1,5 +1,5 @@
 -- The clause of a cut from marks of its border and of what fills its hole.
-use Rattle.std.proofs.Common.{◌≡◌, refl, sym, ap, ◌∙◌, ℕ, ◌+◌, Bool, false, ◌&&◌, ◌||◌, List, [], ◌∷◌, ◌++◌, length, filter_map, replicate, Contains, Option, Some, None, arith}
+use Rattle.std.proofs.Common.{◌≡◌, refl, sym, ap, ◌∙◌, ℕ, ◌+◌, Bool, ◌&&◌, List, [], ◌∷◌, ◌++◌, length, filter_map, Contains, Option, Some, None, arith}
 use Rattle.std.specs.Prelude.{nat_eq, nat_le, option_to_list}
 use Rattle.std.specs.List.{list_any, enumerate_from, range_with_len, cons_option}
 use Rattle.std.proofs.lemmas.Bool.{and_parts, and_from}
@@ -16,7 +16,7 @@ use Rattle.heesch_cert.specs.declared.proof.Cut.{Cut}
 use Rattle.heesch_cert.specs.Cuts.{cut_clause}
 use Rattle.heesch_place.specs.Universes.{covering}
 use Rattle.heesch_cuts.specs.Marks.{is_marked, is_in, literal_of}
-use Rattle.heesch_cuts.proofs.Marking.{range_more, none_marked}
+use Rattle.heesch_cuts.proofs.Marking.{range_more}
 use Rattle.heesch_cuts.proofs.Covering.{Entry, covering_is}
 
 -- one more number's literal

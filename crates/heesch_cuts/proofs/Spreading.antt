@@ -1,11 +1,11 @@
 -- A spread over the places of a hole, and the part that it reaches.
-use Rattle.std.proofs.Common.{◌≡◌, refl, sym, ap, subst, ◌∙◌, ℕ, zero, suc, ◌+◌, ◌-◌, ◌<◌, ◌≤◌, ◌⊎◌, Bool, true, false, not, cond, List, [], ◌∷◌, ◌++◌, length, get_or, set, take, map, filter, replicate, All, Contains, Some, arith, inl, inr, true≢false, eq-eqb, eqb-true}
+use Rattle.std.proofs.Common.{◌≡◌, refl, sym, ap, subst, ◌∙◌, ℕ, zero, suc, ◌+◌, ◌-◌, ◌<◌, ◌≤◌, ◌⊎◌, Bool, true, false, not, cond, List, [], ◌∷◌, ◌++◌, length, get_or, set, take, map, filter, All, Contains, Some, arith, inl, inr, true≢false, eq-eqb, eqb-true}
 use Rattle.std.specs.Prelude.{nat_eq, IsTrue, None, unwrap_or, count_by}
 use Rattle.std.specs.List.{enumerate_from, slice_get}
 use Rattle.std.proofs.lemmas.Bool.{cases_Bool}
-use Rattle.std.proofs.lemmas.List.{length-set, length-replicate, length_push, take_more, take_all, map-append}
+use Rattle.std.proofs.lemmas.List.{length-set, length_push, take_more, take_all, map-append}
 use Rattle.std.proofs.lemmas.List.Sums.{sum_by-set}
-use Rattle.std.proofs.lemmas.List.Elements.{All-contains, All-weaker, All-push, All-nil, All-cons, filter-append, Contains-append_left, Contains-push, Contains-push_cases}
+use Rattle.std.proofs.lemmas.List.Elements.{All-contains, All-weaker, All-push, filter-append, Contains-append_left, Contains-push, Contains-push_cases}
 use Rattle.std.proofs.lemmas.List.FromFn.{length-enumerate_from, get_or-enumerate_from}
 use Rattle.std.proofs.lemmas.Option.{get_or_from_slice_get}
 use Rattle.heesch_grid.specs.declared.Cell.{Cell}
@@ -15,13 +15,13 @@ use Rattle.heesch_grid.specs.Pairs.{has-true}
 use Rattle.heesch_grid.specs.Geometry.{Geometry, IsGrid, IsCell, Adjacent}
 use Rattle.heesch_grid.proofs.CellFacts.{has-false, cell_before-irreflexive}
 use Rattle.heesch_grid.proofs.GridFacts.{adjacent_exact}
-use Rattle.heesch_grid.proofs.ListFacts.{no_member, member_here, member_there, member_at, All-from_members, rising_filter, member_filter, filter_member}
+use Rattle.heesch_grid.proofs.ListFacts.{member_here, member_there, member_at, All-from_members, rising_filter, member_filter, filter_member}
 use Rattle.heesch_grid.proofs.ClauseFacts.{entry_at, entry_variable}
 use Rattle.heesch_grid.proofs.WindowFacts.{member_map, map_member}
 use Rattle.heesch_cuts.specs.Marks.{is_marked}
 use Rattle.heesch_cuts.specs.Patches.{Grows}
 use Rattle.heesch_cuts.specs.Parts.{IsClosedPart, IsReached, IsSurrounded, IsClosed, WentOn, IsSpread, marked_cells}
-use Rattle.heesch_cuts.proofs.Marking.{none_marked, marked-set_same, marked-set_other}
+use Rattle.heesch_cuts.proofs.Marking.{marked-set_other}
 use Rattle.heesch_cuts.proofs.Bordering.{grows_set}
 use Rattle.heesch_cuts.proofs.Covering.{get_at}
 

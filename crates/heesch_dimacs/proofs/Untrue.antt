@@ -1,7 +1,7 @@
 -- Clauses of which no literal is true.
 use Rattle.std.proofs.Common.{◌≡◌, ℕ, ◌+◌, ◌-◌, ◌<◌, ◌≤◌, Bool, List, [], take, length, get_or, take_all, sym, subst, arith}
 use Rattle.heesch_cnf.specs.declared.literal.Lit.{Lit}
-use Rattle.heesch_cnf.specs.Clauses.{IsSatisfied, IsMadeTrue, Satisfies}
+use Rattle.heesch_cnf.specs.Clauses.{IsSatisfied, Satisfies}
 use Rattle.heesch_dimacs.specs.Formulas.{IsFirstFalse}
 
 -- none of the first literals is true

@@ -1,8 +1,8 @@
 -- Numbers of variables in a list of them.
-use Rattle.std.proofs.Common.{◌≡◌, sym, ap, subst, ◌∙◌, ℕ, ◌+◌, ◌<◌, ◌≤◌, List, [], ◌∷◌, ◌++◌, filter, length, get_or, take, Bool, true, false, cond, arith, Contains}
+use Rattle.std.proofs.Common.{◌≡◌, sym, ap, subst, ◌∙◌, ℕ, ◌<◌, ◌≤◌, List, [], length, get_or, arith, Contains}
 use Rattle.std.specs.List.{enumerate_from}
-use Rattle.std.proofs.lemmas.List.{append-nil, append_assoc, map-append, length-map, get_or-map, get_or_default}
-use Rattle.std.proofs.lemmas.List.Elements.{filter_more, Contains-get_or}
+use Rattle.std.proofs.lemmas.List.{length-map, get_or-map, get_or_default}
+use Rattle.std.proofs.lemmas.List.Elements.{Contains-get_or}
 use Rattle.heesch_grid.specs.CoronaFormula.{Variable}
 use Rattle.heesch_grid.proofs.ClauseFacts.{entry_at}
 use Rattle.heesch_place.specs.Universes.{IsNumbered}

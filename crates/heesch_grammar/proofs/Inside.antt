@@ -1,5 +1,5 @@
 -- Lines that lead to the end of an entry are the lines of what is read of them.
-use Rattle.std.proofs.Common.{◌≡◌, ℕ, zero, suc, ◌≤◌, Bool, true, false, List, [], ◌∷◌, ◌++◌, length, Option, Some, is_some, refl, sym, ap, subst, ◌∙◌, arith}
+use Rattle.std.proofs.Common.{◌≡◌, ℕ, zero, suc, ◌≤◌, Bool, true, false, List, [], ◌∷◌, ◌++◌, length, Some, is_some, refl, sym, ap, ◌∙◌, arith}
 use Rattle.std.specs.Bool.{then_some}
 use Rattle.std.specs.Prelude.{option_and_then}
 use Rattle.std.specs.List.{flat_map}
@@ -10,7 +10,7 @@ use Rattle.heesch_grammar.specs.declared.place.AfterProof.{AfterProof}
 use Rattle.heesch_grammar.specs.declared.place.AfterProof.TheVariants as afters
 use Rattle.heesch_grammar.specs.declared.place.Place.{Place}
 use Rattle.heesch_grammar.specs.declared.place.Place.TheVariants as places
-use Rattle.heesch_grammar.specs.Grammar.{next, is_whole, behind, layers, wider}
+use Rattle.heesch_grammar.specs.Grammar.{is_whole, behind, layers, wider}
 use Rattle.heesch_grammar.specs.Parts.{proof_at, behind_proof, layers_at, behind_layers, places_at, members_at, few_triples, triples_at}
 use Rattle.heesch_grammar.specs.Entries.{follow, Lead}
 use Rattle.heesch_grammar.proofs.Taking.{behind_shorter}

@@ -1,21 +1,17 @@
 -- Each universe has a list of its owned cells, so the second formula exists beside the first; and what the number of binary digits is.
-use Rattle.std.proofs.Common.{◌≡◌, refl, sym, subst, ℕ, zero, suc, ◌+◌, ◌-◌, ◌^◌, ◌<◌, ◌≤◌, le-leb, leb-true, List, [], ◌∷◌, filter, length, flat_map, Bool, false, cond, inl, inr, arith, Contains}
-use Rattle.std.specs.Prelude.{nat_le, sum_by}
+use Rattle.std.proofs.Common.{◌≡◌, sym, subst, ℕ, zero, suc, ◌+◌, ◌-◌, ◌^◌, ◌<◌, ◌≤◌, leb-true, List, [], ◌∷◌, filter, length, flat_map, Bool, false, cond, inl, inr, arith, Contains}
+use Rattle.std.specs.Prelude.{nat_le}
 use Rattle.std.specs.List.{enumerate_from, range_with_len}
 use Rattle.std.proofs.lemmas.Bool.{cases_Bool, cases_order}
 use Rattle.heesch_grid.specs.declared.Cell.{Cell}
-use Rattle.heesch_grid.specs.Listing.{ListsExactly}
-use Rattle.heesch_grid.specs.Cells.{cell_before, has}
-use Rattle.heesch_grid.specs.Geometry.{Geometry, IsGrid}
-use Rattle.heesch_grid.specs.Clauses.{Literals}
-use Rattle.heesch_grid.specs.CoronaFormula.{Variable, IsUniverse}
-use Rattle.heesch_grid.specs.OwnerFormula.{holders, IsOwned, digits, owner_count, owned_corona_clauses, IsOwnerFormula}
+use Rattle.heesch_grid.specs.Cells.{has}
+use Rattle.heesch_grid.specs.CoronaFormula.{Variable}
+use Rattle.heesch_grid.specs.OwnerFormula.{holders, digits}
 use Rattle.heesch_grid.specs.Pairs.{has-true}
-use Rattle.heesch_grid.proofs.ListFacts.{member_here, All-from_members, filter_member, member_filter}
+use Rattle.heesch_grid.proofs.ListFacts.{member_here, filter_member}
 use Rattle.heesch_grid.proofs.WindowFacts.{map_member, member_flat_map}
 use Rattle.heesch_grid.proofs.ClauseFacts.{entry_variable}
-use Rattle.heesch_grid.proofs.AroundFacts.{cells_around, around_given}
-use Rattle.heesch_grid.proofs.SortFacts.{sorted, sorted_list, has_sorted, sorted_has}
+use Rattle.heesch_grid.proofs.SortFacts.{sorted}
 use Rattle.heesch_grid.proofs.UniverseClauses.{Entry}
 use Rattle.heesch_grid.proofs.OwnersToModel.{pow_rises, below_digits}
 

@@ -26,7 +26,7 @@ use Rattle.heesch_shape.proofs.Made.{same_cell_laws}
 use Rattle.heesch_shape.proofs.Parting.{same_cell_flips}
 use Rattle.heesch_shape.proofs.Sets.{rises_from_sorted}
 use Rattle.heesch_shape.proofs.Words.{list_of_same}
-use Rattle.heesch_grow.specs.Collects.{IsCollection, Collects}
+use Rattle.heesch_grow.specs.Collects.{Collects}
 use Rattle.heesch_grow.specs.Generator.{IsBeside, SomeCellIsBeside}
 use Rattle.heesch_grow.proofs.Adding.{adjacent_at, place_in}
 

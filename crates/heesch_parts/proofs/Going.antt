@@ -1,11 +1,11 @@
 -- Share texts that are read from a source, piece by piece.
-use Rattle.std.proofs.Common.{◌≡◌, ℕ, ◌+◌, ◌<◌, ◌≤◌, List, [], ◌∷◌, ◌++◌, length, take, length-append, append-nil, refl, sym, subst, ◌∙◌, arith, append_assoc}
+use Rattle.std.proofs.Common.{◌≡◌, ℕ, ◌+◌, ◌<◌, ◌≤◌, List, [], ◌∷◌, ◌++◌, length, take, length-append, append-nil, sym, subst, ◌∙◌, arith, append_assoc}
 use Rattle.std.specs.Prelude.{Option, Some, None, Result, Ok, Err, IfOk, IfErr}
 use Rattle.std.specs.Io.KnownBytes.{Consumes, Keeps, IsAtEnd}
 use Rattle.std.proofs.lemmas.List.{length-take-le}
 use Rattle.heesch_reader.specs.declared.item.Item.{Item}
 use Rattle.heesch_io.specs.Input.{IsAllOf}
-use Rattle.heesch_io.proofs.KnownBytes.{all_given, consumes_both, consumes_none, front_given, front_read, one_byte}
+use Rattle.heesch_io.proofs.KnownBytes.{all_given, consumes_both, front_given, front_read, one_byte}
 use Rattle.heesch_parts.specs.declared.join_stop.JoinStop.{JoinStop}
 use Rattle.heesch_parts.specs.declared.join_stop.JoinStop.TheVariants as join_stops
 use Rattle.heesch_parts.specs.declared.input_stop.InputStop.{InputStop}

@@ -1,12 +1,10 @@
 -- Moves of cell lists, and isometries that differ by a move.
-use Rattle.std.proofs.Common.{◌≡◌, refl, sym, ap, subst, ◌∙◌, ℕ, zero, suc, ◌+◌, ◌*◌, ◌/◌, ◌%◌, ◌<◌, ◌≤◌, true, List, [], ◌∷◌, ◌++◌, map, length, get_or, take, ℤ, pos, negsuc, neg_ℤ, ◌+ℤ◌, ◌-ℤ◌, ◌*ℤ◌, ◌≤ℤ◌, ◌<ℤ◌, inl, inr, arith, All, Contains}
+use Rattle.std.proofs.Common.{◌≡◌, refl, sym, ap, subst, ◌∙◌, ℕ, zero, suc, ◌+◌, ◌*◌, ◌<◌, ◌≤◌, true, List, [], ◌∷◌, ◌++◌, map, length, get_or, take, ℤ, pos, ◌*ℤ◌, inl, inr, arith, All, Contains}
 use Rattle.std.specs.Prelude.{nat_lt, false}
-use Rattle.std.specs.Int.{int_rem_euclid}
 use Rattle.std.proofs.lemmas.Int.{ints}
 use Rattle.std.proofs.lemmas.Bool.{cases_Bool}
-use Rattle.std.proofs.lemmas.List.{take_more, length-map}
+use Rattle.std.proofs.lemmas.List.{take_more}
 use Rattle.std.proofs.lemmas.List.Elements.{All-contains}
-use Rattle.std.proofs.Math.Seq.{take-length}
 use borrow.Author.Tests.{ltb-true}
 use Rattle.heesch_grid.specs.declared.Cell.{Cell}
 use Rattle.heesch_grid.specs.declared.isometries.Iso.{Iso}
@@ -15,13 +13,11 @@ use Rattle.heesch_grid.specs.Cells.{cell, cell_before, has, IsCellListOf}
 use Rattle.heesch_grid.specs.Geometry.{Geometry, IsIsometry, apply, image}
 use Rattle.heesch_grid.specs.Placement.{IsLeastIsometry}
 use Rattle.heesch_grid.specs.Vectors.{AreUnitsOf, IsWithin, plus}
-use Rattle.heesch_grid.specs.Integers.{mul_neg}
 use Rattle.heesch_grid.specs.Pairs.{Cell-eta}
 use Rattle.heesch_grid.specs.PatternLaws.{rises_moved}
 use Rattle.heesch_grid.proofs.CellFacts.{cell_before-irreflexive, cell_before-asymmetric, has-is}
 use Rattle.heesch_grid.proofs.ListFacts.{same_listing, All-from_members}
 use Rattle.heesch_grid.proofs.WindowFacts.{member_map, map_member}
-use Rattle.heesch_grid.proofs.CanonicalFacts.{rounds_once}
 use Rattle.heesch_shape.proofs.Loops.{map_more}
 use Rattle.heesch_shape.proofs.Words.{rising_test}
 use Rattle.heesch_place.specs.Steps.{IsFirstOf}

@@ -6,7 +6,7 @@ use Rattle.heesch_cnf.specs.declared.log.Line.{Line}
 use Rattle.heesch_cnf.specs.declared.log.Line.TheVariants.{Given}
 use Rattle.heesch_cnf.specs.declared.log.Log.{Log}
 use Rattle.heesch_cnf.specs.Flat.{Clauses}
-use Rattle.heesch_cnf.specs.Lines.{IsShown, LineHolds, HoldsAtLine, LinesHold, LinesAreNew, HasFinal, Refutes, IsSpent, clause_of, clauses_of, clauses_with}
+use Rattle.heesch_cnf.specs.Lines.{IsShown, LineHolds, HoldsAtLine, LinesHold, LinesAreNew, IsSpent, clause_of, clauses_of, clauses_with}
 use Rattle.heesch_rup.specs.Answer.{AddsFirst, FailsAtLine, FinalFails, IsFirstBad, IsFirstFailing, IsFormless}
 use Rattle.heesch_rup.specs.Hints.{hints_of}
 use Rattle.heesch_rup.proofs.Forms.{added_all, before_line, line-form}

@@ -4,7 +4,7 @@ use Rattle.std.proofs.lemmas.Bool.Decides.{Decides-eqb}
 use Rattle.std.proofs.lemmas.List.{get_or_append_left, get_or-append-add, get_or_default, length-set}
 use Rattle.heesch_cnf.specs.declared.literal.Lit.{Lit}
 use Rattle.heesch_cnf.specs.Literals.{Values}
-use Rattle.heesch_rup.specs.Listed.{slot_at, IsLastBelow, IsFalsified, NoneFalsifiedAt}
+use Rattle.heesch_rup.specs.Listed.{slot_at, IsLastBelow, IsFalsified}
 
 -- how many places a walk can still read
 abbrev pub places_left : Option ℕ → ℕ

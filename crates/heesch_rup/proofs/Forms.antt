@@ -1,4 +1,4 @@
-use Rattle.std.proofs.Common.{refl, zero, suc, ◌≡◌, ◌≢◌, ℕ, ◌+◌, ◌<◌, ◌≤◌, Bool, IsTrue, ◌↔◌, None, Some, List, [], ◌∷◌, ◌++◌, length, get_or, take, map, All, sym, ap, ◌∙◌, subst, arith, get_or-take, length-take-le, length-append}
+use Rattle.std.proofs.Common.{refl, zero, suc, ◌≡◌, ℕ, ◌+◌, ◌<◌, ◌≤◌, List, [], ◌∷◌, ◌++◌, length, get_or, take, map, All, sym, ap, ◌∙◌, subst, arith, get_or-take, length-take-le, length-append}
 use Rattle.std.proofs.Math.Seq.{take-append-add}
 use Rattle.std.proofs.lemmas.List.Elements.{All-append, All-map}
 use Rattle.std.proofs.lemmas.List.{take_all as take_whole, take-take, take_more, map-append, length-map}
@@ -7,9 +7,8 @@ use Rattle.heesch_cnf.specs.declared.log.Line.{Line}
 use Rattle.heesch_cnf.specs.declared.log.Line.TheVariants.{Learn, Given}
 use Rattle.heesch_cnf.specs.Clauses.{IsClause, AreClauses}
 use Rattle.heesch_cnf.specs.Flat.{Clauses}
-use Rattle.heesch_cnf.specs.Lines.{IsShown, LineHolds, HoldsAtLine, LinesHold, clause_of, clauses_of, clauses_with}
+use Rattle.heesch_cnf.specs.Lines.{LineHolds, HoldsAtLine, LinesHold, clause_of, clauses_of, clauses_with}
 use Rattle.heesch_rup.specs.Answer.{AddsFirst}
-use Rattle.heesch_rup.specs.Hints.{hints_of}
 
 -- the clause of a line that holds is one over the variables
 pub line-form : (vars : ℕ) (clauses : List (List Lit)) (line : Line) → LineHolds vars clauses line → IsClause vars (clause_of line)

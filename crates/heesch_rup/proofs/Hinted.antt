@@ -6,7 +6,6 @@ use Rattle.heesch_cnf.specs.Literals.{Values, lit_value, is_false_value, with_tr
 use Rattle.heesch_cnf.specs.Clauses.{IsClause, AreClauses, left_of}
 use Rattle.heesch_cnf.specs.Lines.{numbered, after_hint, is_empty, reaches_conflict, refuting, IsNumber, AreNumbers, IsShown}
 use Rattle.heesch_rup.specs.Hints.{IsNumberUpTo}
-use Rattle.heesch_rup.specs.Status.{IsUnit}
 
 -- the variables of a clause have places in a list that is longer than their number
 pub have_places : (vars n : ℕ) (clause : List Lit) → vars < n → IsClause vars clause → All (λ l. l.var < n) clause

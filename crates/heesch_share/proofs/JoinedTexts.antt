@@ -1,16 +1,11 @@
 -- The text of the items that share texts are joined to.
-use Rattle.std.proofs.Common.{◌≡◌, ℕ, ◌+◌, ◌<◌, List, [], ◌∷◌, ◌++◌, length, take, get_or, sym, ap, ◌∙◌, append-nil, All}
-use Rattle.std.proofs.lemmas.List.{take_more}
-use Rattle.std.proofs.lemmas.List.Concat.{flat_map-append}
+use Rattle.std.proofs.Common.{ℕ, ◌+◌, List, [], ◌∷◌, ◌++◌, length, All}
 use Rattle.std.proofs.lemmas.List.Elements.{All-append, All-cons, All-nil}
 use Rattle.heesch_cert.specs.declared.entry.Entry.{Entry}
 use Rattle.heesch_cert.specs.declared.header.Header.{Header}
-use Rattle.heesch_text.specs.Lines.{line_text, text_of}
-use Rattle.heesch_text.specs.declared.line.Line.{Line}
 use Rattle.heesch_text.specs.Catalogue.{entry_lines}
 use Rattle.heesch_reader.specs.declared.item.Item.{Item}
 use Rattle.heesch_reader.specs.declared.item.Item.TheVariants as items
-use Rattle.heesch_reader.specs.Items.{item_lines, lines_of}
 use Rattle.heesch_parts.specs.Shares.{items_behind, share_items, joined_items, line_count, entries_of}
 use Rattle.heesch_share.specs.Joined.{IsFull}
 

@@ -1,14 +1,12 @@
 -- The counts of a list with one more shape.
-use Rattle.std.proofs.Common.{◌≡◌, ℕ, ◌+◌, ◌≤◌, Bool, true, false, cond, List, [], ◌∷◌, ◌++◌, length, sym, ap, ◌∙◌, length-append, arith}
+use Rattle.std.proofs.Common.{◌≡◌, ℕ, ◌+◌, ◌≤◌, Bool, true, false, cond, List, [], ◌∷◌, ◌++◌, sym, arith}
 use Rattle.std.specs.Prelude.{count_by}
 use mir.Val.{bool_byte}
-use Rattle.std.proofs.lemmas.List.{map_push}
 use Rattle.std.proofs.lemmas.List.Sums.{sum_by_push}
 use Rattle.heesch_cert.specs.declared.verdict.Verdict.{Verdict}
 use Rattle.heesch_table.specs.declared.tilings.TilingCounts.{TilingCounts}
 use Rattle.heesch_table.specs.declared.undecided.UndecidedCounts.{UndecidedCounts}
 use Rattle.heesch_table.specs.Verdicts.{is_translation, is_halfturn, is_periodic, is_isohedral, is_levels, is_holes, is_turns, is_size}
-use Rattle.heesch_table.specs.Counts.{Counts, counts_of, verdicts_of, tilings_of, heesch_of, undecided_of}
 use Rattle.heesch_table.specs.Steps.{with_one, with_tiling, with_undecided, TilingsAreWithin, UndecidedAreWithin}
 
 more : {X : Type 0} (p : X → Bool) (xs : List X) (x : X) → with_one (p x) (count_by p xs) ≡ count_by p (xs ++ x ∷ [])

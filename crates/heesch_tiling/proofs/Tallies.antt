@@ -1,8 +1,8 @@
 -- Counts by the numbers of cells: one more cell, one more list of cells, and what full counts say.
 use Rattle.std.proofs.Common.{◌≡◌, ◌↔◌, refl, sym, ap, subst, ◌∙◌, ℕ, suc, ◌+◌, ◌<◌, ◌≤◌, List, [], ◌∷◌, ◌++◌, map, filter, length, take, drop, get_or, Bool, true, false, cond, inl, inr, arith, All}
-use Rattle.std.specs.Prelude.{ℤ, ◌*◌, ◌≢◌, slice_index, slice_set, replicate}
+use Rattle.std.specs.Prelude.{ℤ, ◌*◌, ◌≢◌, slice_index, slice_set}
 use Rattle.std.proofs.lemmas.Bool.{cases_Bool, cases_order}
-use Rattle.std.proofs.lemmas.List.{length-take-le, length-set, length-replicate, get_or-set_same, get_or-set_other, take_more, take-append-drop, get_or-replicate}
+use Rattle.std.proofs.lemmas.List.{length-take-le, length-set, get_or-set_same, get_or-set_other, take_more, take-append-drop}
 use Rattle.std.proofs.lemmas.List.Elements.{All-cons}
 use Rattle.heesch_grid.specs.declared.Cell.{Cell}
 use Rattle.heesch_grid.specs.declared.isometries.Iso.{Iso}
@@ -12,7 +12,7 @@ use Rattle.heesch_grid.specs.Geometry.{Geometry, IsGrid, IsIsometry, apply, imag
 use Rattle.heesch_grid.specs.Polyform.{IsPolyform}
 use Rattle.heesch_grid.specs.Lattice.{Triple, IsTriple, IsReduced}
 use Rattle.heesch_grid.specs.Tiling.{IsPeriodicCover, no_move, half_turned}
-use Rattle.heesch_tiling.specs.Counting.{residue, tile_residues, residues, times_in, window_size, in_window, AreCounts, AddsCounts, HasRepeat, IsFull}
+use Rattle.heesch_tiling.specs.Counting.{residue, tile_residues, residues, times_in, in_window, AreCounts, AddsCounts, HasRepeat, IsFull}
 use Rattle.heesch_tiling.proofs.Steps.{map_append, map_length, append_none}
 use Rattle.heesch_tiling.proofs.Spots.{one_number, window_reduced, same_test, none_reduced}
 use Rattle.heesch_tiling.proofs.Covers.{covers_once}

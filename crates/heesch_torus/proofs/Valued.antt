@@ -20,13 +20,13 @@ use Rattle.heesch_grid.specs.Lattice.{Triple, IsTriple, IsReduced}
 use Rattle.heesch_grid.specs.Pairs.{has-true, same_cell-refl}
 use Rattle.heesch_grid.specs.Polyform.{IsPolyform}
 use Rattle.heesch_grid.specs.Tiling.{IsPeriodicCover}
-use Rattle.heesch_grid.specs.TorusFormula.{IsReducedFrom, GivesResidues, IsWithinTriple}
+use Rattle.heesch_grid.specs.TorusFormula.{IsReducedFrom, GivesResidues}
 use Rattle.heesch_grid.proofs.ListFacts.{member_here, member_there, All-from_members, filter_member, member_filter, rising_filter, same_rising, any_member, member_any}
 use Rattle.heesch_grid.proofs.CellFacts.{has-is, cell_before-irreflexive, cell_before-asymmetric, cells_before-irreflexive}
 use Rattle.heesch_grid.proofs.ClauseFacts.{entry_at, entry_of, entries_rising, entries_ordered}
 use Rattle.heesch_grid.proofs.SortFacts.{sorted, sorted_list, sorted_has, has_sorted}
 use Rattle.heesch_grid.proofs.GrowthOfLists.{NoRepeat, sorted_length, not_has}
-use Rattle.heesch_tiling.specs.Counting.{tile_residues, times_in, IsInRange}
+use Rattle.heesch_tiling.specs.Counting.{tile_residues, times_in}
 use Rattle.heesch_grid.proofs.WindowFacts.{map_member, member_map}
 use Rattle.heesch_tiling.proofs.Areas.{fills}
 use Rattle.heesch_tiling.proofs.Distinct.{OnePasses, one_passes}
@@ -41,7 +41,6 @@ use Rattle.heesch_torus.proofs.Images.{from_tile, in_tile, tile_count}
 use Rattle.heesch_torus.proofs.Masking.{one_mask, double_unmasked}
 use Rattle.heesch_torus.proofs.Modelled.{Numbered, TwoOf, two_of, of_variable, member_some, times_some, tile_times, with_cell, once_covers, are_chosen}
 use Rattle.heesch_torus.proofs.Numbering.{reduced_listed}
-use Rattle.heesch_torus.proofs.Tried.{natural_below}
 
 -- ---- a list in which no cell stands twice
 

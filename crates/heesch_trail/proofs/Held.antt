@@ -1,12 +1,12 @@
 -- How the fields of the assignments stay together.
 use Rattle.std.proofs.Common.{◌≡◌, ◌≢◌, ℕ, zero, suc, ◌+◌, ◌*◌, ◌-◌, ◌<◌, ◌≤◌, Bool, true, false, cond, eqb, not, Option, None, Some, option_map, List, [], ◌∷◌, ◌++◌, length, get_or, set, take, replicate, Decides, count_by, sym, ap, ◌∙◌, subst, inl, inr, refl, arith, length-append, length-set, get_or-set_same, get_or-set_other}
-use Rattle.std.proofs.lemmas.List.{length-replicate, length-map, map-append, get_or-map}
+use Rattle.std.proofs.lemmas.List.{length-map, map-append, get_or-map}
 use Rattle.std.proofs.lemmas.List.Sums.{sum_by-set, sum_by-append}
 use Rattle.std.proofs.lemmas.List.Elements.{All-push}
 use Rattle.std.proofs.lemmas.Bool.Decides.{Decides-eqb}
 use Rattle.heesch_cnf.specs.declared.literal.Lit.{Lit}
 use Rattle.heesch_cnf.specs.Literals.{lit_value, signed, opposite, making}
-use Rattle.heesch_cnf.specs.Clauses.{IsClause, AreClauses}
+use Rattle.heesch_cnf.specs.Clauses.{IsClause}
 use Rattle.heesch_cnf.specs.Flat.{code_of}
 use Rattle.heesch_trail.specs.declared.step.Step.{Step}
 use Rattle.heesch_trail.specs.declared.truth.Truth.{Truth}

@@ -6,13 +6,12 @@ use Rattle.heesch_cnf.specs.declared.literal.Lit.{Lit}
 use Rattle.heesch_cnf.specs.Literals.{Values, lit_value}
 use Rattle.heesch_trail.specs.declared.pair.Pair.{Pair}
 use Rattle.heesch_trail.specs.declared.entry.Entry.{Entry}
-use Rattle.heesch_trail.specs.declared.propagation.Visit.{Visit}
-use Rattle.heesch_trail.specs.declared.propagation.Visit.TheVariants.{HasTrue as TrueVisit, Watched, AllFalse}
+use Rattle.heesch_trail.specs.declared.propagation.Visit.TheVariants.{HasTrue as TrueVisit}
 use Rattle.heesch_trail.specs.Fixpoint.{HasTrue}
 use Rattle.heesch_trail.specs.State.{State, IsTrail, values_of}
 use Rattle.heesch_cnf.specs.Flat.{code_of}
-use Rattle.heesch_trail.specs.Watches.{Watching, list_of, pair_of, index_of, index_at, Names, OthersStay, IsWithout, AreWhole, AreNotFalse, MayWatch, IsNext}
-use Rattle.heesch_trail.specs.Seen.{GoesOn, IsEnd, IsUnwatched, IsVisitBy, IsPassed, AreVisitedBy}
+use Rattle.heesch_trail.specs.Watches.{Watching, list_of, pair_of, index_of, index_at, Names, OthersStay, IsWithout, AreWhole, MayWatch, IsNext}
+use Rattle.heesch_trail.specs.Seen.{GoesOn, IsUnwatched, IsVisitBy, IsPassed, AreVisitedBy}
 use Rattle.heesch_trail.proofs.Levels.{Continues-none}
 use Rattle.heesch_trail.proofs.Visits.{HasTrue-continues}
 use Rattle.heesch_trail.proofs.Guards.{Code-same}

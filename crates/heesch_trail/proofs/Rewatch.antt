@@ -8,7 +8,7 @@ use Rattle.heesch_cnf.specs.Literals.{lit_value}
 use Rattle.heesch_cnf.specs.Flat.{code_of}
 use Rattle.heesch_trail.specs.declared.pair.Pair.{Pair}
 use Rattle.heesch_trail.specs.declared.entry.Entry.{Entry}
-use Rattle.heesch_trail.specs.State.{State, IsTrail, Continues, values_of}
+use Rattle.heesch_trail.specs.State.{State, IsTrail, values_of}
 use Rattle.heesch_trail.specs.Watches.{Watching, list_of, pair_of, index_of, is_binary, Names, AreKept, AreMore, HasPushed, IsBeside, IsEntry, IsWatch, IsSound, AreWhole, AreMoved, IsNext, IsOf}
 use Rattle.heesch_trail.specs.Readings.{AreLeft, IsOther}
 use Rattle.heesch_trail.specs.Seen.{GoesOn}

@@ -1,7 +1,6 @@
 -- Entries that are put together from what was found are true.
-use Rattle.std.proofs.Common.{◌≡◌, refl, sym, subst, ℕ, List, [], length, Result}
+use Rattle.std.proofs.Common.{◌≡◌, refl, sym, subst, ℕ, List, length, Result}
 use Rattle.std.specs.Prelude.{Option, IfOk, Ok, Err}
-use Rattle.std.proofs.lemmas.List.Elements.{All-nil}
 use Rattle.heesch_io.specs.declared.fault.NoMemory.{NoMemory}
 use Rattle.heesch_grid.specs.declared.Cell.{Cell}
 use Rattle.heesch_grid.specs.Geometry.{Geometry, IsGrid}
@@ -19,21 +18,16 @@ use Rattle.heesch_cert.specs.declared.entry.Layers.{Layers}
 use Rattle.heesch_cert.specs.declared.entry.Wall.{Wall}
 use Rattle.heesch_cert.specs.declared.entry.Bare.{Bare}
 use Rattle.heesch_cert.specs.declared.entry.TripleProof.{TripleProof}
-use Rattle.heesch_cert.specs.declared.entry.Evidence.{Evidence}
 use Rattle.heesch_cert.specs.declared.entry.Evidence.TheVariants.{Cover, Search}
 use Rattle.heesch_cert.specs.declared.entry.Entry.{Entry}
 use Rattle.heesch_cert.specs.Limits.{AreLimits}
-use Rattle.heesch_cert.specs.Proofs.{SettlesTriple}
 use Rattle.heesch_cert.specs.RightVerdict.{HasRightVerdict}
 use Rattle.heesch_cert.specs.TrueEntry.{area_before, FitsVerdict, ClassesHold, FormFits, HasNoPlain, IsSearchedTriple, IsTrueEntry, IsUndecided, TriplesShow}
 use Rattle.heesch_cert.proofs.EntryRight.{true_entries_are_right}
-use Rattle.heesch_verdict.specs.declared.searched.Searched.{Searched}
 use Rattle.heesch_verdict.specs.declared.settled.Settled.{Settled}
 use Rattle.heesch_verdict.specs.declared.settled.Settled.TheVariants.{Cover as FirstCover, Triples}
 use Rattle.heesch_torus.specs.Domains.{AreUpTo}
 use Rattle.heesch_verdict.specs.Domains.{AreDomains, AreSettled, IsSettledFor}
-use Rattle.heesch_verdict.specs.Earliest.{HasEarliestCover}
-use Rattle.heesch_verdict.specs.Ends.{IsSearched}
 use Rattle.heesch_verdict.specs.Shapes.{IsCanonicalShape}
 use Rattle.heesch_verdict.specs.Tilings.{IsFirstCover, IsTiled}
 
