@@ -132,8 +132,6 @@ is_fresh x named l marks one fits off = record { most = fits; unnamed = λ h. le
 
 -- ---- values
 
-}
-
 positive_more : (x : List Lit) (l : Lit) (var : ℕ) → Contains (x ++ l ∷ []) (positive_of var) → Contains x (positive_of var) ⊎ (l ≡ positive_of var)
 positive_more x l var h = elim (Contains-append_cases x (l ∷ []) (positive_of var) h) [
   | inl a ↦ inl a
@@ -165,8 +163,6 @@ true_more vars x values l so positive one fits =
         )
       ];
     }
-
-}
 
 -- ---- literals taken one by one
 

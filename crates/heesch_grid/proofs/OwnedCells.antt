@@ -35,8 +35,6 @@ held vars c (n ∷ ns) e l =
     let p = filter_member (λ (x : Entry). has x.1.tile c) (enumerate_from 1 vars) x r.1 in
     member_flat_map (λ (v : Variable). v.tile) vars x.1 c (entry_variable vars 1 x p.0) (has-true x.1.tile c p.1)
 
-}
-
 -- ---- binary digits
 
 passes_below : (p : ℕ → Bool) (a n t : ℕ) → ((k : ℕ) → a + t ≤ k → p k ≡ false) → length (filter p (range_with_len a n)) ≤ t

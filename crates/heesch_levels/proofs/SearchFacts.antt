@@ -79,9 +79,6 @@ search_gives g u k s q more cut clause values is lawful clause_is after more_are
   turns = refl;
 }
 
--- what goes on and then on goes on
-}
-
 -- where a model is kept, no final line holds
 no_final_by : (clauses : List (List Lit)) (v : ℕ → Bool) → Satisfies v clauses → NoFinal clauses
 no_final_by clauses v sat hints final = let s = shown_follows_lem clauses [] hints final v sat in Contains-none s.0 s.1.0

@@ -44,8 +44,6 @@ module _ (w : Window) (kept taken : List ℕ) where
   left_in : (c : Cell) → is_left w kept taken c ≡ true → IsIn w c
   left_in c h = (marked-true w kept c (and_parts (is_marked w kept c) (not (is_marked w taken c)) h).0).0
 
-  }
-
   pub listed_more : (at : ℕ) (c : Cell) (xs : List Cell) → IsIn w c → order w c ≡ at → is_left w kept taken c ≡ true → IsListed w kept taken at xs → IsListed w kept taken (at + 1) (xs ++ c ∷ [])
   listed_more at c xs i p h old =
       let P : Cell → Type 0 = λ c. (is_left w kept taken c ≡ true) × (order w c < at) in

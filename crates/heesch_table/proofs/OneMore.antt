@@ -12,10 +12,6 @@ use Rattle.heesch_table.specs.Steps.{with_one, with_tiling, with_undecided, Tili
 more : {X : Type 0} (p : X → Bool) (xs : List X) (x : X) → with_one (p x) (count_by p xs) ≡ count_by p (xs ++ x ∷ [])
 more p xs x = sym (sum_by_push (λ y. cond (p y) 1 0) xs x)
 
-}
-
-}
-
 one_within : (b : Bool) (count n : ℕ) → count ≤ n → with_one b count ≤ n + 1
 one_within b count n l = grind arith
 

@@ -70,8 +70,6 @@ module _ (g : Geometry) (t : Triple) where
   pub adds_none : (counts : List ℕ) → AddsCounts g t [] counts counts
   adds_none counts = record { same = refl; each = λ k l. omega arith }
 
-  }
-
   pub then_counts : (xs ys : List Cell) (old new : List ℕ) → AreCounts g t xs old → AddsCounts g t ys old new → AreCounts g t (xs ++ ys) new
   then_counts xs ys old new are adds = record {
     all = adds.same ∙ are.all;

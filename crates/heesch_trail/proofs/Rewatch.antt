@@ -39,9 +39,6 @@ pub GoesOn-same : (trail : State) (old new : Watching) → IsTrail trail → Are
 GoesOn-same trail old new valid whole same =
     subst (GoesOn trail old trail) (sym same) (GoesOn-lists trail old old valid whole refl refl (λ place e has. has) whole.sound)
 
--- more assignments at the same level, and nothing moved
-}
-
 -- a binary clause in a false literal's list: its other literals but the blocker are false
 pub Binary-others : (trail : State) (l : Lit) (e : Entry) → IsSound trail.clauses l e → is_binary e ≡ true → lit_value (values_of trail.steps) l ≡ Some false → IsOther (values_of trail.steps) (get_or trail.clauses (index_of e) []) e.blocker None
 Binary-others trail l e sound two turned =
