@@ -1,5 +1,5 @@
 -- The search for two sets that meet.
-use Rattle.std.proofs.Common.{◌≡◌, refl, sym, ap, subst, ◌∙◌, ℕ, suc, ◌<◌, ◌≤◌, Bool, true, false, ◌||◌, min, Some, None, List, [], ◌∷◌, length, get_or, inl, inr, arith, true≢false, Contains}
+use Rattle.std.proofs.Common.{◌≡◌, refl, sym, subst, ◌∙◌, ℕ, suc, ◌<◌, ◌≤◌, Bool, true, false, ◌||◌, Some, None, List, [], ◌∷◌, length, get_or, inl, inr, arith, true≢false, Contains}
 use Rattle.std.specs.Prelude.{nat_lt}
 use Rattle.std.proofs.lemmas.Bool.{cases_Bool}
 use Rattle.std.proofs.lemmas.List.Elements.{Contains-get_or}
@@ -15,16 +15,6 @@ or_false : (a b : Bool) → (a || b) ≡ false → (a ≡ false) × (b ≡ false
 or_false true b h = absurd (true≢false h)
 or_false false true h = absurd (true≢false h)
 or_false false false h = (refl, refl)
-
-or_of : (a b : Bool) → a ≡ false → b ≡ false → (a || b) ≡ false
-or_of a b p q = ap (λ x. x || b) p ∙ q
-
-or_first : (a b : Bool) → a ≡ true → (a || b) ≡ true
-or_first a b p = ap (λ x. x || b) p
-
-or_second : (a b : Bool) → b ≡ true → (a || b) ≡ true
-or_second true b p = refl
-or_second false b p = p
 
 one_cell : (c : Cell) (ys : List Cell) → meet (c ∷ []) ys ≡ has ys c
 one_cell c ys = go (has ys c)
@@ -78,26 +68,3 @@ module _ (sets : List (List Cell)) (c : Cell) (number : ℕ) (ns : List ℕ) (e 
 
 -- one more cell of a set
 module _ (sets : List (List Cell)) (xs ys : List Cell) (c : Cell) (number : ℕ) (more : (t : List Cell) → meet ys t ≡ (meet xs t || meet (c ∷ []) t)) where
-
-      above : (m n : ℕ) → nat_lt m n ≡ false → n ≤ m
-      above m n h = grind arith
-
-      set : ℕ → List Cell
-      set k = set_of sets k
-
-      by : (b : Bool) → nat_lt m n ≡ b → IsNextMeeting sets ys number (Some (min m n))
-      by true t =
-          let l = below m n t in
-          let e : min m n ≡ m = omega (arith, l) in
-          subst (λ k. IsNextMeeting sets ys number (Some k)) (sym e)
-          (p.0, p.1, more (set_of sets m) ∙ or_first (meet xs (set_of sets m)) (meet (c ∷ []) (set_of sets m)) p.2, λ k a b. more (set_of sets k) ∙ or_of (meet xs (set_of sets k)) (meet (c ∷ []) (set_of sets k)) (p.3 k a b) (q.3 k a (omega (arith, b, l))))
-      by false f =
-          let l = above m n f in
-          let e : min m n ≡ n = omega (arith, l) in
-          subst (λ k. IsNextMeeting sets ys number (Some k)) (sym e)
-          (q.0, q.1, more (set_of sets n) ∙ or_second (meet xs (set_of sets n)) (meet (c ∷ []) (set_of sets n)) q.2, λ k a b. more (set_of sets k) ∙ or_of (meet xs (set_of sets k)) (meet (c ∷ []) (set_of sets k)) (p.3 k a (omega (arith, b, l))) (q.3 k a b))
-  next_more (Some m) None p q =
-      (p.0, p.1, more (set_of sets m) ∙ or_first (meet xs (set_of sets m)) (meet (c ∷ []) (set_of sets m)) p.2, λ k a b. more (set_of sets k) ∙ or_of (meet xs (set_of sets k)) (meet (c ∷ []) (set_of sets k)) (p.3 k a b) (q k a (let l = p.1 in omega (arith, l, b))))
-  next_more None (Some n) p q =
-      (q.0, q.1, more (set_of sets n) ∙ or_second (meet xs (set_of sets n)) (meet (c ∷ []) (set_of sets n)) q.2, λ k a b. more (set_of sets k) ∙ or_of (meet xs (set_of sets k)) (meet (c ∷ []) (set_of sets k)) (p k a (let l = q.1 in omega (arith, l, b))) (q.3 k a b))
-  next_more None None p q = λ k a b. more (set_of sets k) ∙ or_of (meet xs (set_of sets k)) (meet (c ∷ []) (set_of sets k)) (p k a b) (q k a b)

@@ -1,5 +1,5 @@
 -- What a true entry with a refuted wall says, and the parts of entries made of it.
-use Rattle.std.proofs.Common.{◌≡◌, refl, sym, subst, ◌∙◌, ℕ, ◌+◌, ap, ◌<◌, ◌≤◌, List, length, inl, inr, arith, All, not, true≢false, eq-eqb, eqb-true}
+use Rattle.std.proofs.Common.{◌≡◌, refl, sym, subst, ◌∙◌, ℕ, zero, suc, ◌+◌, ap, ◌<◌, ◌≤◌, List, length, inl, inr, arith, All, not, true≢false, eq-eqb, eqb-true}
 use Rattle.std.specs.Prelude.{Option, IsTrue, ◌↔◌, nat_eq}
 use Rattle.std.proofs.lemmas.Bool.{cases_Bool, cases_order}
 use Rattle.std.proofs.lemmas.List.Elements.{All-nil, All-weaker, All-from_recursion}
@@ -29,7 +29,7 @@ use Rattle.heesch_cert.specs.Formulas.{IsCountedFormula}
 use Rattle.heesch_cert.specs.Limits.{AreLimits}
 use Rattle.heesch_cert.specs.Parts.{PartHolds, IsLeastFailing}
 use Rattle.heesch_cert.specs.Proofs.{RefutesCoronas, IsLawfulStep}
-use Rattle.heesch_cert.specs.TrueEntry.{Spells, IsAdmitted, HasNoPlain, FitsVerdict, FormFits, FreeHolds, ShapeHolds, FormHolds, CoverHolds, ClassesHold, first_number}
+use Rattle.heesch_cert.specs.TrueEntry.{Spells, IsAdmitted, HasNoPlain, FitsVerdict, FormFits, FreeHolds, ShapeHolds, FormHolds, CoverHolds, ClassesHold, WallHolds, first_number}
 use Rattle.heesch_near.specs.Statements.{IsNearPlace, IsNearLayer}
 use Rattle.heesch_near.proofs.Shapes.{shapes_are_near}
 use Rattle.heesch_near.proofs.Coronas.{coronas_are_near}
@@ -152,6 +152,16 @@ part_by_failing g limits entry part failing before f = (holds, other)
 module _ (g : Geometry) (limits : Limits) (entry : Entry) (shape : ShapeHolds g entry) (form : FormHolds g limits entry) (cover : CoverHolds g entry.cells entry.evidence) (classes : ClassesHold g entry.cells entry.verdict entry.evidence) where
 
   module _ (free : FreeHolds g entry.cells entry.verdict entry.evidence) where
+
+    pub before_seven : WallHolds g limits entry.cells entry.verdict entry.evidence → (k : ℕ) → k < 7 → PartHolds g limits entry k
+    before_seven wall zero l = tt
+    before_seven wall (suc zero) l = shape
+    before_seven wall (suc (suc zero)) l = form
+    before_seven wall (suc (suc (suc zero))) l = cover
+    before_seven wall (suc (suc (suc (suc zero)))) l = classes
+    before_seven wall (suc (suc (suc (suc (suc zero))))) l = free
+    before_seven wall (suc (suc (suc (suc (suc (suc zero)))))) l = wall
+    before_seven wall (suc (suc (suc (suc (suc (suc (suc n))))))) l = absurd (omega (arith, l))
 
 module _ (g : Geometry) (limits : Limits) (cells : List Cell) (free : List (List Iso)) (found : IsFound g limits cells free) where
 

@@ -1,11 +1,10 @@
 -- The variables whose masks are among exact ones are a periodic cover.
-use Rattle.std.proofs.Common.{◌≡◌, refl, sym, ap, subst, ◌∙◌, ℕ, suc, ◌+◌, ◌-◌, ◌*◌, ◌<◌, ◌≤◌, List, [], ◌∷◌, ◌++◌, filter, length, get_or, eqb, Bool, true, false, cond, inl, inr, arith, Contains, true≢false, eqb-true, eq-eqb}
-use Rattle.std.specs.Prelude.{ℤ, pos, ◌↔◌, ◌==◌, Some, nat_lt, slice_index_or}
+use Rattle.std.proofs.Common.{◌≡◌, refl, sym, ap, subst, ◌∙◌, ℕ, suc, ◌+◌, ◌-◌, ◌<◌, ◌≤◌, List, [], ◌∷◌, ◌++◌, filter, length, get_or, eqb, Bool, true, false, cond, inl, inr, arith, Contains, true≢false, eqb-true, eq-eqb}
+use Rattle.std.specs.Prelude.{◌↔◌, ◌==◌, Some, nat_lt, slice_index_or}
 use Rattle.std.specs.List.{enumerate_from, list_any, slice_get}
 use Rattle.std.proofs.Math.Seq.{get_or-append_seam}
 use Rattle.std.proofs.lemmas.List.{length-append, get_or_append_left}
 use Rattle.std.specs.Int.{bit_at}
-use Rattle.std.proofs.lemmas.Int.{ints}
 use Rattle.std.proofs.lemmas.Nat.Bits.{bit_at-zero}
 use Rattle.std.proofs.lemmas.Bool.{cases_Bool, cases_order}
 use Rattle.std.proofs.lemmas.List.Elements.{All-contains}
@@ -13,9 +12,8 @@ use Rattle.std.proofs.lemmas.Option.{slice_get_within, get_or_from_slice_get}
 use Rattle.heesch_grid.specs.declared.Cell.{Cell}
 use Rattle.heesch_grid.specs.declared.isometries.Iso.{Iso}
 use Rattle.heesch_grid.specs.Listing.{IsRising}
-use Rattle.heesch_grid.specs.Cells.{cell, same_cell, cell_before, cells_before, has}
+use Rattle.heesch_grid.specs.Cells.{same_cell, cell_before, cells_before, has}
 use Rattle.heesch_grid.specs.Geometry.{Geometry, IsGrid, IsIsometry, image}
-use Rattle.heesch_grid.specs.Vectors.{IsWithin}
 use Rattle.heesch_grid.specs.Lattice.{Triple, IsTriple, IsReduced}
 use Rattle.heesch_grid.specs.Pairs.{has-true, same_cell-refl}
 use Rattle.heesch_grid.specs.Polyform.{IsPolyform}
@@ -225,9 +223,3 @@ module _ (g : Geometry) (law : IsGrid g) (shape : List Cell) (t : Triple) (tripl
 
   pub double_among : (by : Iso) → HasDouble g shape t by → (false ≡ true) ↔ HasMaskAmong g shape t masks by
   double_among by double = ((λ e. absurd (true≢false (sym e))), (λ a. absurd (double_unmasked g shape t law triple by a.0 double a.1)))
-
-    second_few : (p q : ℕ) → 1 ≤ p → q ≤ p * q
-    second_few p q some = grind arith
-
-    near : (x y : ℤ) (a b : ℕ) → x ≡ pos a → y ≡ pos b → a ≤ 100000 → b ≤ 100000 → IsWithin 100000 (cell x y)
-    near x y a b e f la lb = record { a_low = omega (arith, ints); a_high = omega (arith, ints); b_low = omega (arith, ints); b_high = omega (arith, ints) }

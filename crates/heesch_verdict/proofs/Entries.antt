@@ -22,7 +22,7 @@ use Rattle.heesch_cert.specs.declared.entry.Evidence.TheVariants.{Cover, Search}
 use Rattle.heesch_cert.specs.declared.entry.Entry.{Entry}
 use Rattle.heesch_cert.specs.Limits.{AreLimits}
 use Rattle.heesch_cert.specs.RightVerdict.{HasRightVerdict}
-use Rattle.heesch_cert.specs.TrueEntry.{area_before, FitsVerdict, ClassesHold, FormFits, HasNoPlain, IsSearchedTriple, IsTrueEntry, IsUndecided, TriplesShow}
+use Rattle.heesch_cert.specs.TrueEntry.{area_before, FitsVerdict, FormFits, HasNoPlain, IsSearchedTriple, IsTrueEntry, IsUndecided, TriplesShow}
 use Rattle.heesch_cert.proofs.EntryRight.{true_entries_are_right}
 use Rattle.heesch_verdict.specs.declared.settled.Settled.{Settled}
 use Rattle.heesch_verdict.specs.declared.settled.Settled.TheVariants.{Cover as FirstCover, Triples}
@@ -79,14 +79,6 @@ module _ (g : Geometry) (limits : Limits) (shape : List Cell) where
   pub settled_result : (verdict : Verdict) (triples : List Triple) → AreUpTo g (length shape) limits.domain triples → IsUndecided verdict → (r : Result Settled NoMemory) → IfOk r (AreDomains g limits shape triples) → IfOk r (IsSettledFor g limits shape verdict)
   settled_result verdict triples a undecided (Ok settled) s = settled_for verdict triples a undecided settled s
   settled_result verdict triples a undecided (Err e) s = tt
-
-      no_classes : (v : Verdict) → ClassesHold g shape v evidence
-      no_classes (Tiles kind domain count) = tt
-      no_classes (Heesch h m) = tt
-      no_classes (Levels h) = tt
-      no_classes (Holes h) = tt
-      no_classes (Turns h phase at) = tt
-      no_classes (Size h phase at) = tt
 
 -- a true entry has a right verdict
 pub right_of : (g : Geometry) → IsGrid g → (limits : Limits) → AreLimits limits → (r : Result Entry NoMemory) → IfOk r (IsTrueEntry g limits) → IfOk r (λ e. HasRightVerdict g limits e)
