@@ -65,6 +65,3 @@ module _ (sets : List (List Cell)) (c : Cell) (number : ℕ) (ns : List ℕ) (e 
 
   pub next_none : ((k : ℕ) → k < length ns → get_or ns k 0 ≤ number) → IsNextMeeting sets (c ∷ []) number None
   next_none low m l within = not_before (length ns) (λ k a b. low k b) (suc m) (λ k a b. absurd (omega (arith, a, b))) m l (omega arith)
-
--- one more cell of a set
-module _ (sets : List (List Cell)) (xs ys : List Cell) (c : Cell) (number : ℕ) (more : (t : List Cell) → meet ys t ≡ (meet xs t || meet (c ∷ []) t)) where

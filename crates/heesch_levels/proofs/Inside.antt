@@ -220,12 +220,6 @@ module _ (g : Geometry) (u inner : Levels) (whole : IsUniverseOf g u) (part : Is
       (subst (StaysHoleFree g (u.shape ∷ [])) (sym (layers_inside inner.level inner.vars u.vars stands_first (assignment_of values)))
       (subst (λ cells. StaysHoleFree g (cells ∷ []) (chosen_layers (assignment_of values) inner.vars inner.level)) shape free))
 
--- ---- where holes are forbidden at all levels, or at none
-
-module _ (g : Geometry) (u : Levels) (k : ℕ) (values : List Bool) where
-
-  module _ (all : k ≡ u.level) where
-
 -- what an answer with a cut or without says, said of other things
 pub if_ok_option : {X E P R : Type 0} (Q S : X → Type 0) → (P → R) → ((x : X) → Q x → S x) → (r : Result (Option X) E) → IfOk r (λ o. MatchOption o P Q) → IfOk r (λ o. MatchOption o R S)
 if_ok_option Q S f h (Ok None) p = f p

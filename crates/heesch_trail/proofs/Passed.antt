@@ -6,7 +6,6 @@ use Rattle.heesch_cnf.specs.declared.literal.Lit.{Lit}
 use Rattle.heesch_cnf.specs.Literals.{Values, lit_value}
 use Rattle.heesch_trail.specs.declared.pair.Pair.{Pair}
 use Rattle.heesch_trail.specs.declared.entry.Entry.{Entry}
-use Rattle.heesch_trail.specs.declared.propagation.Visit.TheVariants.{HasTrue as TrueVisit}
 use Rattle.heesch_trail.specs.Fixpoint.{HasTrue}
 use Rattle.heesch_trail.specs.State.{State, IsTrail, values_of}
 use Rattle.heesch_cnf.specs.Flat.{code_of}
