@@ -1,7 +1,5 @@
 //! The fields of a line, read from the front of a text.
-ghost use Rattle.std.specs.Prelude.{◌≡◌, ◌≤◌, ℕ, List, length, slice_index, drop, MatchOption, None, Some, IfErr};
-ghost use Rattle.std.specs.List.{AllPass};
-ghost use Rattle.std.specs.Char.{is_ascii_digit};
+ghost use Rattle.std.specs.Prelude.{◌≡◌, ◌≤◌, ◌<◌, ℕ, List, length, slice_index, take, drop, MatchOption, None, Some, IfErr, IfSome};
 ghost use Rattle.std.specs.Str.Parse.{digits_value};
 ghost use Rattle.heesch_line.specs.Reading.{Gives, literal_at, digits_len, number_at, labelled_at, is_minus, integer_at, cell_at, iso_at, lit_at, three_numbers_at, triple_of, limits_at};
 
@@ -39,32 +37,27 @@ pub fn literal<'a>(word: &[u8], bytes: &'a [u8]) -> Result<&'a [u8], LineFault>
     }
 }
 
-/// How many digits stand at the front.
-fn count_digits(bytes: &[u8]) -> usize
-    ensures count { result ≡ digits_len bytes.now }
-    ensures within { result ≤ length bytes.now }
+/// The number that the digits at the front write, and how many they are. None where they are more than ten.
+fn front_digits(bytes: &[u8]) -> Option<(u64, usize)>
+    ensures none { result ≡ None → 10 < digits_len bytes.now }
+    ensures few { IfSome result (λ x. x.1 ≤ 10) }
+    ensures count { IfSome result (λ x. x.1 ≡ digits_len bytes.now) }
+    ensures within { IfSome result (λ x. x.1 ≤ length bytes.now) }
+    ensures value { IfSome result (λ x. x.0 ≡ digits_value 10 (take (digits_len bytes.now) bytes.now)) }
 {
+    let mut value = 0u64;
     let mut count = 0;
     for byte in bytes {
         if !byte.is_ascii_digit() {
-            return count;
+            return Some((value, count));
         }
+        if count == MOST_DIGITS {
+            return None;
+        }
+        value = value * 10 + u64::from(*byte - b'0');
         count += 1;
     }
-    count
-}
-
-/// The number that digits write.
-fn value_of(digits: &[u8]) -> u64
-    requires short { length digits.now ≤ 10 }
-    requires digits { AllPass is_ascii_digit digits.now }
-    ensures { result ≡ digits_value 10 digits.now }
-{
-    let mut value = 0u64;
-    for digit in digits {
-        value = value * 10 + u64::from(*digit - b'0');
-    }
-    value
+    Some((value, count))
 }
 
 /// A natural number, in decimal digits with no 0 before others.
@@ -73,15 +66,14 @@ pub fn number(bytes: &[u8]) -> Result<(u32, &[u8]), LineFault>
     ensures gives { Gives (λ x. (x.0, x.1.now)) result (number_at bytes.now) }
     ensures err { IfErr result (λ e. e ≡ LineFault.NotALine) }
 {
-    let (digits, rest) = bytes.split_at(count_digits(bytes));
-    if digits.is_empty() || digits.len() > MOST_DIGITS {
+    let Some((value, count)) = front_digits(bytes) else {
+        return Err(LineFault::NotALine);
+    };
+    let (digits, rest) = bytes.split_at(count);
+    if digits.is_empty() || value > u64::from(u32::MAX) {
         return Err(LineFault::NotALine);
     }
     if digits.len() > 1 && digits[0] == b'0' {
-        return Err(LineFault::NotALine);
-    }
-    let value = value_of(digits);
-    if value > u64::from(u32::MAX) {
         return Err(LineFault::NotALine);
     }
     Ok((value as u32, rest))

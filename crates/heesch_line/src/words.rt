@@ -1,5 +1,5 @@
 //! The lists of a line, read from the front of a text.
-ghost use Rattle.std.specs.Prelude.{◌≡◌, ◌≤◌, ℕ, List, [], length, drop, Option, IsTrue, IfErr};
+ghost use Rattle.std.specs.Prelude.{◌≡◌, ◌≤◌, ℕ, List, [], length, drop, Option, IsTrue, IfOk, IfErr};
 ghost use Rattle.heesch_line.specs.Reading.{Gives, number_at, cell_at, iso_at, lit_at, has_word, more_words_at, some_words_at, cells_at};
 
 use crate::LineFault;
@@ -7,8 +7,15 @@ use crate::fields::{cell, iso, lit, number};
 use heesch_cert::Cells;
 use heesch_cnf::Lit;
 use heesch_grid::{Cell, Iso};
-use heesch_io::Seq;
+use heesch_io::{NoMemory, Seq};
+use memchr::memchr;
 use std::alloc::Global;
+
+/// The bytes that a word and its space take in most lists, or more.
+const WORD_BYTES: usize = 4;
+
+/// The most words for which a list has room before the first is read.
+const MOST_ROOM: usize = 1024;
 
 /// A word of a list within a line.
 pub trait Word: Copy + Drop {
@@ -91,11 +98,20 @@ pub fn more_words<W: Word>(mut items: Seq<W>, bytes: &[u8]) -> Result<(Seq<W>, &
     Ok((items, rest))
 }
 
+/// No word, with room for about as many as stand before a colon.
+fn no_words<W: Word>(alloc: Global, bytes: &[u8]) -> Result<Seq<W>, NoMemory>
+    ensures { IfOk result (λ items. items ≡ []) }
+{
+    let end = memchr(b':', bytes).unwrap_or(bytes.len());
+    let room = (end / WORD_BYTES + 1).min(MOST_ROOM);
+    Ok(Seq::from_vec(Vec::with_capacity(alloc, room)?))
+}
+
 /// One word or more, each behind a space.
 pub fn some_words<W: Word>(alloc: Global, bytes: &[u8]) -> Result<(Seq<W>, &[u8]), LineFault>
     ensures { Gives (λ x. (x.0, x.1.now)) result (some_words_at W.read bytes.now) }
 {
-    let (items, rest) = more_words(Seq::new(alloc), bytes)?;
+    let (items, rest) = more_words(no_words(alloc, bytes)?, bytes)?;
     if items.as_slice().is_empty() {
         return Err(LineFault::NotALine);
     }

@@ -33,6 +33,7 @@ use heesch_grammar::{brief_of, entry_of};
 use heesch_io::{NoMemory, Seq};
 use heesch_line::{LineFault, read_line};
 use heesch_text::Line;
+use memchr::memchr;
 use std::alloc::Global;
 use std::collections::VecDeque;
 use std::mem;
@@ -207,7 +208,7 @@ fn cut_line(bytes: &[u8]) -> Option<(&[u8], &[u8])>
     ensures { MatchOption result (HasNoNewline bytes.now)
         (λ x. (bytes.now ≡ x.0.now ++ 10 ∷ x.1.now) × HasNoNewline x.0.now) }
 {
-    let end = bytes.iter().position(|byte| *byte == b'\n')?;
+    let end = memchr(b'\n', bytes)?;
     Some((&bytes[..end], &bytes[end + 1..]))
 }
 

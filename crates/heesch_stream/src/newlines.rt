@@ -2,9 +2,11 @@
 ghost use Rattle.std.specs.Prelude.{◌≡◌};
 ghost use Rattle.heesch_stream.specs.Input.{newlines};
 
+use memchr::memchr_iter;
+
 /// The number of newlines.
 pub fn newlines(bytes: &[u8]) -> u64
     ensures { result ≡ newlines bytes.now }
 {
-    bytes.iter().filter(|&&byte| byte == b'\n').count() as u64
+    Iterator::count(memchr_iter(b'\n', bytes)) as u64
 }
