@@ -1,11 +1,12 @@
 -- Clauses of which no literal is true.
 use Rattle.std.proofs.Common.{◌≡◌, ℕ, ◌+◌, ◌-◌, ◌<◌, ◌≤◌, Bool, List, [], take, length, get_or, take_all, sym, subst, arith}
 use Rattle.heesch_cnf.specs.declared.literal.Lit.{Lit}
-use Rattle.heesch_cnf.specs.Clauses.{IsSatisfied, Satisfies}
+use Rattle.heesch_cnf.specs.Clauses.{IsMadeTrue, IsSatisfied, Satisfies}
 use Rattle.heesch_dimacs.specs.Formulas.{IsFirstFalse}
 
 -- none of the first literals is true
 pub record NoneTrue (v : ℕ → Bool) (clause : List Lit) (count : ℕ) : Type 0 where
+  pub false_at : (k : ℕ) (d : Lit) → k < count → ¬ (IsMadeTrue v (get_or clause k d))
 
 pub first_is : (v : ℕ → Bool) (clauses : List (List Lit)) (i : ℕ) → i < length clauses → ¬ (IsSatisfied v (get_or clauses i [])) → Satisfies v (take i clauses) → IsFirstFalse v clauses (i + 1)
 first_is v clauses i lt is_false others =

@@ -11,6 +11,7 @@ use Rattle.heesch_trail.specs.State.{State, IsTrail, values_of}
 use Rattle.heesch_cnf.specs.Flat.{code_of}
 use Rattle.heesch_trail.specs.Watches.{Watching, list_of, pair_of, index_of, index_at, Names, OthersStay, IsWithout, AreWhole, MayWatch, IsNext}
 use Rattle.heesch_trail.specs.Seen.{GoesOn, IsUnwatched, IsVisitBy, IsPassed, AreVisitedBy}
+use Rattle.heesch_trail.specs.declared.propagation.Visit.TheVariants.{HasTrue as TrueVisit}
 use Rattle.heesch_trail.proofs.Levels.{Continues-none}
 use Rattle.heesch_trail.proofs.Visits.{HasTrue-continues}
 use Rattle.heesch_trail.proofs.Guards.{Code-same}

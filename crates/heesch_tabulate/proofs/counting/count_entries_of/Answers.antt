@@ -1,7 +1,7 @@
 use Rattle.std.proofs.Common.{◌≡◌, None, subst, rules}
 use Rattle.heesch_tabulate.specs.Steps.{CountsItem}
 use Rattle.heesch_tabulate.proofs.EntryCounts.{within_at, few_at, counts_on, stops_on}
-use Rattle.heesch_tabulate.proofs.counting.count_entries.Goals as goal
+use Rattle.heesch_tabulate.proofs.counting.count_entries_of.Goals as goal
 
 pub count_item-requires-clause-within : goal.count_item-requires-clause-within
 count_item-requires-clause-within g c = within_at c.args.items.now c.loop-item.item-index c.item-item.result c.loop-item-test.true c.item-item.is c.requires.within
