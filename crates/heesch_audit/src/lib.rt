@@ -7,8 +7,10 @@ mod cover;
 mod fits;
 mod form;
 mod formula;
+pub mod laws;
 mod logs;
 mod near;
+mod portions;
 mod proof_log;
 mod shaped;
 mod spelling;
@@ -17,6 +19,7 @@ mod walls;
 
 pub use auditing::{EntryAnswer, audit};
 pub use near::is_near;
+pub use portions::{most_portions, portion_holds};
 
 #[cfg(test)]
 mod tests;
