@@ -6,3 +6,5 @@ pub mod Logs
 pub mod Plains
 pub mod Walls
 pub mod Bounds
+pub mod Portions
+pub mod Statements

@@ -7,16 +7,19 @@ mod cover;
 mod fits;
 mod form;
 mod formula;
+pub mod laws;
 mod logs;
 mod near;
 mod proof_log;
 mod shaped;
 mod spelling;
+mod split;
 mod triples;
 mod walls;
 
 pub use auditing::{EntryAnswer, audit};
 pub use near::is_near;
+pub use split::{most_portions, portion_holds};
 
 #[cfg(test)]
 mod tests;
