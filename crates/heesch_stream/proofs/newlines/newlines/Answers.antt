@@ -1,4 +1,4 @@
-use Rattle.std.proofs.Common.{◌≡◌, ◌∙◌}
+use Rattle.std.proofs.Common.{◌∙◌}
 use Rattle.std.proofs.lemmas.Iterator.Consumers.{YieldsList-from_first, count_from_yields_List}
 use Rattle.memchr.proofs.lemmas.CallerLemmas.{length-places}
 use Rattle.memchr.specs.Find.{is_byte, places}
