@@ -13,5 +13,6 @@ pub mod OneAnswer
 mod Places
 pub mod Readings
 pub mod Seen
+pub mod Stopped
 pub mod Stopping
 pub mod Written
