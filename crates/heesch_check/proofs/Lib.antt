@@ -11,6 +11,7 @@ pub mod Leading
 pub mod Near
 pub mod OneAnswer
 mod Places
+pub mod Portions
 pub mod Readings
 pub mod Seen
 pub mod Stopped
