@@ -10,3 +10,5 @@ mod Ends
 mod Equal
 mod Covers
 mod LogLines
+pub mod Portions
+mod Steps

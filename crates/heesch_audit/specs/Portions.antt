@@ -29,6 +29,16 @@ abbrev pub AreTriplesAsked : Geometry → Limits → List Cell → Verdict → E
 AreTriplesAsked g limits shape verdict (Cover tiling classes) = ⊤
 AreTriplesAsked g limits shape verdict (Search free wall bare wider triples) = AreTriplesFor g limits shape verdict triples
 
+-- the parts 2 to 8 of the entry hold
+pub record PartsHold (g : Geometry) (limits : Limits) (entry : Entry) : Type 0 where
+  pub form : FormHolds g limits entry
+  pub cover : CoverHolds g entry.cells entry.evidence
+  pub classes : ClassesHold g entry.cells entry.verdict entry.evidence
+  pub free : FreeHolds g entry.cells entry.verdict entry.evidence
+  pub wall : WallHolds g limits entry.cells entry.verdict entry.evidence
+  pub wider : OpenHolds g entry.cells entry.evidence
+  pub bare : BareHolds g limits entry.cells entry.verdict entry.evidence
+
 -- all of a true entry but that the proofs of its triples settle them
 pub record HoldsBesideProofs (g : Geometry) (limits : Limits) (entry : Entry) : Type 0 where
   pub shape : ShapeHolds g entry
@@ -40,6 +50,10 @@ pub record HoldsBesideProofs (g : Geometry) (limits : Limits) (entry : Entry) : 
   pub wider : OpenHolds g entry.cells entry.evidence
   pub bare : BareHolds g limits entry.cells entry.verdict entry.evidence
   pub asked : AreTriplesAsked g limits entry.cells entry.verdict entry.evidence
+
+-- each so many-th of the triples, from the portion's first on, is of a domain of 1 to 12 tiles of the shape, and its proof settles it
+abbrev pub AreProved : Geometry → List Cell → ℕ → List TripleProof → ℕ → ℕ → Type 0
+AreProved g shape turns triples portion portions = (at : ℕ) (x : TripleProof) → slice_get triples at ≡ Some x → at % portions ≡ portion → HasDomain g (length shape) x.triple × SettlesTriple g shape turns x.triple x.proof
 
 -- the shape is canonical, the triple is of a domain of 1 to 12 of its tiles, and its proof settles it
 pub record IsProvedTriple (g : Geometry) (limits : Limits) (entry : Entry) (x : TripleProof) : Type 0 where

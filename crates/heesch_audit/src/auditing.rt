@@ -1,10 +1,12 @@
 //! The audit of an entry.
-ghost use Rattle.std.specs.Prelude.{◌≡◌, ◌↔◌, ℕ, IfOk};
+ghost use Rattle.std.specs.Prelude.{◌≡◌, ◌≤◌, ◌↔◌, ℕ, IfOk, IfSome, IfNone};
 ghost use Rattle.heesch_cert.specs.Limits.{AreLimits};
 ghost use Rattle.heesch_cert.specs.Parts.{IsLeastFailing};
 ghost use Rattle.heesch_cert.specs.RightVerdict.{HasRightVerdict};
 ghost use Rattle.heesch_cert.specs.TrueEntry.{IsTrueEntry};
 ghost use Rattle.heesch_audit.specs.Near.{IsNearEntry};
+ghost use Rattle.heesch_audit.specs.Portions.{PartsHold};
+ghost use Rattle.heesch_audit.specs.Shapes.{AreCanonical, IsCanonicalShape};
 
 use crate::coronas::free_holds;
 use crate::cover::{classes_hold, cover_holds};
@@ -15,6 +17,7 @@ use crate::walls::failing_search;
 use heesch_cert::{Entry, Limits};
 use heesch_grid::Grid;
 use heesch_io::NoMemory;
+use heesch_shape::Shape;
 use std::alloc::Global;
 use std::thread::Threads;
 
@@ -26,6 +29,37 @@ pub enum EntryAnswer {
     /// This is the least of its parts that fails, from 1: the shape, the verdict's form against the evidence, the cover, its
     /// classes, the hole-free coronas, the wall, the coronas with holes allowed, the search behind the wall, the triples.
     Invalid { part: u32 },
+}
+
+/// The least of the parts 2 to 8 that fails, where the shape is that of the entry.
+pub(crate) fn failing_part<G: Grid, R: Threads + Sync>(
+    rt: &R,
+    alloc: Global,
+    shape: &Shape<G>,
+    entry: &Entry,
+    limits: Limits,
+) -> Result<Option<u32>, NoMemory>
+    requires shape { IsCanonicalShape G.geometry shape.now }
+    requires same { shape.now ≡ entry.now.cells }
+    requires canonical { AreCanonical G.geometry entry.now.cells }
+    requires limits { AreLimits limits }
+    requires near { IsNearEntry entry.now }
+    ensures none { IfOk result (λ failing. IfNone failing (PartsHold G.geometry limits entry.now)) }
+    ensures some { IfOk result (λ failing. IfSome failing (λ part. (part ≤ 8) × IsLeastFailing G.geometry limits entry.now part)) }
+{
+    if !form_fits(shape, limits, entry.verdict, &entry.evidence) {
+        return Ok(Some(2));
+    }
+    if !cover_holds(alloc, shape, &entry.evidence)? {
+        return Ok(Some(3));
+    }
+    if !classes_hold(alloc, shape, entry.verdict, &entry.evidence)? {
+        return Ok(Some(4));
+    }
+    if !free_holds(alloc, shape, entry.verdict, &entry.evidence)? {
+        return Ok(Some(5));
+    }
+    failing_search(rt, alloc, shape, limits, entry.verdict, &entry.evidence)
 }
 
 /// Whether the entry is true under the grid and the limits; else the least of its nine parts that fails.
@@ -53,19 +87,7 @@ pub fn audit<G: Grid, R: Threads + Sync>(
     let Some(shape) = canonical_shape::<G>(entry.cells.as_slice()) else {
         return Ok(EntryAnswer::Invalid { part: 1 });
     };
-    if !form_fits(&shape, limits, entry.verdict, &entry.evidence) {
-        return Ok(EntryAnswer::Invalid { part: 2 });
-    }
-    if !cover_holds(alloc, &shape, &entry.evidence)? {
-        return Ok(EntryAnswer::Invalid { part: 3 });
-    }
-    if !classes_hold(alloc, &shape, entry.verdict, &entry.evidence)? {
-        return Ok(EntryAnswer::Invalid { part: 4 });
-    }
-    if !free_holds(alloc, &shape, entry.verdict, &entry.evidence)? {
-        return Ok(EntryAnswer::Invalid { part: 5 });
-    }
-    if let Some(part) = failing_search(rt, alloc, &shape, limits, entry.verdict, &entry.evidence)? {
+    if let Some(part) = failing_part(rt, alloc, &shape, entry, limits)? {
         return Ok(EntryAnswer::Invalid { part });
     }
     if !triples_hold(rt, alloc, &shape, limits, entry.verdict, &entry.evidence)? {

@@ -10,16 +10,16 @@ mod formula;
 pub mod laws;
 mod logs;
 mod near;
-mod portions;
 mod proof_log;
 mod shaped;
 mod spelling;
+mod split;
 mod triples;
 mod walls;
 
 pub use auditing::{EntryAnswer, audit};
 pub use near::is_near;
-pub use portions::{most_portions, portion_holds};
+pub use split::{most_portions, portion_holds};
 
 #[cfg(test)]
 mod tests;

@@ -1,16 +1,17 @@
 //! Part 9, the triples of larger domains.
-ghost use Rattle.std.specs.Prelude.{◌≡◌, ◌↔◌, map, length, All, IsTrue, IfOk};
+ghost use Rattle.std.specs.Prelude.{◌≡◌, ◌<◌, ◌≤◌, ◌↔◌, map, length, IsTrue, IfOk};
 ghost use Rattle.heesch_grid.specs.Lattice.{Triple as Lattice};
 ghost use Rattle.heesch_torus.specs.Domain.{HasDomain};
 ghost use Rattle.heesch_cert.specs.declared.entry.TripleProof.{TripleProof as Written};
 ghost use Rattle.heesch_cert.specs.Limits.{AreLimits};
 ghost use Rattle.heesch_cert.specs.Proofs.{SettlesTriple};
 ghost use Rattle.heesch_cert.specs.TrueEntry.{IsUndecided, TriplesHold};
+ghost use Rattle.heesch_audit.specs.Portions.{triples_of, AreProved, AreTriplesAsked};
 ghost use Rattle.heesch_audit.specs.Shapes.{IsCanonicalShape};
 
 use crate::logs::{is_ended, learnt_log};
 use heesch_cert::{Evidence, Limits, TripleProof, Verdict};
-use heesch_grid::Grid;
+use heesch_grid::{Grid, Sizes};
 use heesch_io::NoMemory;
 use heesch_lattice::Triple;
 use heesch_shape::Shape;
@@ -65,30 +66,61 @@ fn is_settled<G: Grid, R: Threads + Sync>(
     is_ended(rt, alloc, &formula, &log, turns)
 }
 
-/// Whether each triple is so settled.
-fn are_settled<G: Grid, R: Threads + Sync>(
+/// Whether the triple is one of a domain of 1 to 12 tiles of so many cells.
+fn has_domain<G: Grid>(count: u32, triple: Triple) -> bool
+    requires count { (1 ≤ count) × (count ≤ 32) }
+    ensures { IsTrue result ↔ HasDomain G.geometry count triple }
+{
+    let Triple { p, q, .. } = triple;
+    let area = G::PER * (p * q);
+    area % count == 0 && area / count <= 12
+}
+
+/// Whether the triple has a domain, and its proof settles it.
+fn is_proved<G: Grid, R: Threads + Sync>(
+    rt: &R,
+    alloc: Global,
+    shape: &Shape<G>,
+    turns: u32,
+    written: &TripleProof,
+) -> Result<bool, NoMemory>
+    requires shape { IsCanonicalShape G.geometry shape.now }
+    ensures { IfOk result (λ yes. IsTrue yes ↔ (HasDomain G.geometry (length shape.now) written.now.triple × SettlesTriple G.geometry shape.now turns written.now.triple written.now.proof)) }
+{
+    let count = shape.cells().len() as u32;
+    if !has_domain::<G>(count, written.triple) {
+        return Ok(false);
+    }
+    is_settled(rt, alloc, shape, turns, written)
+}
+
+/// Whether each so many-th of the triples from the portion's first on has a domain, and its proof settles it.
+pub(crate) fn are_proved<G: Grid, R: Threads + Sync>(
     rt: &R,
     alloc: Global,
     shape: &Shape<G>,
     turns: u32,
     written: &[TripleProof],
+    portion: u32,
+    portions: u32,
 ) -> Result<bool, NoMemory>
     requires shape { IsCanonicalShape G.geometry shape.now }
-    requires domains { All (λ (x : Written). HasDomain G.geometry (length shape.now) x.triple) written.now }
-    ensures { IfOk result (λ yes. IsTrue yes ↔ All (λ (x : Written). SettlesTriple G.geometry shape.now turns x.triple x.proof) written.now) }
+    requires portion { portion < portions }
+    ensures { IfOk result (λ yes. IsTrue yes ↔ AreProved G.geometry shape.now turns written.now portion portions) }
 {
-    for triple in written {
-        if !is_settled(rt, alloc, shape, turns, triple)? {
+    let mut at = portion as usize;
+    while at < written.len() {
+        if !is_proved(rt, alloc, shape, turns, &written[at])? {
             return Ok(false);
         }
+        at += portions as usize;
     }
     Ok(true)
 }
 
-/// Whether for an undecided verdict all triples of the domains from 2 to the limit are written, in order, each settled, and for
-/// any other none.
-pub(crate) fn triples_hold<G: Grid, R: Threads + Sync>(
-    rt: &R,
+/// Whether for an undecided verdict all triples of the domains from 2 to the limit are written, in order, and for any other
+/// none.
+pub(crate) fn are_asked<G: Grid>(
     alloc: Global,
     shape: &Shape<G>,
     limits: Limits,
@@ -97,7 +129,7 @@ pub(crate) fn triples_hold<G: Grid, R: Threads + Sync>(
 ) -> Result<bool, NoMemory>
     requires shape { IsCanonicalShape G.geometry shape.now }
     requires limits { AreLimits limits }
-    ensures { IfOk result (λ yes. IsTrue yes ↔ TriplesHold G.geometry limits shape.now verdict evidence.now) }
+    ensures { IfOk result (λ yes. IsTrue yes ↔ AreTriplesAsked G.geometry limits shape.now verdict evidence.now) }
 {
     let Evidence::Search {
         triples: written,
@@ -111,8 +143,34 @@ pub(crate) fn triples_hold<G: Grid, R: Threads + Sync>(
     }
     let count = shape.cells().len() as u32;
     let all = triples_up_to::<G>(alloc, count, limits.domain)?;
-    if !are_triples_of(written.as_slice(), all.as_slice()) {
+    Ok(are_triples_of(written.as_slice(), all.as_slice()))
+}
+
+/// The triples whose proofs the evidence has.
+pub(crate) fn triples_of(evidence: &Evidence) -> &[TripleProof]
+    ensures { result.now ≡ triples_of evidence.now }
+{
+    match evidence {
+        Evidence::Cover { .. } => &[],
+        Evidence::Search { triples, .. } => triples.as_slice(),
+    }
+}
+
+/// Whether the triples are those that are asked for, each settled.
+pub(crate) fn triples_hold<G: Grid, R: Threads + Sync>(
+    rt: &R,
+    alloc: Global,
+    shape: &Shape<G>,
+    limits: Limits,
+    verdict: Verdict,
+    evidence: &Evidence,
+) -> Result<bool, NoMemory>
+    requires shape { IsCanonicalShape G.geometry shape.now }
+    requires limits { AreLimits limits }
+    ensures { IfOk result (λ yes. IsTrue yes ↔ TriplesHold G.geometry limits shape.now verdict evidence.now) }
+{
+    if !are_asked(alloc, shape, limits, verdict, evidence)? {
         return Ok(false);
     }
-    are_settled(rt, alloc, shape, limits.turns, written.as_slice())
+    are_proved(rt, alloc, shape, limits.turns, triples_of(evidence), 0, 1)
 }

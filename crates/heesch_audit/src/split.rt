@@ -1,0 +1,81 @@
+//! The audit of an entry in portions.
+ghost use Rattle.std.specs.Prelude.{◌≡◌, ◌<◌, ◌↔◌, max, length, IsTrue, IfOk};
+ghost use Rattle.heesch_cert.specs.Limits.{AreLimits};
+ghost use Rattle.heesch_audit.specs.Near.{IsNearEntry};
+ghost use Rattle.heesch_audit.specs.Portions.{triples_of, HoldsBesideProofs, PortionHolds};
+ghost use Rattle.heesch_audit.specs.Shapes.{AreCanonical, IsCanonicalShape};
+
+use crate::auditing::failing_part;
+use crate::shaped::canonical_shape;
+use crate::triples::{are_asked, are_proved, triples_of};
+use heesch_cert::{Entry, Limits};
+use heesch_grid::Grid;
+use heesch_io::NoMemory;
+use heesch_shape::Shape;
+use std::alloc::Global;
+use std::thread::Threads;
+
+/// The most portions into which an audit of the entry is worth being split, at least one: with so many each has the proof of
+/// at most one triple.
+pub fn most_portions(entry: &Entry) -> usize
+    ensures { result ≡ max 1 (length (triples_of entry.now.evidence)) }
+{
+    triples_of(&entry.evidence).len().max(1)
+}
+
+/// Whether all of the entry holds but that the proofs of its triples settle them, where this is the first portion and the
+/// shape that of the entry; no other portion asks for it.
+fn is_due_beside<G: Grid, R: Threads + Sync>(
+    rt: &R,
+    alloc: Global,
+    shape: &Shape<G>,
+    entry: &Entry,
+    limits: Limits,
+    portion: u32,
+) -> Result<bool, NoMemory>
+    requires shape { IsCanonicalShape G.geometry shape.now }
+    requires same { shape.now ≡ entry.now.cells }
+    requires canonical { AreCanonical G.geometry entry.now.cells }
+    requires limits { AreLimits limits }
+    requires near { IsNearEntry entry.now }
+    ensures { IfOk result (λ yes. IsTrue yes ↔ (portion ≡ 0 → HoldsBesideProofs G.geometry limits entry.now)) }
+{
+    if portion > 0 {
+        return Ok(true);
+    }
+    if failing_part(rt, alloc, shape, entry, limits)?.is_some() {
+        return Ok(false);
+    }
+    are_asked(alloc, shape, limits, entry.verdict, &entry.evidence)
+}
+
+/// Whether a portion of the entry, of so many, holds: the proofs of each so many-th of its triples, and in the first portion
+/// all else of it as well. The entry is true exactly where each of its portions holds.
+///
+/// Condition: that of `audit`, and the portion's number is below theirs. An entry whose shape isn't canonical holds in no
+/// portion that has a triple, nor in the first.
+///
+/// Cost: that of the proofs of its triples, and in the first portion of all else that `audit` looks at. The shape is made
+/// in each anew. A triple that isn't one of a domain is tested in the portion of its proof, which is then not read.
+pub fn portion_holds<G: Grid, R: Threads + Sync>(
+    rt: &R,
+    alloc: Global,
+    entry: &Entry,
+    limits: Limits,
+    portion: u32,
+    portions: u32,
+) -> Result<bool, NoMemory>
+    requires limits { AreLimits limits }
+    requires near { IsNearEntry entry.now }
+    requires portion { portion < portions }
+    ensures { IfOk result (λ yes. IsTrue yes ↔ PortionHolds G.geometry limits entry.now portion portions) }
+{
+    let written = triples_of(&entry.evidence);
+    let Some(shape) = canonical_shape::<G>(entry.cells.as_slice()) else {
+        return Ok(portion > 0 && written.len() <= portion as usize);
+    };
+    if !is_due_beside(rt, alloc, &shape, entry, limits, portion)? {
+        return Ok(false);
+    }
+    are_proved(rt, alloc, &shape, limits.turns, written, portion, portions)
+}
