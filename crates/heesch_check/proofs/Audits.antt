@@ -8,7 +8,6 @@ use Rattle.std.proofs.lemmas.List.Sums.{prefix_len-le-length}
 use Rattle.heesch_cert.specs.declared.entry.Entry.{Entry}
 use Rattle.heesch_cert.specs.declared.header.Header.{Header}
 use Rattle.heesch_cert.specs.declared.limits.Limits.{Limits}
-use Rattle.heesch_cert.specs.Limits.{AreLimits}
 use Rattle.heesch_grid.specs.Geometry.{Geometry}
 use Rattle.heesch_grid.specs.Names.{geometry_of}
 use Rattle.heesch_reader.specs.declared.item.Item.{Item}
@@ -16,8 +15,7 @@ use Rattle.heesch_reader.specs.declared.item.Item.TheVariants as items
 use Rattle.heesch_check.specs.declared.answers.Checked.{Checked}
 use Rattle.heesch_check.specs.declared.answers.Checked.TheVariants as answers
 use Rattle.heesch_check.specs.Catalogues.{IsInPlace, IsGoodEntry}
-use Rattle.heesch_check.specs.Judging.{IsFit, Judges, AreAllGood, StopsIn, JudgesAll, ArePlaced, IsAuditOf, AreAudits}
-use Rattle.heesch_check.proofs.Near.{entry_near}
+use Rattle.heesch_check.specs.Judging.{IsFit, Judges, AreAllGood, StopsIn, JudgesAll, ArePlaced, AreAudits}
 
 -- ---- entries in their places
 
@@ -68,50 +66,42 @@ take_one k x xs = let one : suc k ≡ 1 + k = omega arith in subst (λ (n : ℕ)
 drop_one : (k : ℕ) (x : Item) (xs : List Item) → drop (1 + k) (x ∷ xs) ≡ drop k xs
 drop_one k x xs = let one : suc k ≡ 1 + k = omega arith in subst (λ (n : ℕ). drop n (x ∷ xs) ≡ drop k xs) one refl
 
--- audits of the numbers from the first one's on are those of the items from the first on
-pub audits_from : (g : Geometry) (limits own : Limits) (found these : List Item) (first from : ℕ) (audits : List Bool) → own ≡ limits → these ≡ found → first ≡ from
-    → ((i : ℕ) (holds : Bool) → slice_get audits i ≡ Some holds → IsAuditOf g own these ((from + i) - first) holds) → AreAudits g limits found audits
-audits_from g limits own found these first from audits same all at told i holds is =
-    let n : (from + i) - first ≡ i = omega (arith, at) in
-    subst (λ (x : ℕ). IsAuditOf g limits found x holds) n
-    (subst (λ (x : Limits). IsAuditOf g x found ((from + i) - first) holds) same (subst (λ (x : List Item). IsAuditOf g own x ((from + i) - first) holds) all (told i holds is)))
-
 -- the audits of the items behind the first
 others : (g : Geometry) (limits : Limits) (item : Item) (found : List Item) (holds : Bool) (audits : List Bool) → AreAudits g limits (item ∷ found) (holds ∷ audits) → AreAudits g limits found audits
 others g limits item found holds audits a = λ i h at line e is. a (suc i) h at line e is
 
 -- an entry in its place, whose audit says so, is good, and no other is
-audit_tells : (header : Header) (before line : ℕ) (e : Entry) (found : List Item) (holds : Bool) (audits : List Bool) → IsInPlace (geometry_of header.grid) header.subject before e.cells → IsFit (items.Entry line e) → AreLimits header.limits
+audit_tells : (header : Header) (before line : ℕ) (e : Entry) (found : List Item) (holds : Bool) (audits : List Bool) → IsInPlace (geometry_of header.grid) header.subject before e.cells → IsFit (items.Entry line e)
     → AreAudits (geometry_of header.grid) header.limits (items.Entry line e ∷ found) (holds ∷ audits) → IsTrue holds ↔ IsGoodEntry header before e
-audit_tells header before line e found holds audits place fit limits a =
-    let tells = a 0 holds refl line e refl limits (entry_near e fit.holds fit.forms) in (
+audit_tells header before line e found holds audits place fit a =
+    let tells = a 0 holds refl line e refl in (
       λ yes. record { is_true = tells.0 yes; in_place = place; forms = fit.forms },
       λ good. tells.1 good.is_true,
     )
 
 -- the entries of the first audits that all say so are good
-pub led : (header : Header) (before : ℕ) (found : List Item) (audits : List Bool) → ArePlaced header before (take (length audits) found) → length audits ≤ length found → AllByRecursion IsFit found → AreLimits header.limits
+pub led : (header : Header) (before : ℕ) (found : List Item) (audits : List Bool) → ArePlaced header before (take (length audits) found) → length audits ≤ length found → AllByRecursion IsFit found
     → AreAudits (geometry_of header.grid) header.limits found audits → AreAllGood header before (before + position_or_len not audits) (take (position_or_len not audits) found)
-led header before found [] placed many fit limits a = omega arith
-led header before [] (holds ∷ audits) placed many fit limits a = absurd (omega (arith, many))
-led header before (items.Entry line e ∷ found) (false ∷ audits) placed many fit limits a = omega arith
-led header before (items.Entry line e ∷ found) (true ∷ audits) placed many fit limits a =
-    let rest = led header (before + 1) found audits placed.1 (omega (arith, many)) fit.1 limits (others (geometry_of header.grid) header.limits (items.Entry line e) found true audits a) in
+led header before found [] placed many fit a = omega arith
+led header before [] (holds ∷ audits) placed many fit a = absurd (omega (arith, many))
+led header before (items.Entry line e ∷ found) (false ∷ audits) placed many fit a = omega arith
+led header before (items.Entry line e ∷ found) (true ∷ audits) placed many fit a =
+    let rest = led header (before + 1) found audits placed.1 (omega (arith, many)) fit.1 (others (geometry_of header.grid) header.limits (items.Entry line e) found true audits a) in
     let k = position_or_len not audits in
     let far : (before + 1) + k ≡ before + (1 + k) = omega arith in
-    let good : Judges header before (before + 1) (items.Entry line e) None = ((audit_tells header before line e found true audits placed.0 fit.0 limits a).0 refl, refl) in
+    let good : Judges header before (before + 1) (items.Entry line e) None = ((audit_tells header before line e found true audits placed.0 fit.0 a).0 refl, refl) in
     subst (AreAllGood header before (before + (1 + k))) (sym (take_one k (items.Entry line e) found)) (before + 1, good, subst (λ (n : ℕ). AreAllGood header (before + 1) n (take k found)) far rest)
-led header before (items.Header other ∷ found) (holds ∷ audits) placed many fit limits a = absurd placed
-led header before (items.Brief line cells verdict ∷ found) (holds ∷ audits) placed many fit limits a = absurd placed
-led header before (items.End count ∷ found) (holds ∷ audits) placed many fit limits a = absurd placed
+led header before (items.Header other ∷ found) (holds ∷ audits) placed many fit a = absurd placed
+led header before (items.Brief line cells verdict ∷ found) (holds ∷ audits) placed many fit a = absurd placed
+led header before (items.End count ∷ found) (holds ∷ audits) placed many fit a = absurd placed
 
 -- the entry of the first audit that doesn't say so is the first item at fault
-pub first_bad : (header : Header) (before : ℕ) (found : List Item) (audits : List Bool) → ArePlaced header before (take (length audits) found) → length audits ≤ length found → AllByRecursion IsFit found → AreLimits header.limits
+pub first_bad : (header : Header) (before : ℕ) (found : List Item) (audits : List Bool) → ArePlaced header before (take (length audits) found) → length audits ≤ length found → AllByRecursion IsFit found
     → AreAudits (geometry_of header.grid) header.limits found audits → position_or_len not audits < length audits
     → JudgesAll header (before + position_or_len not audits) (before + position_or_len not audits) (drop (position_or_len not audits) found) (Some (answers.InvalidEntry ((before + position_or_len not audits) + 1)))
-first_bad header before found [] placed many fit limits a lt = absurd (omega (arith, lt))
-first_bad header before [] (holds ∷ audits) placed many fit limits a lt = absurd (omega (arith, many))
-first_bad header before (items.Entry line e ∷ found) (false ∷ audits) placed many fit limits a lt =
+first_bad header before found [] placed many fit a lt = absurd (omega (arith, lt))
+first_bad header before [] (holds ∷ audits) placed many fit a lt = absurd (omega (arith, many))
+first_bad header before (items.Entry line e ∷ found) (false ∷ audits) placed many fit a lt =
     let here : before ≡ before + 0 = omega arith in
     subst (λ (n : ℕ). JudgesAll header n n (items.Entry line e ∷ found) (Some (answers.InvalidEntry (n + 1)))) here (record {
       front = [];
@@ -120,17 +110,17 @@ first_bad header before (items.Entry line e ∷ found) (false ∷ audits) placed
       middle = before;
       split = refl;
       good = refl;
-      judges = (refl, λ good. false≢true ((audit_tells header before line e found false audits placed.0 fit.0 limits a).1 good));
+      judges = (refl, λ good. false≢true ((audit_tells header before line e found false audits placed.0 fit.0 a).1 good));
     })
-first_bad header before (items.Entry line e ∷ found) (true ∷ audits) placed many fit limits a lt =
+first_bad header before (items.Entry line e ∷ found) (true ∷ audits) placed many fit a lt =
     let k = position_or_len not audits in
-    let rest = first_bad header (before + 1) found audits placed.1 (omega (arith, many)) fit.1 limits (others (geometry_of header.grid) header.limits (items.Entry line e) found true audits a) (omega (arith, lt)) in
+    let rest = first_bad header (before + 1) found audits placed.1 (omega (arith, many)) fit.1 (others (geometry_of header.grid) header.limits (items.Entry line e) found true audits a) (omega (arith, lt)) in
     let far : (before + 1) + k ≡ before + (1 + k) = omega arith in
     subst (λ (xs : List Item). JudgesAll header (before + (1 + k)) (before + (1 + k)) xs (Some (answers.InvalidEntry ((before + (1 + k)) + 1)))) (sym (drop_one k (items.Entry line e) found))
     (subst (λ (n : ℕ). JudgesAll header n n (drop k found) (Some (answers.InvalidEntry (n + 1)))) far rest)
-first_bad header before (items.Header other ∷ found) (holds ∷ audits) placed many fit limits a lt = absurd placed
-first_bad header before (items.Brief line cells verdict ∷ found) (holds ∷ audits) placed many fit limits a lt = absurd placed
-first_bad header before (items.End count ∷ found) (holds ∷ audits) placed many fit limits a lt = absurd placed
+first_bad header before (items.Header other ∷ found) (holds ∷ audits) placed many fit a lt = absurd placed
+first_bad header before (items.Brief line cells verdict ∷ found) (holds ∷ audits) placed many fit a lt = absurd placed
+first_bad header before (items.End count ∷ found) (holds ∷ audits) placed many fit a lt = absurd placed
 
 -- ---- a round
 
@@ -139,14 +129,14 @@ rest_from found k le = let d : length (drop k found) ≡ length found - k = leng
 
 -- an audit that doesn't say so settles the round
 pub round_stops : (header : Header) (before until good after : ℕ) (found : List Item) (audits : List Bool) (answer : Checked) → ArePlaced header before (take (until - before) found) → before + length audits ≡ until → until ≤ before + length found → AllByRecursion IsFit found
-    → AreLimits header.limits → AreAudits (geometry_of header.grid) header.limits found audits → good ≡ position_or_len not audits → good < length audits → after ≡ before + good → answer ≡ answers.InvalidEntry (after + 1) → JudgesAll header before after found (Some answer)
-round_stops header before until good after found audits answer placed many most fit limits a is lt far told =
+    → AreAudits (geometry_of header.grid) header.limits found audits → good ≡ position_or_len not audits → good < length audits → after ≡ before + good → answer ≡ answers.InvalidEntry (after + 1) → JudgesAll header before after found (Some answer)
+round_stops header before until good after found audits answer placed many most fit a is lt far told =
     let k = position_or_len not audits in
     let n : until - before ≡ length audits = omega (arith, many) in
     let here = subst (λ (x : ℕ). ArePlaced header before (take x found)) n placed in
     let le : length audits ≤ length found = omega (arith, many, most) in
-    let g = led header before found audits here le fit limits a in
-    let b = first_bad header before found audits here le fit limits a (subst (λ (x : ℕ). x < length audits) is lt) in
+    let g = led header before found audits here le fit a in
+    let b = first_bad header before found audits here le fit a (subst (λ (x : ℕ). x < length audits) is lt) in
     let all = good_then header before (before + k) (before + k) (take k found) (drop k found) (Some (answers.InvalidEntry ((before + k) + 1))) g b in
     let at : after ≡ before + k = far ∙ ap (λ (x : ℕ). before + x) is in
     subst (λ (x : List Item). JudgesAll header before after x (Some answer)) (take-append-drop k found)
@@ -155,14 +145,14 @@ round_stops header before until good after found audits answer placed many most 
 
 -- where all audits say so, the items behind their entries settle it
 pub round_goes_on : (header own : Header) (before until good middle after : ℕ) (found : List Item) (audits : List Bool) (result : Option Checked) → own ≡ header → ArePlaced header before (take (until - before) found) → before + length audits ≡ until → until ≤ before + length found
-    → AllByRecursion IsFit found → AreLimits header.limits → AreAudits (geometry_of header.grid) header.limits found audits → good ≡ position_or_len not audits → length audits ≤ good → middle ≡ before + good
+    → AllByRecursion IsFit found → AreAudits (geometry_of header.grid) header.limits found audits → good ≡ position_or_len not audits → length audits ≤ good → middle ≡ before + good
     → JudgesAll own middle after (take (length found - good) (drop good found)) result → JudgesAll header before after found result
-round_goes_on header own before until good middle after found audits result same placed many most fit limits a is ge far judges =
+round_goes_on header own before until good middle after found audits result same placed many most fit a is ge far judges =
     let k = position_or_len not audits in
     let n : until - before ≡ length audits = omega (arith, many) in
     let here = subst (λ (x : ℕ). ArePlaced header before (take x found)) n placed in
     let le : length audits ≤ length found = omega (arith, many, most) in
-    let g = led header before found audits here le fit limits a in
+    let g = led header before found audits here le fit a in
     let few : k ≤ length audits = prefix_len-le-length (λ (x : Bool). not (not x)) audits in
     let within : k ≤ length found = omega (arith, few, le) in
     let at : middle ≡ before + k = far ∙ ap (λ (x : ℕ). before + x) is in

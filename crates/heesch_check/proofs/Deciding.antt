@@ -42,7 +42,7 @@ use Rattle.heesch_check.proofs.Blocks.{IsNext, block_split}
 use Rattle.heesch_check.proofs.Leading.{IsBounded, IsBoundedTo, up_to, over_entries}
 use Rattle.heesch_check.proofs.OneAnswer.{same_header, along_blocks, begins_entry, short_decided}
 use Rattle.heesch_check.proofs.Seen.{IsRead}
-use Rattle.heesch_check.proofs.Stopping.{few_entries}
+use Rattle.heesch_check.proofs.Stopped.{few_entries}
 
 -- ---- what was read at the front of the input
 

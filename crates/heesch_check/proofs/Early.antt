@@ -38,7 +38,8 @@ use Rattle.heesch_check.proofs.Deciding.{RefusedIn, refused_decided, same_rest, 
 use Rattle.heesch_check.proofs.Leading.{IsBounded, IsBoundedTo, up_to, no_second_header}
 use Rattle.heesch_check.proofs.OneAnswer.{begins_entry}
 use Rattle.heesch_check.proofs.Seen.{IsRead, checked}
-use Rattle.heesch_check.proofs.Stopping.{Held, behind_all, held_at, same_place}
+use Rattle.heesch_check.proofs.Stopping.{Held, same_place}
+use Rattle.heesch_check.proofs.Stopped.{behind_all, held_at}
 
 -- an answer comes for an input that is decided
 pub comes : (input : List ℕ) (answer : Checked) → IsDecided input → Comes input answer

@@ -29,7 +29,8 @@ use Rattle.heesch_check.proofs.Leading.{IsBoundedTo, up_to_none}
 use Rattle.heesch_check.proofs.OneAnswer.{same_header, short_decided}
 use Rattle.heesch_check.proofs.Readings.{Answers, FaultRead, as_reading, refusal_read, fall_read, fault_answers}
 use Rattle.heesch_check.proofs.Seen.{IsRead}
-use Rattle.heesch_check.proofs.Stopping.{Held, StopsAt, refused, held_at, behind_all, no_good}
+use Rattle.heesch_check.proofs.Stopping.{Held, StopsAt, refused, no_good}
+use Rattle.heesch_check.proofs.Stopped.{held_at, behind_all}
 
 -- the header alone
 abbrev alone : Header → List Item

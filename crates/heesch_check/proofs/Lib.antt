@@ -11,7 +11,9 @@ pub mod Leading
 pub mod Near
 pub mod OneAnswer
 mod Places
+pub mod Portions
 pub mod Readings
 pub mod Seen
+pub mod Stopped
 pub mod Stopping
 pub mod Written

@@ -35,7 +35,8 @@ use Rattle.heesch_check.specs.Judging.{IsFit, HoldsLines, AreJudged}
 use Rattle.heesch_check.specs.Reading.{AnswersLong, IsAnswerOf, IsReading, BeginWith, IsOpened}
 use Rattle.heesch_check.proofs.Leading.{IsBounded, IsBoundedTo, up_to}
 use Rattle.heesch_check.proofs.Seen.{IsRead}
-use Rattle.heesch_check.proofs.Stopping.{StopsAt, refused, fallen, stops_in_entry, stops_at_end, stops_behind_header, ends_valid, goes_on_open}
+use Rattle.heesch_check.proofs.Stopping.{StopsAt, refused, fallen}
+use Rattle.heesch_check.proofs.Stopped.{stops_in_entry, stops_at_end, stops_behind_header, ends_valid, goes_on_open}
 use Rattle.heesch_check.proofs.Deciding.{Fronted, RefusedIn, stands_read, shown_on}
 use Rattle.heesch_check.proofs.Early.{early_end, early_entry, fault_decided, inside_ends, next_ends, other_ends}
 use Rattle.heesch_check.proofs.OneAnswer.{no_header_decided, short_decided}

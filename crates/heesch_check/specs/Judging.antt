@@ -1,7 +1,7 @@
 -- What is known of the items that were judged.
-use Rattle.std.specs.Prelude.{◌≡◌, ◌⊎◌, ◌↔◌, ℕ, ◌+◌, ◌<◌, ◌^◌, Bool, IsTrue, List, [], ◌∷◌, ◌++◌, length, slice_get, Option, Some, None, MatchOption}
+use Rattle.std.specs.Prelude.{◌≡◌, ◌⊎◌, ◌↔◌, ℕ, ◌+◌, ◌/◌, ◌%◌, ◌<◌, ◌^◌, Bool, IsTrue, List, [], ◌∷◌, ◌++◌, length, slice_get, Option, Some, None, MatchOption}
 use Rattle.std.specs.List.{AllByRecursion}
-use Rattle.heesch_audit.specs.Near.{IsNearEntry}
+use Rattle.heesch_audit.specs.Portions.{PortionHolds}
 use Rattle.heesch_grid.specs.declared.Cell.{Cell}
 use Rattle.heesch_grid.specs.Geometry.{Geometry}
 use Rattle.heesch_grid.specs.Names.{geometry_of}
@@ -11,7 +11,6 @@ use Rattle.heesch_cert.specs.declared.header.Header.{Header}
 use Rattle.heesch_cert.specs.declared.header.Subject.{Subject}
 use Rattle.heesch_cert.specs.declared.header.Subject.TheVariants.{Size, Given}
 use Rattle.heesch_cert.specs.declared.limits.Limits.{Limits}
-use Rattle.heesch_cert.specs.Limits.{AreLimits}
 use Rattle.heesch_cert.specs.TrueEntry.{IsTrueEntry}
 use Rattle.heesch_grammar.specs.Entries.{HoldsItsLines}
 use Rattle.heesch_line.specs.Forms.{IsLine}
@@ -81,9 +80,13 @@ ArePlaced header before [] = Unit {0}
 ArePlaced header before (items.Entry line e ∷ found) = IsInPlace (geometry_of header.grid) header.subject before e.cells × ArePlaced header (before + 1) found
 ArePlaced header before (item ∷ found) = ⊥
 
--- whether this one of the items is true, where it is an entry whose coordinates lie near 0 and the limits lie in their ranges
+-- whether the portion of this number holds, where so many of each item are numbered, one item after the other, and the item is an entry
+abbrev pub IsPortionOf : Geometry → Limits → List Item → (portions number : ℕ) → Bool → Type 0
+IsPortionOf g limits found portions number holds = (line : ℕ) (e : Entry) → slice_get found (number / portions) ≡ Some (items.Entry line e) → (IsTrue holds ↔ PortionHolds g limits e (number % portions) portions)
+
+-- whether this one of the items is true, where it is an entry
 abbrev pub IsAuditOf : Geometry → Limits → List Item → ℕ → Bool → Type 0
-IsAuditOf g limits found i holds = (line : ℕ) (e : Entry) → slice_get found i ≡ Some (items.Entry line e) → AreLimits limits → IsNearEntry e → (IsTrue holds ↔ IsTrueEntry g limits e)
+IsAuditOf g limits found i holds = (line : ℕ) (e : Entry) → slice_get found i ≡ Some (items.Entry line e) → (IsTrue holds ↔ IsTrueEntry g limits e)
 
 -- these are audits of the items from the first on
 abbrev pub AreAudits : Geometry → Limits → List Item → List Bool → Type 0

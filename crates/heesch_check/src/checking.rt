@@ -41,10 +41,11 @@ const ROUND: usize = 256;
 ///
 /// Entries are judged by rounds: items are gathered from as many pieces as that takes until there are 256, the input is at
 /// fault or ends, or as much is read as may be; then the entries that are in their places are audited by the workers, each
-/// once, and the answer is that of the first item at fault. The gate is told of each entry's number, from 0. Reading stops
-/// with the round that decides the answer, and no more is held than the items of a round and those of one piece. The free
-/// list of a size is made once, by the workers, before the first round, but where the input is at fault with nothing whole
-/// behind its header, or with a brief entry.
+/// once, and the answer is that of the first item at fault. The gate is told of each entry's number, from 0. Where an entry
+/// of a round has the proofs of several triples, its entries are audited in portions, and the gate is told of the portions'
+/// numbers, from that of the round's first entry on. Reading stops with the round that decides the answer, and no more is
+/// held than the items of a round and those of one piece. The free list of a size is made once, by the workers, before the
+/// first round, but where the input is at fault with nothing whole behind its header, or with a brief entry.
 ///
 /// Errors: `Failed` only where the source's count of faults rose; `NoMemory` where memory was refused. At an error too the
 /// source has given the bytes of some pieces, front first, and no piece beyond the round at hand.

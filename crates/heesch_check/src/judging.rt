@@ -12,6 +12,7 @@ ghost use Rattle.heesch_check.specs.Judging.{ArePlaced, HasShapes, IsFit, Judges
 ghost use Rattle.heesch_check.specs.Reading.{AnswersEarly, AnswersLong, IsAnswerOf, JudgesRound};
 
 use crate::answers::Checked;
+use crate::handle::SharedHandle;
 use crate::reading::Reading;
 use crate::rounds::{audits, leading};
 use heesch_audit::{EntryAnswer, audit};
@@ -167,7 +168,7 @@ impl<G: Grid + Send + Sync> Judge<G> {
     }
 
     /// Judges items, up to the first at fault, and gives its answer. The entries that stand first among them, each in its
-    /// place, are audited at once.
+    /// place, are audited at once, each in portions.
     fn judge_all<T: Threads + Sync, H: Gate + Sync>(
         &mut self,
         rt: &T,
@@ -187,7 +188,10 @@ impl<G: Grid + Send + Sync> Judge<G> {
         let before = self.entries;
         let until = self.placed(items);
         let limits = self.header.limits;
-        let audits = audits::<G, T, H>(rt, alloc, items, before, until, limits, workers, gate)?;
+        let handle = SharedHandle { rt };
+        let audits = audits::<G, SharedHandle<'_, T>, H>(
+            &handle, alloc, items, before, until, limits, workers, gate,
+        )?;
         let good = leading(&audits);
         self.entries = before + good as u32;
         if good < audits.len() {

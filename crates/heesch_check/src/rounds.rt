@@ -1,14 +1,13 @@
-//! The entries of a round, audited at once.
-ghost use Rattle.std.specs.Prelude.{◌≡◌, ◌+◌, ◌↔◌, ◌≤◌, IfOk, IsTrue, length, not, vec_len};
-ghost use Rattle.std.specs.List.{position_or_len};
-ghost use Rattle.heesch_audit.specs.Near.{IsNearEntry};
+//! The entries of a round, audited at once, each in portions.
+ghost use Rattle.std.specs.Prelude.{◌≡◌, ◌+◌, ◌*◌, ◌<◌, ◌≤◌, ℕ, Bool, IfOk, Some, length, not, slice_get, vec_len};
+ghost use Rattle.std.specs.Fork.{slice_chunk};
+ghost use Rattle.std.specs.List.{AllByRecursion, list_all, position_or_len};
+ghost use Rattle.std.specs.Slice.Iter.{chunk_count};
 ghost use Rattle.heesch_cert.specs.Limits.{AreLimits};
-ghost use Rattle.heesch_cert.specs.TrueEntry.{IsTrueEntry};
-ghost use Rattle.heesch_check.specs.Judging.{AreAudits};
+ghost use Rattle.heesch_check.specs.Judging.{AreAudits, IsFit};
 
-use crate::handle::SharedHandle;
-use heesch_audit::{EntryAnswer, audit, is_near};
-use heesch_cert::{Entry, Limits};
+use heesch_audit::{most_portions, portion_holds};
+use heesch_cert::Limits;
 use heesch_grid::Grid;
 use heesch_io::NoMemory;
 use heesch_pool::{Answer, Gate, Job, run_span};
@@ -17,59 +16,98 @@ use std::alloc::Global;
 use std::marker::PhantomData;
 use std::thread::Threads;
 
-/// The job whose item is whether an entry is true. Threads may share the handle that it has.
+/// The most portions of an entry: as many as there may be workers.
+const PORTIONS_MAX: usize = 64;
+
+/// The job whose item is whether a portion of an entry holds. Threads may share the handle that it has.
 #[derive(Drop)]
-struct AuditOf<'a, G: Grid, R> {
+struct PortionOf<'a, G: Grid, R> {
     rt: R,
     alloc: Global,
     items: &'a [Item],
-    /// The number of the first of the items.
+    /// The number of the first portion of the first of the items.
     first: u32,
+    /// How many portions each of the items has.
+    portions: u32,
     limits: Limits,
     grid: PhantomData<G>,
 }
 
-impl<'a, G: Grid, R: Threads + Sync + Copy> Answer<bool> for AuditOf<'a, G, R> {
-    ghost use Rattle.std.specs.Prelude.{true, IfOk, ◌-◌};
+impl<'a, G: Grid, R: Threads + Sync + Copy> Answer<bool> for PortionOf<'a, G, R> {
+    ghost use Rattle.std.specs.Prelude.{IfOk, ◌-◌, nat_lt};
+    ghost use Rattle.std.specs.List.{AllByRecursion};
     ghost use Rattle.std.specs.Thread.{IsSync};
-    ghost use Rattle.heesch_check.specs.Judging.{IsAuditOf};
+    ghost use Rattle.heesch_cert.specs.Limits.{AreLimits};
+    ghost use Rattle.heesch_check.specs.Judging.{IsFit, IsPortionOf};
 
-    ghost accepts = { λ _ _. true };
+    ghost accepts = { λ s _. nat_lt 0 s.portions };
 
-    ghost gives = { λ s number holds. IfOk holds (IsAuditOf G.geometry s.limits s.items.now (number - s.first)) };
+    ghost gives = { λ s number holds. IfOk holds (IsPortionOf G.geometry s.limits s.items.now s.portions (number - s.first)) };
 
-    ghost ready = { λ _. IsSync R.row };
+    ghost ready = { λ s. IsSync R.row × AreLimits s.limits × AllByRecursion IsFit s.items.now };
 
     fn answer(&self, number: u32) -> Result<bool, NoMemory> {
-        match self.items.get(number.saturating_sub(self.first) as usize) {
-            Some(Item::Entry { line: _, entry }) => {
-                is_true::<G, R>(&self.rt, self.alloc, entry, self.limits)
-            }
+        let behind = number.saturating_sub(self.first);
+        match self.items.get((behind / self.portions) as usize) {
+            Some(Item::Entry { line: _, entry }) => portion_holds::<G, R>(
+                &self.rt,
+                self.alloc,
+                entry,
+                self.limits,
+                behind % self.portions,
+                self.portions,
+            ),
             _ => Ok(false),
         }
     }
 }
 
-/// Whether an entry is true, where its coordinates lie near 0 and the limits in their ranges.
-fn is_true<G: Grid, R: Threads + Sync>(
-    rt: &R,
-    alloc: Global,
-    entry: &Entry,
-    limits: Limits,
-) -> Result<bool, NoMemory>
-    ensures { IfOk result (λ holds. AreLimits limits → IsNearEntry entry.now → (IsTrue holds ↔ IsTrueEntry G.geometry limits entry.now)) }
-{
-    if !limits.valid() || !is_near(entry) {
-        return Ok(false);
-    }
-    match audit::<G, R>(rt, alloc, entry, limits)? {
-        EntryAnswer::Valid => Ok(true),
-        EntryAnswer::Invalid { part: _ } => Ok(false),
+/// The most portions into which an item is worth being split, at least one.
+fn most_portions_of(item: &Item) -> usize {
+    match item {
+        Item::Entry { line: _, entry } => most_portions(entry),
+        _ => 1,
     }
 }
 
-/// `audits` by a handle that is copied.
-fn audits_by<G: Grid + Send + Sync, R: Threads + Sync + Copy, H: Gate + Sync>(
+/// Into how many portions each of the first `count` items is split: as many as the most of one of them, up to `PORTIONS_MAX`,
+/// if no more than `left` numbers are wanted for all of them.
+fn portions_of_each(items: &[Item], count: u32, left: u32) -> u32
+    requires { count ≤ left }
+    ensures some { 0 < result }
+    ensures numbered { count * result ≤ left }
+{
+    if count == 0 {
+        return 1;
+    }
+    let most = items.iter().take(count as usize).map(most_portions_of).max();
+    let most = most.unwrap_or(1).clamp(1, PORTIONS_MAX) as u32;
+    most.min(left / count)
+}
+
+/// Whether all of these portions hold.
+fn all_hold(portions: &[bool]) -> bool
+    ensures { result ≡ list_all (λ x. x) portions.now }
+{
+    portions.iter().all(|holds| *holds)
+}
+
+/// Whether all of each so many portions hold, in order.
+fn joined(alloc: Global, answers: &[bool], portions: usize) -> Result<Vec<bool>, NoMemory>
+    requires { 0 < portions }
+    ensures len { IfOk result (λ audits. vec_len audits ≡ chunk_count (length answers.now) portions) }
+    ensures each { IfOk result (λ audits. (i : ℕ) (holds : Bool) → slice_get audits.items i ≡ Some holds → holds ≡ list_all (λ x. x) (slice_chunk answers.now portions i)) }
+{
+    Ok(answers.chunks(portions).map(all_hold).collect(alloc)?)
+}
+
+/// Whether each entry of the numbers from `from` to before `until` is true, in order, by as many workers as told. The first
+/// of the items has the number `from`.
+///
+/// One ticket of the pool is one portion of an entry, and the gate is told its number. The portions are numbered from `from`
+/// on, one entry after the other, each entry in as many. Where no entry has the proofs of two triples, an entry is one
+/// portion, and its number is the entry's. A long log is split among more threads than the workers.
+pub(crate) fn audits<G: Grid + Send + Sync, R: Threads + Sync + Copy, H: Gate + Sync>(
     rt: &R,
     alloc: Global,
     items: &[Item],
@@ -80,47 +118,30 @@ fn audits_by<G: Grid + Send + Sync, R: Threads + Sync + Copy, H: Gate + Sync>(
     gate: &H,
 ) -> Result<Vec<bool>, NoMemory>
     requires span { from ≤ until }
+    requires limits { AreLimits limits }
+    requires fit { AllByRecursion IsFit items.now }
     requires workers { (1 ≤ workers) × (workers ≤ 64) }
     ensures len { IfOk result (λ audits. from + vec_len audits ≡ until) }
     ensures audits { IfOk result (λ audits. AreAudits G.geometry limits items.now audits.items) }
 {
+    let count = until - from;
+    let portions = portions_of_each(items, count, u32::MAX - from);
+    let end = from + count * portions;
     let job = Job::new(
-        AuditOf {
+        PortionOf {
             rt: *rt,
             alloc,
             items,
             first: from,
+            portions,
             limits,
             grid: PhantomData::<G>,
         },
-        until,
+        end,
     );
-    let workers = workers.min(until - from).max(1);
-    run_span(rt, alloc, &job, from, until, workers, gate)
-}
-
-/// Whether each entry of the numbers from `from` to before `until` is true, in order, by as many workers as told. The first
-/// of the items has the number `from`. One ticket of the pool is one entry, and the gate is told its number. One entry takes
-/// no thread.
-pub(crate) fn audits<G: Grid + Send + Sync, T: Threads + Sync, H: Gate + Sync>(
-    rt: &T,
-    alloc: Global,
-    items: &[Item],
-    from: u32,
-    until: u32,
-    limits: Limits,
-    workers: u32,
-    gate: &H,
-) -> Result<Vec<bool>, NoMemory>
-    requires span { from ≤ until }
-    requires workers { (1 ≤ workers) × (workers ≤ 64) }
-    ensures len { IfOk result (λ audits. from + vec_len audits ≡ until) }
-    ensures audits { IfOk result (λ audits. AreAudits G.geometry limits items.now audits.items) }
-{
-    let handle = SharedHandle { rt };
-    audits_by::<G, SharedHandle<'_, T>, H>(
-        &handle, alloc, items, from, until, limits, workers, gate,
-    )
+    let workers = workers.min(end - from).max(1);
+    let answers = run_span(rt, alloc, &job, from, end, workers, gate)?;
+    joined(alloc, &answers, portions as usize)
 }
 
 /// How many of the audits from the first on say that an entry is true.

@@ -13,7 +13,7 @@ returns-then-good-len-clause-judges g c =
     let audits = c.in_ok-audits.audits in
     let good = c.leading-good.result in
     round_stops header before c.placed-until.result good (before + good) found audits.items c.next_is_invalid.result c.placed-until.ensures.placed
-    (ap (λ n. before + n) (sym audits.ok.0) ∙ c.in_ok-audits.ensures.len) c.placed-until.ensures.some c.requires.fit c.requires.limits
+    (ap (λ n. before + n) (sym audits.ok.0) ∙ c.in_ok-audits.ensures.len) c.placed-until.ensures.some c.requires.fit
     (subst (λ x. AreAudits x header.limits found audits.items) (sym c.requires.grid) c.in_ok-audits.ensures.audits)
     (c.leading-good.ensures.first ∙ ap (position_or_len not) c.deref.ensures.value) (omega (arith, c.if-good-len.true, c.len.ensures, audits.ok.0)) refl c.next_is_invalid.ensures
 
@@ -27,7 +27,7 @@ returns-clause-judges g c =
     IfOk-weaker c.judge_each.result _ (JudgesAll header before c.judge_each.new.self.entries found)
     (λ answer judges.
     round_goes_on header header before c.placed-until.result good (before + good) c.judge_each.new.self.entries found audits.items answer refl c.placed-until.ensures.placed
-    (ap (λ n. before + n) (sym audits.ok.0) ∙ c.in_ok-audits.ensures.len) c.placed-until.ensures.some c.requires.fit c.requires.limits
+    (ap (λ n. before + n) (sym audits.ok.0) ∙ c.in_ok-audits.ensures.len) c.placed-until.ensures.some c.requires.fit
     (subst (λ x. AreAudits x header.limits found audits.items) (sym c.requires.grid) c.in_ok-audits.ensures.audits)
     (c.leading-good.ensures.first ∙ ap (position_or_len not) c.deref.ensures.value) (omega (arith, c.if-good-len.false, c.len.ensures, audits.ok.0)) refl judges)
     c.judge_each.ensures.judges
