@@ -1,4 +1,4 @@
-use Rattle.std.proofs.Common.{◌≡◌, Bool, List, ℕ, true, false, sym, subst, arith, rules}
+use Rattle.std.proofs.Common.{◌≡◌, Bool, List, true, false, sym, subst, arith, rules}
 use Rattle.std.specs.Prelude.{◌↔◌, IsTrue, is_some}
 use Rattle.heesch_grid.specs.declared.Cell.{Cell}
 use Rattle.heesch_audit.specs.Portions.{AreTriplesAsked, HoldsBesideProofs}

@@ -1,6 +1,5 @@
 use Rattle.std.proofs.Common.{◌≡◌, ◌∙◌, ℕ, ap, sym, subst, false, nat_eq, ◌*◌, ◌%◌, ◌/◌, rules, true≢false}
 use Rattle.std.proofs.lemmas.Bool.{le-leb, leb-true}
-use Rattle.heesch_grid.specs.Lattice.{Triple}
 use Rattle.heesch_torus.specs.Domain.{HasDomain}
 use Rattle.heesch_lattice.specs.Reduction.{lattice}
 use Rattle.heesch_audit.proofs.Steps.{area_of, domain_of}

@@ -2,7 +2,7 @@ use Rattle.std.proofs.Common.{◌≡◌, ◌∙◌, Bool, List, true, false, sym
 use Rattle.std.specs.Prelude.{◌↔◌, IsTrue}
 use Rattle.heesch_cert.specs.declared.entry.TripleProof.{TripleProof}
 use Rattle.heesch_cert.specs.TrueEntry.{TriplesHold}
-use Rattle.heesch_audit.specs.Portions.{triples_of, AreProved}
+use Rattle.heesch_audit.specs.Portions.{AreProved}
 use Rattle.heesch_audit.proofs.Equal.{refused}
 use Rattle.heesch_audit.proofs.Portions.{all_proved, asked_of, one_portion}
 use Rattle.heesch_audit.proofs.Proofs.{if_ok_more}
