@@ -1,5 +1,5 @@
 -- The portions of the entries of a round: their numbers, and audits from their answers.
-use Rattle.std.proofs.Common.{◌≡◌, ◌↔◌, ℕ, zero, suc, ◌+◌, ◌-◌, ◌*◌, ◌/◌, ◌%◌, ◌<◌, ◌≤◌, Bool, true, IsTrue, List, [], ◌∷◌, length, get_or, take, drop, Some, refl, sym, ap, subst, ◌∙◌, min, arith}
+use Rattle.std.proofs.Common.{◌≡◌, ◌↔◌, ℕ, zero, suc, ◌+◌, ◌-◌, ◌*◌, ◌/◌, ◌%◌, ◌<◌, ◌≤◌, Bool, true, IsTrue, List, [], ◌∷◌, length, get_or, drop, Some, sym, ap, subst, ◌∙◌, min, arith}
 use Rattle.std.specs.Prelude.{slice_get}
 use Rattle.std.specs.Fork.{slice_chunk}
 use Rattle.std.specs.List.{AllByRecursion, list_all}
@@ -19,7 +19,7 @@ use Rattle.heesch_reader.specs.declared.item.Item.TheVariants as items
 use Rattle.heesch_audit.specs.Near.{IsNearEntry}
 use Rattle.heesch_audit.specs.Portions.{PortionHolds}
 use Rattle.heesch_audit.proofs.Portions.{portions_make_the_entry}
-use Rattle.heesch_check.specs.Judging.{IsFit, IsPortionOf, IsAuditOf, AreAudits}
+use Rattle.heesch_check.specs.Judging.{IsFit, IsPortionOf, AreAudits}
 use Rattle.heesch_check.proofs.Near.{entry_near}
 
 -- ---- items

@@ -18,7 +18,6 @@ use Rattle.heesch_grammar.specs.declared.place.Place.TheVariants as places
 use Rattle.heesch_grammar.specs.declared.spot.Spot.{Spot}
 use Rattle.heesch_grammar.specs.Grammar.{steps, is_whole}
 use Rattle.heesch_grammar.proofs.Running.{steps_between}
-use Rattle.heesch_grammar.proofs.Truth.{may_stand}
 use Rattle.heesch_reader.specs.declared.item.Item.{Item}
 use Rattle.heesch_reader.specs.declared.item.Item.TheVariants as items
 use Rattle.heesch_reader.specs.declared.item.Part.TheVariants as parts

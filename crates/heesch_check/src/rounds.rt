@@ -80,7 +80,11 @@ fn portions_of_each(items: &[Item], count: u32, left: u32) -> u32
     if count == 0 {
         return 1;
     }
-    let most = items.iter().take(count as usize).map(most_portions_of).max();
+    let most = items
+        .iter()
+        .take(count as usize)
+        .map(most_portions_of)
+        .max();
     let most = most.unwrap_or(1).clamp(1, PORTIONS_MAX) as u32;
     most.min(left / count)
 }

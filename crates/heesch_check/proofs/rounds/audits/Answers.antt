@@ -1,5 +1,5 @@
 use Rattle.std.proofs.Common.{◌≡◌, ℕ, ◌+◌, ◌-◌, ◌*◌, Bool, List, length, ◌∙◌, sym, ap, arith}
-use Rattle.std.specs.Prelude.{slice_get, vec_len}
+use Rattle.std.specs.Prelude.{vec_len}
 use Rattle.std.specs.Fork.{slice_chunk}
 use Rattle.std.specs.List.{list_all}
 use Rattle.std.specs.Slice.Iter.{chunk_count}
