@@ -84,19 +84,24 @@ module _ (g : Geometry) (limits : Limits) (entry : Entry) where
   pub portion_proved : (portion portions : ℕ) → PortionHolds g limits entry portion portions → AreProved g entry.cells limits.turns (triples_of entry.evidence) portion portions
   portion_proved portion portions holds at x is here = let one = holds.proofs at x is here in (one.domain, one.settled)
 
-  -- where the shape isn't canonical, a portion holds exactly if it isn't the first and has no triple
-  pub bare_portion : (portion portions : ℕ) → portion < portions → (¬ AreCanonical g entry.cells) → 0 < portion → length (triples_of entry.evidence) ≤ portion → PortionHolds g limits entry portion portions
-  bare_portion portion portions below never later past = record {
+  -- a portion that isn't the first and has no triple holds
+  pub bare_portion : (portion portions : ℕ) → 0 < portion → length (triples_of entry.evidence) ≤ portion → PortionHolds g limits entry portion portions
+  bare_portion portion portions later past = record {
     beside = λ first. absurd (omega (arith, later, first));
     proofs = λ at x is here. absurd (let inside = slice_get_within (triples_of entry.evidence) at x is in omega (arith, inside, past, mod-le at portions, here));
   }
 
-  pub bare_past : (portion portions : ℕ) → portion < portions → (¬ AreCanonical g entry.cells) → PortionHolds g limits entry portion portions → length (triples_of entry.evidence) ≤ portion
+  -- where the shape isn't canonical, no other does
+  bare_past : (portion portions : ℕ) → portion < portions → (¬ AreCanonical g entry.cells) → PortionHolds g limits entry portion portions → length (triples_of entry.evidence) ≤ portion
   bare_past portion portions below never holds =
       elim (slice_get_cases (triples_of entry.evidence) portion).1 [
         | inl (x, inside, is, same) ↦ absurd (never (holds.proofs portion x is (mod-eq_of_lt below)).shape)
         | inr (past, none) ↦ past
       ]
+
+  pub bare_never : (portion portions : ℕ) → portion < portions → (¬ AreCanonical g entry.cells) → ¬ ((0 < portion) × (length (triples_of entry.evidence) ≤ portion)) → ¬ PortionHolds g limits entry portion portions
+  bare_never zero portions below never some holds = never ((holds.beside refl).shape)
+  bare_never (suc portion) portions below never some holds = some (omega arith, bare_past (suc portion) portions below never holds)
 
   -- an entry of which one of the first eight parts fails
   pub fails_beside : (part : ℕ) → part ≤ 8 → IsLeastFailing g limits entry part → ¬ HoldsBesideProofs g limits entry

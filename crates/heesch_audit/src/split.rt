@@ -1,5 +1,5 @@
 //! The audit of an entry in portions.
-ghost use Rattle.std.specs.Prelude.{◌≡◌, ◌<◌, ◌↔◌, max, length, IsTrue, IfOk};
+ghost use Rattle.std.specs.Prelude.{◌≡◌, ◌<◌, ◌≤◌, ◌↔◌, max, length, IsTrue, IfOk};
 ghost use Rattle.heesch_cert.specs.Limits.{AreLimits};
 ghost use Rattle.heesch_audit.specs.Near.{IsNearEntry};
 ghost use Rattle.heesch_audit.specs.Portions.{triples_of, HoldsBesideProofs, PortionHolds};
@@ -49,6 +49,13 @@ fn is_due_beside<G: Grid, R: Threads + Sync>(
     are_asked(alloc, shape, limits, entry.verdict, &entry.evidence)
 }
 
+/// Whether a portion has none of so many triples, nor what the first one has.
+fn is_bare(portion: u32, triples: usize) -> bool
+    ensures { IsTrue result ↔ (0 < portion) × (triples ≤ portion) }
+{
+    portion > 0 && triples <= portion as usize
+}
+
 /// Whether a portion of the entry, of so many, holds: the proofs of each so many-th of its triples, and in the first portion
 /// all else of it as well. The entry is true exactly where each of its portions holds.
 ///
@@ -56,7 +63,7 @@ fn is_due_beside<G: Grid, R: Threads + Sync>(
 /// portion that has a triple, nor in the first.
 ///
 /// Cost: that of the proofs of its triples, and in the first portion of all else that `audit` looks at. The shape is made
-/// in each anew. A triple that isn't one of a domain is tested in the portion of its proof, which is then not read.
+/// anew in each that has a triple. A triple that isn't one of a domain is tested in the portion of its proof, which is then not read.
 pub fn portion_holds<G: Grid, R: Threads + Sync>(
     rt: &R,
     alloc: Global,
@@ -71,8 +78,11 @@ pub fn portion_holds<G: Grid, R: Threads + Sync>(
     ensures { IfOk result (λ yes. IsTrue yes ↔ PortionHolds G.geometry limits entry.now portion portions) }
 {
     let written = triples_of(&entry.evidence);
+    if is_bare(portion, written.len()) {
+        return Ok(true);
+    }
     let Some(shape) = canonical_shape::<G>(entry.cells.as_slice()) else {
-        return Ok(portion > 0 && written.len() <= portion as usize);
+        return Ok(false);
     };
     if !is_due_beside(rt, alloc, &shape, entry, limits, portion)? {
         return Ok(false);

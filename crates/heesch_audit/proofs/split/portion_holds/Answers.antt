@@ -1,27 +1,26 @@
-use Rattle.std.proofs.Common.{◌≡◌, ◌∙◌, Bool, List, false, length, ◌≤◌, sym, subst, rules, true≢false}
+use Rattle.std.proofs.Common.{◌≡◌, ◌∙◌, Bool, List, false, length, ◌<◌, ◌≤◌, sym, subst, rules, true≢false}
 use Rattle.std.specs.Prelude.{◌↔◌, IsTrue}
-use Rattle.std.proofs.lemmas.Bool.{le-leb, leb-true}
 use Rattle.heesch_grid.specs.declared.Cell.{Cell}
 use Rattle.heesch_cert.specs.declared.entry.TripleProof.{TripleProof}
 use Rattle.heesch_audit.specs.Portions.{AreProved, PortionHolds}
 use Rattle.heesch_audit.specs.Shapes.{AreCanonical}
-use Rattle.heesch_audit.proofs.Equal.{refused}
-use Rattle.heesch_audit.proofs.Portions.{bare_past, bare_portion, portion_from, portion_proved}
+use Rattle.heesch_audit.proofs.Equal.{granted, refused}
+use Rattle.heesch_audit.proofs.Portions.{bare_never, bare_portion, portion_from, portion_proved}
 use Rattle.heesch_audit.proofs.Proofs.{if_ok_more}
 use Rattle.heesch_audit.proofs.split.portion_holds.Goals as goal
 
-pub returns-then-portion-gt0 : goal.returns-then-portion-gt0
-returns-then-portion-gt0 g c =
+pub returns-then-is_bare : goal.returns-then-is_bare
+returns-then-is_bare g c =
+    let bare = c.is_bare.ensures.0 c.if-is_bare.true in
+    granted (bare_portion g.G.Grid.geometry c.args.limits c.args.entry.now c.args.portion c.args.portions bare.0 (subst (λ (xs : List TripleProof). length xs ≤ c.args.portion) c.triples_of-written.ensures bare.1))
+
+pub returns-in_default : goal.returns-in_default
+returns-in_default g c =
     let geometry = g.G.Grid.geometry in
-    let limits = c.args.limits in
-    let entry = c.args.entry.now in
     let portion = c.args.portion in
-    let portions = c.args.portions in
     let never = subst (λ (cells : List Cell). ¬ AreCanonical geometry cells) c.as_slice.ensures c.in_default.ensures.none in
-    let past = λ (xs : List TripleProof). length xs ≤ portion in (
-      (λ t. bare_portion geometry limits entry portion portions c.requires.portion never c.if-portion-gt0.true (subst past c.triples_of-written.ensures (leb-true (length c.triples_of-written.result.now) portion t))),
-      (λ holds. le-leb (length c.triples_of-written.result.now) portion (subst past (sym c.triples_of-written.ensures) (bare_past geometry limits entry portion portions c.requires.portion never holds))),
-    )
+    let some = subst (λ (xs : List TripleProof). ¬ ((0 < portion) × (length xs ≤ portion))) c.triples_of-written.ensures (λ both. true≢false (sym (c.is_bare.ensures.1 both) ∙ c.if-is_bare.false)) in
+    refused (bare_never geometry c.args.limits c.args.entry.now portion c.args.portions c.requires.portion never some)
 
 pub returns-then-not-branch : goal.returns-then-not-branch
 returns-then-not-branch g c =
