@@ -63,7 +63,10 @@ pub fn write_given_text<T: Threads + Sync, R: Source, W: Sink, H: Gate + Sync>(
     ensures unwritten { result ≡ Status.ReadFault → sink.new ≡ sink.old }
     ensures write_fault { result ≡ Status.WriteFault → Rose (W.faults sink.old) (W.faults sink.new) }
 {
-    on_grid!(grid, write_given<T, R, W, H>(rt, alloc, text, workers, source, sink, gate))
+    on_grid!(
+        grid,
+        write_given::<_, T, R, W, H>(rt, alloc, text, workers, source, sink, gate)
+    )
 }
 
 fn write_given<G: Grid + Send + Sync, T: Threads + Sync, R: Source, W: Sink, H: Gate + Sync>(

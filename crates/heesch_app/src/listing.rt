@@ -27,7 +27,7 @@ pub fn listing<T: Threads + Sync, H: Gate + Sync>(
     requires workers { (1 ≤ workers) × (workers ≤ 64) }
     ensures { IfOk result (λ text. IsListing (geometry_of grid) n text.items) }
 {
-    on_grid!(grid, listing_of<T, H>(rt, alloc, n, workers, gate))
+    on_grid!(grid, listing_of::<_, T, H>(rt, alloc, n, workers, gate))
 }
 
 fn listing_of<G: Grid + Send + Sync, T: Threads + Sync, H: Gate + Sync>(

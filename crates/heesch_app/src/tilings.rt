@@ -31,7 +31,10 @@ pub fn plain_listing<T: Threads + Sync, H: Gate + Sync>(
     requires workers { (1 ≤ workers) × (workers ≤ 64) }
     ensures { IfOk result (λ text. IsPlainListing (geometry_of grid) n text.items) }
 {
-    on_grid!(grid, plain_listing_of<T, H>(rt, alloc, n, workers, gate))
+    on_grid!(
+        grid,
+        plain_listing_of::<_, T, H>(rt, alloc, n, workers, gate)
+    )
 }
 
 fn plain_listing_of<G: Grid + Send + Sync, T: Threads + Sync, H: Gate + Sync>(

@@ -42,7 +42,6 @@ begins_weaker a b weaker (inr (output, is, prefix)) = inr (output, weaker output
 -- ---- rounds
 
 module _ {X : Type 0} (IsText : X → List ℕ → Type 0) (xs : List X) where
-
   round_texts : (from until : ℕ) (a b : List ℕ) → from ≤ until → AreTexts IsText (take from xs) a → AreTexts IsText (take (until - from) (drop from xs)) b → AreTexts IsText (take until xs) (a ++ b)
   round_texts from until a b le are are_too =
       subst (λ l. AreTexts IsText l (a ++ b)) (rounds_meet xs from until le) (texts_both IsText (take from xs) (take (until - from) (drop from xs)) a b are are_too)

@@ -42,7 +42,10 @@ pub fn write_texts_of_size<R: ShapeText + Sync, T: Threads + Sync, W: Sink, H: G
     ensures failed { result ≡ Err IoStop.Failed → Rose (W.faults sink.old) (W.faults sink.new) }
     ensures later { W.faults sink.old ≤ W.faults sink.new }
 {
-    on_grid!(grid, write_on<R, T, W, H>(rt, alloc, head, texts, n, workers, gate, sink))
+    on_grid!(
+        grid,
+        write_on::<_, R, T, W, H>(rt, alloc, head, texts, n, workers, gate, sink)
+    )
 }
 
 /// The same on one grid.

@@ -135,7 +135,10 @@ fn check_named<T: Threads + Sync, R: Source, H: Gate + Sync>(
     ensures failed { result ≡ Err IoStop.Failed → Rose (R.faults source.old) (R.faults source.new) }
     ensures later { R.faults source.old ≤ R.faults source.new }
 {
-    on_grid!(opening.header.grid, check_under<T, R, H>(rt, alloc, source, opening, workers, gate))
+    on_grid!(
+        opening.header.grid,
+        check_under::<_, T, R, H>(rt, alloc, source, opening, workers, gate)
+    )
 }
 
 /// The same on the header's grid.

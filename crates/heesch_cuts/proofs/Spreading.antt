@@ -98,7 +98,6 @@ reached_grows hole old new grows ds h = All-weaker (IsReached hole old) (IsReach
 -- ---- the spread
 
 module _ (g : Geometry) (law : IsGrid g) (hole : List Cell) where
-
   -- one place's turn
   pub spread_on : (reached : List Bool) (todo rest : List ℕ) (at : ℕ) (new : List Bool) (later : List ℕ) (c : Cell) → IsSpread g hole reached todo → todo ≡ rest ++ at ∷ [] → slice_get hole at ≡ Some c → IsCell g c → WentOn hole reached rest new later → All (IsReached hole new) (g.adjacent c) → IsSpread g hole new later
   spread_on reached todo rest at new later c s e is_c c_in w around = record {

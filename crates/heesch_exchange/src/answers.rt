@@ -44,7 +44,7 @@ pub fn answer(
     ensures ok { IfOk result (λ text. IsAnswer version (geometry_of grid) level size input.now text.items) }
     ensures stop { IfErr result (IsAnswerStop version (geometry_of grid) level size input.now) }
 {
-    on_grid!(grid, answer_of<>(alloc, level, size, version, input))
+    on_grid!(grid, answer_of::<_>(alloc, level, size, version, input))
 }
 
 fn answer_of<G: Grid>(

@@ -35,7 +35,7 @@ pub fn formula(
     ensures ok { IfOk result (λ text. IsFormula version (geometry_of grid) level size input.now text.items) }
     ensures stop { IfErr result (IsFormulaStop version (geometry_of grid) level size input.now) }
 {
-    on_grid!(grid, formula_of<>(alloc, level, size, version, input))
+    on_grid!(grid, formula_of::<_>(alloc, level, size, version, input))
 }
 
 fn formula_of<G: Grid>(

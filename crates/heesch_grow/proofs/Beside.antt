@@ -102,7 +102,6 @@ told mid copy d answer b e h k = ap (λ zs. has zs d) (sym e) ∙ sym h ∙ k
 
 module _ (g : Geometry) (law : IsGrid g) (shape : List Cell) where
   module _ (c : Cell) (c_in : IsCell g c) (inside : has shape c ≡ true) where
-
     same_place : (i : ℕ) (d e : Cell) → slice_get (g.adjacent c) i ≡ Some d → slice_get (g.adjacent c) i ≡ Some e → d ≡ e
     same_place i d e p q = ap (λ o. unwrap_or o d) (sym p ∙ q)
 

@@ -5,20 +5,19 @@
 use heesch_grid::tables::{is_congruent, neighbour};
 use heesch_grid::turns::{composed_turn, hex_turn, inverted_turn};
 use heesch_grid::{Cell, Grid, Sizes};
-
 pub use heesch_grid::{GridName, Hex, Iamond, Square};
 
-/// What a function that is generic over the grid answers on the grid of a name: `on_grid!(name, f<T, H>(x, y))` is
-/// `f::<G, T, H>(x, y)` on that grid. A match and no trait, since a trait's method that is generic over the grid gets no
+/// What a function that is generic over the grid answers on the grid of a name: `on_grid!(name, f::<_, T, H>(x, y))` is
+/// `f::<G, T, H>(x, y)` for that grid G. A match and no trait, since a trait's method that is generic over the grid gets no
 /// proof where it starts threads.
 #[macro_export]
 macro_rules! on_grid {
-    ($name:expr, $call:ident<$($kind:ty),*>($($value:expr),* $(,)?)) => {
+    ($name:expr, $call:ident::<_ $(, $kind:ty)*>($($value:expr),* $(,)?)) => {
         match $name {
-            $crate::GridName::Square => $call::<$crate::Square, $($kind),*>($($value),*),
-            $crate::GridName::Hex => $call::<$crate::Hex, $($kind),*>($($value),*),
-            $crate::GridName::Iamond => $call::<$crate::Iamond, $($kind),*>($($value),*),
-            $crate::GridName::Kite => $call::<$crate::Kite, $($kind),*>($($value),*),
+            $crate::GridName::Square => $call::<$crate::Square $(, $kind)*>($($value),*),
+            $crate::GridName::Hex => $call::<$crate::Hex $(, $kind)*>($($value),*),
+            $crate::GridName::Iamond => $call::<$crate::Iamond $(, $kind)*>($($value),*),
+            $crate::GridName::Kite => $call::<$crate::Kite $(, $kind)*>($($value),*),
         }
     };
 }

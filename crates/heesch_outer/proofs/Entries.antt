@@ -150,9 +150,7 @@ part_by_failing g limits entry part failing before f = (holds, other)
 -- ---- the parts before
 
 module _ (g : Geometry) (limits : Limits) (entry : Entry) (shape : ShapeHolds g entry) (form : FormHolds g limits entry) (cover : CoverHolds g entry.cells entry.evidence) (classes : ClassesHold g entry.cells entry.verdict entry.evidence) where
-
   module _ (free : FreeHolds g entry.cells entry.verdict entry.evidence) where
-
     pub before_seven : WallHolds g limits entry.cells entry.verdict entry.evidence → (k : ℕ) → k < 7 → PartHolds g limits entry k
     before_seven wall zero l = tt
     before_seven wall (suc zero) l = shape
@@ -164,7 +162,6 @@ module _ (g : Geometry) (limits : Limits) (entry : Entry) (shape : ShapeHolds g 
     before_seven wall (suc (suc (suc (suc (suc (suc (suc n))))))) l = absurd (omega (arith, l))
 
 module _ (g : Geometry) (limits : Limits) (cells : List Cell) (free : List (List Iso)) (found : IsFound g limits cells free) where
-
   pub before_open : (proof : Proof) (wider : List (List Iso)) → length wider ≡ length free + 1 → RefutesCoronas limits.version g cells (length free + 1) limits.size proof
       → (k : ℕ) → k < 7 → PartHolds g (with_levels limits (length wider)) (open_entry cells free proof wider) k
   before_open proof wider more wall =

@@ -138,7 +138,6 @@ module _ (g : Geometry) (shape : List Cell) where
 
 -- ---- entries
 module _ {E : Type 0} (variable : E → Variable) (by : E → Iso) (g : Geometry) (shape : List Cell) (level : ℕ) where
-
   pub tiles_more : (tiles : List (List Cell)) (i : ℕ) (d : List Cell) (old mid new : List E) (e : E) → i < length tiles → AddTiles variable by g shape level (take i tiles) old mid → new ≡ mid ++ e ∷ [] → variable e ≡ record { level = level; tile = get_or tiles i d } → IsLeastIsometry g shape (variable e).tile (by e) → AddTiles variable by g shape level (take (i + 1) tiles) old new
   tiles_more tiles i d old mid new e less a is at least = record {
     variables =

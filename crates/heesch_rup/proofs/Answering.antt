@@ -64,7 +64,6 @@ module _ (f added : Clauses) (log : Log) (first : AddsFirst f.vars log.lines add
 
 -- all lines hold, and so does the final line or it doesn't
 module _ (vars : ℕ) (clauses : List (List Lit)) (log : Log) (hold : LinesHold vars clauses log.lines) where
-
   pub final_bad : (hints : List ℕ) (at : ℕ) → log.last ≡ Some hints → (IsShown (clauses_with clauses log.lines) [] hints → ⊥) → at ≡ length log.lines + 1 → IsFirstBad vars clauses log at
   final_bad hints at is fails at_is = record {
     counted = omega (arith, at_is);

@@ -42,7 +42,10 @@ pub fn sample<T: Threads + Sync, H: Gate + Sync>(
     requires workers { (1 ≤ workers) × (workers ≤ 64) }
     ensures { IfOk result (λ text. IsSample (geometry_of grid) n count seed limits text.items) }
 {
-    on_grid!(grid, sample_of<T, H>(rt, alloc, n, count, seed, limits, workers, gate))
+    on_grid!(
+        grid,
+        sample_of::<_, T, H>(rt, alloc, n, count, seed, limits, workers, gate)
+    )
 }
 
 fn sample_of<G: Grid + Send + Sync, T: Threads + Sync, H: Gate + Sync>(

@@ -55,7 +55,10 @@ pub fn write_share<T: Threads + Sync, W: Sink, H: Gate + Sync>(
     ensures failed { result ≡ Err IoStop.Failed → Rose (W.faults sink.old) (W.faults sink.new) }
     ensures later { W.faults sink.old ≤ W.faults sink.new }
 {
-    on_grid!(header.grid, write_one<T, W, H>(rt, alloc, header, n, i, k, workers, gate, sink))
+    on_grid!(
+        header.grid,
+        write_one::<_, T, W, H>(rt, alloc, header, n, i, k, workers, gate, sink)
+    )
 }
 
 fn write_one<G: Grid + Send + Sync, T: Threads + Sync, W: Sink, H: Gate + Sync>(

@@ -41,7 +41,7 @@ pub fn count_entries(
     requires few { tally.old.shapes + length (entries_of items.now) < 2 ^ 32 }
     ensures { IfOk result (CountsEntries (geometry_of grid) tally.old tally.new items.now) }
 {
-    on_grid!(grid, count_entries_of<>(tally, alloc, items))
+    on_grid!(grid, count_entries_of::<_>(tally, alloc, items))
 }
 
 fn count_entries_of<G: Grid>(
