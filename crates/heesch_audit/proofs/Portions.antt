@@ -1,6 +1,6 @@
 -- An entry is true exactly where each portion of it holds.
 use Rattle.std.proofs.Common.{◌≡◌, refl, sym, subst, ℕ, zero, suc, ◌<◌, ◌≤◌, ◌%◌, true, false, List, length, get_or, All, arith, inl, inr, true≢false}
-use Rattle.std.specs.Prelude.{◌↔◌, Option, Some, None, IfSome, IfNone, is_some, slice_get}
+use Rattle.std.specs.Prelude.{◌↔◌, Option, Some, None, IfSome, IfNone, is_none, IsTrue, slice_get}
 use Rattle.std.proofs.Math.Nat.{mod-eq_of_lt, mod-le, mod-lt, mod-one}
 use Rattle.std.proofs.lemmas.List.Elements.{All-nil, All-get_or}
 use Rattle.std.proofs.lemmas.Option.{get_or_from_slice_get, slice_get-get_or, slice_get_cases, slice_get_within}
@@ -63,26 +63,24 @@ module _ (g : Geometry) (limits : Limits) (shape : List Cell) where
   triples_from verdict (Cover tiling classes) asked settled = tt
   triples_from verdict (Search free wall bare wider triples) asked settled = record { all_searched = asked.all_searched; settled = settled; none_else = asked.none_else }
 
-  -- where the last part holds, the triples of each portion are proved
-  pub all_proved : limits.domain ≤ 12 → (verdict : Verdict) (evidence : Evidence) → TriplesHold g limits shape verdict evidence → (portion portions : ℕ) → AreProved g shape limits.turns (triples_of evidence) portion portions
-  all_proved few verdict evidence holds portion portions at x is here =
-      let domains = asked_domains few verdict evidence (asked_of verdict evidence holds) in
-      (at_all Domain (triples_of evidence) domains at x is, at_all Settles (triples_of evidence) (settled_of verdict evidence holds) at x is)
+  -- where the last part holds, the triples of each portion are settled
+  pub all_proved : (verdict : Verdict) (evidence : Evidence) → TriplesHold g limits shape verdict evidence → (portion portions : ℕ) → AreProved g shape limits.turns (triples_of evidence) portion portions
+  all_proved verdict evidence holds portion portions at x is here = at_all Settles (triples_of evidence) (settled_of verdict evidence holds) at x is
 
   -- and where those of the one portion are, it holds
   pub one_portion : (verdict : Verdict) (evidence : Evidence) → AreTriplesAsked g limits shape verdict evidence → AreProved g shape limits.turns (triples_of evidence) 0 1 → TriplesHold g limits shape verdict evidence
-  one_portion verdict evidence asked proved = triples_from verdict evidence asked (all_at Settles (triples_of evidence) (λ at x is. (proved at x is (mod-one at)).1))
+  one_portion verdict evidence asked proved = triples_from verdict evidence asked (all_at Settles (triples_of evidence) (λ at x is. proved at x is (mod-one at)))
 
 module _ (g : Geometry) (limits : Limits) (entry : Entry) where
-  -- in a portion that isn't the first, and in the first beside all else, the triples have to be proved
-  pub portion_from : (portion portions : ℕ) → AreCanonical g entry.cells → (portion ≡ 0 → HoldsBesideProofs g limits entry) → AreProved g entry.cells limits.turns (triples_of entry.evidence) portion portions → PortionHolds g limits entry portion portions
-  portion_from portion portions shape beside proved = record {
-    beside = beside;
-    proofs = λ at x is here. let both = proved at x is here in record { shape = shape; domain = both.0; settled = both.1 };
+  -- a portion holds where the triples are those that are asked for, its own are settled, and it is not the first or the parts hold
+  pub portion_from : (portion portions : ℕ) → AreCanonical g entry.cells → AreTriplesAsked g limits entry.cells entry.verdict entry.evidence → (portion ≡ 0 → PartsHold g limits entry) → AreProved g entry.cells limits.turns (triples_of entry.evidence) portion portions → PortionHolds g limits entry portion portions
+  portion_from portion portions shape asked parts proved = record {
+    beside = λ first. record { shape = shape; parts = parts first; asked = asked };
+    proofs = λ at x is here. record { shape = shape; asked = asked; settled = proved at x is here };
   }
 
   pub portion_proved : (portion portions : ℕ) → PortionHolds g limits entry portion portions → AreProved g entry.cells limits.turns (triples_of entry.evidence) portion portions
-  portion_proved portion portions holds at x is here = let one = holds.proofs at x is here in (one.domain, one.settled)
+  portion_proved portion portions holds at x is here = (holds.proofs at x is here).settled
 
   -- a portion that isn't the first and has no triple holds
   pub bare_portion : (portion portions : ℕ) → 0 < portion → length (triples_of entry.evidence) ≤ portion → PortionHolds g limits entry portion portions
@@ -91,75 +89,49 @@ module _ (g : Geometry) (limits : Limits) (entry : Entry) where
     proofs = λ at x is here. absurd (let inside = slice_get_within (triples_of entry.evidence) at x is in omega (arith, inside, past, mod-le at portions, here));
   }
 
-  -- where the shape isn't canonical, no other does
-  bare_past : (portion portions : ℕ) → portion < portions → (¬ AreCanonical g entry.cells) → PortionHolds g limits entry portion portions → length (triples_of entry.evidence) ≤ portion
-  bare_past portion portions below never holds =
-      elim (slice_get_cases (triples_of entry.evidence) portion).1 [
-        | inl (x, inside, is, same) ↦ absurd (never (holds.proofs portion x is (mod-eq_of_lt below)).shape)
-        | inr (past, none) ↦ past
+  -- in any other that holds, the shape is canonical and the triples are those that are asked for
+  pub unless_bare : (portion portions : ℕ) → portion < portions → ¬ ((0 < portion) × (length (triples_of entry.evidence) ≤ portion)) → PortionHolds g limits entry portion portions → AreCanonical g entry.cells × AreTriplesAsked g limits entry.cells entry.verdict entry.evidence
+  unless_bare zero portions below some holds = let all = holds.beside refl in (all.shape, all.asked)
+  unless_bare (suc portion) portions below some holds =
+      elim (slice_get_cases (triples_of entry.evidence) (suc portion)).1 [
+        | inl (x, inside, is, same) ↦ let one = holds.proofs (suc portion) x is (mod-eq_of_lt below) in (one.shape, one.asked)
+        | inr (past, none) ↦ absurd (some (omega arith, past))
       ]
 
-  pub bare_never : (portion portions : ℕ) → portion < portions → (¬ AreCanonical g entry.cells) → ¬ ((0 < portion) × (length (triples_of entry.evidence) ≤ portion)) → ¬ PortionHolds g limits entry portion portions
-  bare_never zero portions below never some holds = never ((holds.beside refl).shape)
-  bare_never (suc portion) portions below never some holds = some (omega arith, bare_past (suc portion) portions below never holds)
+  -- where one of the first eight parts fails, and the shape is canonical, one of the others does
+  fails_beside : AreCanonical g entry.cells → (part : ℕ) → part ≤ 8 → IsLeastFailing g limits entry part → ¬ PartsHold g limits entry
+  fails_beside shape zero few f h = f.fails tt
+  fails_beside shape (suc zero) few f h = f.fails shape
+  fails_beside shape (suc (suc zero)) few f h = f.fails h.form
+  fails_beside shape (suc (suc (suc zero))) few f h = f.fails h.cover
+  fails_beside shape (suc (suc (suc (suc zero)))) few f h = f.fails h.classes
+  fails_beside shape (suc (suc (suc (suc (suc zero))))) few f h = f.fails h.free
+  fails_beside shape (suc (suc (suc (suc (suc (suc zero)))))) few f h = f.fails h.wall
+  fails_beside shape (suc (suc (suc (suc (suc (suc (suc zero))))))) few f h = f.fails h.wider
+  fails_beside shape (suc (suc (suc (suc (suc (suc (suc (suc zero)))))))) few f h = f.fails h.bare
+  fails_beside shape (suc (suc (suc (suc (suc (suc (suc (suc (suc n))))))))) few f h = absurd (omega (arith, few))
 
-  -- an entry of which one of the first eight parts fails
-  pub fails_beside : (part : ℕ) → part ≤ 8 → IsLeastFailing g limits entry part → ¬ HoldsBesideProofs g limits entry
-  fails_beside zero few f h = f.fails tt
-  fails_beside (suc zero) few f h = f.fails h.shape
-  fails_beside (suc (suc zero)) few f h = f.fails h.form
-  fails_beside (suc (suc (suc zero))) few f h = f.fails h.cover
-  fails_beside (suc (suc (suc (suc zero)))) few f h = f.fails h.classes
-  fails_beside (suc (suc (suc (suc (suc zero))))) few f h = f.fails h.free
-  fails_beside (suc (suc (suc (suc (suc (suc zero)))))) few f h = f.fails h.wall
-  fails_beside (suc (suc (suc (suc (suc (suc (suc zero))))))) few f h = f.fails h.wider
-  fails_beside (suc (suc (suc (suc (suc (suc (suc (suc zero)))))))) few f h = f.fails h.bare
-  fails_beside (suc (suc (suc (suc (suc (suc (suc (suc (suc n))))))))) few f h = absurd (omega (arith, few))
+  -- the answer where no part fails is whether the parts hold
+  pub parts_answer : AreCanonical g entry.cells → (o : Option ℕ) → IfNone o (PartsHold g limits entry) → IfSome o (λ part. (part ≤ 8) × IsLeastFailing g limits entry part) → IsTrue (is_none o) ↔ PartsHold g limits entry
+  parts_answer shape None none some = ((λ t. none), (λ parts. refl))
+  parts_answer shape (Some part) none some = ((λ t. absurd (true≢false (sym t))), (λ parts. absurd (fails_beside shape part some.0 some.1 parts)))
 
-  pub failing : (o : Option ℕ) → is_some o ≡ true → IfSome o (λ part. (part ≤ 8) × IsLeastFailing g limits entry part) → ¬ HoldsBesideProofs g limits entry
-  failing None e h = absurd (true≢false (sym e))
-  failing (Some part) e h = fails_beside part h.0 h.1
+module _ (g : Geometry) (limits : Limits) (entry : Entry) where
+  parts_of : IsTrueEntry g limits entry → PartsHold g limits entry
+  parts_of e = record { form = e.form; cover = e.cover; classes = e.classes; free = e.free; wall = e.wall; wider = e.wider; bare = e.bare }
 
-  pub passing : (o : Option ℕ) → is_some o ≡ false → IfNone o (PartsHold g limits entry) → PartsHold g limits entry
-  passing None e h = h
-  passing (Some part) e h = absurd (true≢false e)
-
-  pub beside_of : AreCanonical g entry.cells → PartsHold g limits entry → AreTriplesAsked g limits entry.cells entry.verdict entry.evidence → HoldsBesideProofs g limits entry
-  beside_of shape parts asked = record {
-    shape = shape;
-    form = parts.form;
-    cover = parts.cover;
-    classes = parts.classes;
-    free = parts.free;
-    wall = parts.wall;
-    wider = parts.wider;
-    bare = parts.bare;
-    asked = asked;
-  }
-
-module _ (g : Geometry) (limits : Limits) (entry : Entry) (are : AreLimits limits) where
   portion_of : IsTrueEntry g limits entry → (portion portions : ℕ) → PortionHolds g limits entry portion portions
-  portion_of true_entry portion portions =
-      let asked = asked_of g limits entry.cells entry.verdict entry.evidence true_entry.triples in
-      let beside : HoldsBesideProofs g limits entry = record {
-        shape = true_entry.shape;
-        form = true_entry.form;
-        cover = true_entry.cover;
-        classes = true_entry.classes;
-        free = true_entry.free;
-        wall = true_entry.wall;
-        wider = true_entry.wider;
-        bare = true_entry.bare;
-        asked = asked;
-      } in
-      portion_from g limits entry portion portions true_entry.shape (λ first. beside) (all_proved g limits entry.cells are.domain_range.1 entry.verdict entry.evidence true_entry.triples portion portions)
+  portion_of e portion portions =
+      let asked = asked_of g limits entry.cells entry.verdict entry.evidence e.triples in
+      portion_from g limits entry portion portions e.shape asked (λ first. parts_of e) (all_proved g limits entry.cells entry.verdict entry.evidence e.triples portion portions)
 
   entry_of : (portions : ℕ) → 1 ≤ portions → ((portion : ℕ) → portion < portions → PortionHolds g limits entry portion portions) → IsTrueEntry g limits entry
   entry_of portions some each =
       let all = (each 0 some).beside refl in
+      let parts = all.parts in
       let settled = all_at (Settles g limits entry.cells) (triples_of entry.evidence) (λ at x is. ((each (at % portions) (mod-lt at some)).proofs at x is refl).settled) in
-      all_hold g limits entry all.shape all.form all.cover all.classes all.free all.wall all.wider all.bare (triples_from g limits entry.cells entry.verdict entry.evidence all.asked settled)
+      all_hold g limits entry all.shape parts.form parts.cover parts.classes parts.free parts.wall parts.wider parts.bare (triples_from g limits entry.cells entry.verdict entry.evidence all.asked settled)
 
 -- an entry is true exactly where each of its portions holds
-pub portions_make_the_entry : (g : Geometry) (limits : Limits) (entry : Entry) (portions : ℕ) → AreLimits limits → 1 ≤ portions → IsTrueEntry g limits entry ↔ ((portion : ℕ) → portion < portions → PortionHolds g limits entry portion portions)
-portions_make_the_entry g limits entry portions are some = ((λ t portion below. portion_of g limits entry are t portion portions), (λ each. entry_of g limits entry are portions some each))
+pub portions_make_the_entry : (g : Geometry) (limits : Limits) (entry : Entry) (portions : ℕ) → 1 ≤ portions → IsTrueEntry g limits entry ↔ ((portion : ℕ) → portion < portions → PortionHolds g limits entry portion portions)
+portions_make_the_entry g limits entry portions some = ((λ t portion below. portion_of g limits entry t portion portions), (λ each. entry_of g limits entry portions some each))

@@ -3,7 +3,6 @@ use Rattle.std.specs.Prelude.{◌≡◌, ◌%◌, ℕ, Some, List, [], map, leng
 use Rattle.heesch_grid.specs.declared.Cell.{Cell}
 use Rattle.heesch_grid.specs.Geometry.{Geometry}
 use Rattle.heesch_grid.specs.Listing.{ListsExactly}
-use Rattle.heesch_torus.specs.Domain.{HasDomain}
 use Rattle.heesch_cert.specs.declared.limits.Limits.{Limits}
 use Rattle.heesch_cert.specs.declared.verdict.Verdict.{Verdict}
 use Rattle.heesch_cert.specs.declared.entry.TripleProof.{TripleProof}
@@ -42,23 +41,17 @@ pub record PartsHold (g : Geometry) (limits : Limits) (entry : Entry) : Type 0 w
 -- all of a true entry but that the proofs of its triples settle them
 pub record HoldsBesideProofs (g : Geometry) (limits : Limits) (entry : Entry) : Type 0 where
   pub shape : ShapeHolds g entry
-  pub form : FormHolds g limits entry
-  pub cover : CoverHolds g entry.cells entry.evidence
-  pub classes : ClassesHold g entry.cells entry.verdict entry.evidence
-  pub free : FreeHolds g entry.cells entry.verdict entry.evidence
-  pub wall : WallHolds g limits entry.cells entry.verdict entry.evidence
-  pub wider : OpenHolds g entry.cells entry.evidence
-  pub bare : BareHolds g limits entry.cells entry.verdict entry.evidence
+  pub parts : PartsHold g limits entry
   pub asked : AreTriplesAsked g limits entry.cells entry.verdict entry.evidence
 
--- each so many-th of the triples, from the portion's first on, is of a domain of 1 to 12 tiles of the shape, and its proof settles it
+-- each so many-th of the triples, from the portion's first on, is settled by its proof
 abbrev pub AreProved : Geometry → List Cell → ℕ → List TripleProof → ℕ → ℕ → Type 0
-AreProved g shape turns triples portion portions = (at : ℕ) (x : TripleProof) → slice_get triples at ≡ Some x → at % portions ≡ portion → HasDomain g (length shape) x.triple × SettlesTriple g shape turns x.triple x.proof
+AreProved g shape turns triples portion portions = (at : ℕ) (x : TripleProof) → slice_get triples at ≡ Some x → at % portions ≡ portion → SettlesTriple g shape turns x.triple x.proof
 
--- the shape is canonical, the triple is of a domain of 1 to 12 of its tiles, and its proof settles it
+-- the shape is canonical, the triples of the evidence are those that are asked for, and the proof of this one settles it
 pub record IsProvedTriple (g : Geometry) (limits : Limits) (entry : Entry) (x : TripleProof) : Type 0 where
   pub shape : AreCanonical g entry.cells
-  pub domain : HasDomain g (length entry.cells) x.triple
+  pub asked : AreTriplesAsked g limits entry.cells entry.verdict entry.evidence
   pub settled : SettlesTriple g entry.cells limits.turns x.triple x.proof
 
 -- one of so many portions of a true entry: the proofs of each so many-th of its triples, and in the first one all else as well

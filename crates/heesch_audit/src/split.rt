@@ -2,7 +2,7 @@
 ghost use Rattle.std.specs.Prelude.{◌≡◌, ◌<◌, ◌≤◌, ◌↔◌, max, length, IsTrue, IfOk};
 ghost use Rattle.heesch_cert.specs.Limits.{AreLimits};
 ghost use Rattle.heesch_audit.specs.Near.{IsNearEntry};
-ghost use Rattle.heesch_audit.specs.Portions.{triples_of, HoldsBesideProofs, PortionHolds};
+ghost use Rattle.heesch_audit.specs.Portions.{triples_of, PartsHold, PortionHolds};
 ghost use Rattle.heesch_audit.specs.Shapes.{AreCanonical, IsCanonicalShape};
 
 use crate::auditing::failing_part;
@@ -23,9 +23,9 @@ pub fn most_portions(entry: &Entry) -> usize
     triples_of(&entry.evidence).len().max(1)
 }
 
-/// Whether all of the entry holds but that the proofs of its triples settle them, where this is the first portion and the
-/// shape that of the entry; no other portion asks for it.
-fn is_due_beside<G: Grid, R: Threads + Sync>(
+/// Whether the parts 2 to 8 of the entry hold, where this is the first portion and the shape that of the entry; no other
+/// portion asks for them.
+fn are_parts_due<G: Grid, R: Threads + Sync>(
     rt: &R,
     alloc: Global,
     shape: &Shape<G>,
@@ -38,15 +38,13 @@ fn is_due_beside<G: Grid, R: Threads + Sync>(
     requires canonical { AreCanonical G.geometry entry.now.cells }
     requires limits { AreLimits limits }
     requires near { IsNearEntry entry.now }
-    ensures { IfOk result (λ yes. IsTrue yes ↔ (portion ≡ 0 → HoldsBesideProofs G.geometry limits entry.now)) }
+    ensures { IfOk result (λ yes. IsTrue yes ↔ (portion ≡ 0 → PartsHold G.geometry limits entry.now)) }
 {
     if portion > 0 {
         return Ok(true);
     }
-    if failing_part(rt, alloc, shape, entry, limits)?.is_some() {
-        return Ok(false);
-    }
-    are_asked(alloc, shape, limits, entry.verdict, &entry.evidence)
+    let failing = failing_part(rt, alloc, shape, entry, limits)?;
+    Ok(failing.is_none())
 }
 
 /// Whether a portion has none of so many triples, nor what the first one has.
@@ -62,8 +60,8 @@ fn is_bare(portion: u32, triples: usize) -> bool
 /// Condition: that of `audit`, and the portion's number is below theirs. An entry whose shape isn't canonical holds in no
 /// portion that has a triple, nor in the first.
 ///
-/// Cost: that of the proofs of its triples, and in the first portion of all else that `audit` looks at. The shape is made
-/// anew in each that has a triple. A triple that isn't one of a domain is tested in the portion of its proof, which is then not read.
+/// Cost: that of the proofs of its triples, and in the first portion of all else that `audit` looks at. In each that has a
+/// triple the shape and the list of the triples that are asked for are made anew; where others are written, no proof is read.
 pub fn portion_holds<G: Grid, R: Threads + Sync>(
     rt: &R,
     alloc: Global,
@@ -84,7 +82,10 @@ pub fn portion_holds<G: Grid, R: Threads + Sync>(
     let Some(shape) = canonical_shape::<G>(entry.cells.as_slice()) else {
         return Ok(false);
     };
-    if !is_due_beside(rt, alloc, &shape, entry, limits, portion)? {
+    if !are_asked(alloc, &shape, limits, entry.verdict, &entry.evidence)? {
+        return Ok(false);
+    }
+    if !are_parts_due(rt, alloc, &shape, entry, limits, portion)? {
         return Ok(false);
     }
     are_proved(rt, alloc, &shape, limits.turns, written, portion, portions)

@@ -1,6 +1,5 @@
 //! Part 9, the triples of larger domains.
-ghost use Rattle.std.specs.Prelude.{◌≡◌, ◌<◌, ◌≤◌, ◌↔◌, map, length, IsTrue, IfOk};
-ghost use Rattle.heesch_grid.specs.Lattice.{Triple as Lattice};
+ghost use Rattle.std.specs.Prelude.{◌≡◌, ◌<◌, ◌↔◌, map, length, All, IsTrue, IfOk};
 ghost use Rattle.heesch_torus.specs.Domain.{HasDomain};
 ghost use Rattle.heesch_cert.specs.declared.entry.TripleProof.{TripleProof as Written};
 ghost use Rattle.heesch_cert.specs.Limits.{AreLimits};
@@ -11,7 +10,7 @@ ghost use Rattle.heesch_audit.specs.Shapes.{IsCanonicalShape};
 
 use crate::logs::{is_ended, learnt_log};
 use heesch_cert::{Evidence, Limits, TripleProof, Verdict};
-use heesch_grid::{Grid, Sizes};
+use heesch_grid::Grid;
 use heesch_io::NoMemory;
 use heesch_lattice::Triple;
 use heesch_shape::Shape;
@@ -66,35 +65,7 @@ fn is_settled<G: Grid, R: Threads + Sync>(
     is_ended(rt, alloc, &formula, &log, turns)
 }
 
-/// Whether the triple is one of a domain of 1 to 12 tiles of so many cells.
-fn has_domain<G: Grid>(count: u32, triple: Triple) -> bool
-    requires count { (1 ≤ count) × (count ≤ 32) }
-    ensures { IsTrue result ↔ HasDomain G.geometry count triple }
-{
-    let Triple { p, q, .. } = triple;
-    let area = G::PER * (p * q);
-    area % count == 0 && area / count <= 12
-}
-
-/// Whether the triple has a domain, and its proof settles it.
-fn is_proved<G: Grid, R: Threads + Sync>(
-    rt: &R,
-    alloc: Global,
-    shape: &Shape<G>,
-    turns: u32,
-    written: &TripleProof,
-) -> Result<bool, NoMemory>
-    requires shape { IsCanonicalShape G.geometry shape.now }
-    ensures { IfOk result (λ yes. IsTrue yes ↔ (HasDomain G.geometry (length shape.now) written.now.triple × SettlesTriple G.geometry shape.now turns written.now.triple written.now.proof)) }
-{
-    let count = shape.cells().len() as u32;
-    if !has_domain::<G>(count, written.triple) {
-        return Ok(false);
-    }
-    is_settled(rt, alloc, shape, turns, written)
-}
-
-/// Whether each so many-th of the triples from the portion's first on has a domain, and its proof settles it.
+/// Whether the proof of each so many-th of the triples, from the portion's first on, settles it.
 pub(crate) fn are_proved<G: Grid, R: Threads + Sync>(
     rt: &R,
     alloc: Global,
@@ -105,12 +76,13 @@ pub(crate) fn are_proved<G: Grid, R: Threads + Sync>(
     portions: u32,
 ) -> Result<bool, NoMemory>
     requires shape { IsCanonicalShape G.geometry shape.now }
+    requires domains { All (λ (x : Written). HasDomain G.geometry (length shape.now) x.triple) written.now }
     requires portion { portion < portions }
     ensures { IfOk result (λ yes. IsTrue yes ↔ AreProved G.geometry shape.now turns written.now portion portions) }
 {
     let mut at = portion as usize;
     while at < written.len() {
-        if !is_proved(rt, alloc, shape, turns, &written[at])? {
+        if !is_settled(rt, alloc, shape, turns, &written[at])? {
             return Ok(false);
         }
         at += portions as usize;

@@ -11,7 +11,6 @@ use Rattle.std.proofs.lemmas.Nat.{div-mul-add, mod-mul-add}
 use Rattle.std.proofs.lemmas.Option.{slice_get-get_or, slice_get_within}
 use Rattle.heesch_cert.specs.declared.entry.Entry.{Entry}
 use Rattle.heesch_cert.specs.declared.limits.Limits.{Limits}
-use Rattle.heesch_cert.specs.Limits.{AreLimits}
 use Rattle.heesch_cert.specs.TrueEntry.{IsTrueEntry}
 use Rattle.heesch_grid.specs.Geometry.{Geometry}
 use Rattle.heesch_reader.specs.declared.item.Item.{Item}
@@ -70,16 +69,16 @@ chunk_tells Holds answers i n within tells =
     )
 
 -- where each chunk of answers is joined, these are audits
-pub audits_from : (g : Geometry) (limits own : Limits) (found these : List Item) (first from count portions each : ℕ) (answers audits : List Bool) → AreLimits limits → own ≡ limits → these ≡ found → first ≡ from → each ≡ portions → 0 < portions
+pub audits_from : (g : Geometry) (limits own : Limits) (found these : List Item) (first from count portions each : ℕ) (answers audits : List Bool) → own ≡ limits → these ≡ found → first ≡ from → each ≡ portions → 0 < portions
     → length answers ≡ count * portions → ((k : ℕ) (holds : Bool) → slice_get answers k ≡ Some holds → IsPortionOf g own these each ((from + k) - first) holds) → length audits ≡ count
     → ((i : ℕ) (holds : Bool) → slice_get audits i ≡ Some holds → holds ≡ list_all (λ x. x) (slice_chunk answers portions i)) → AreAudits g limits found audits
-audits_from g limits own found these first from count portions each answers audits lawful same all at so_many some long told many joined i holds is line e here =
+audits_from g limits own found these first from count portions each answers audits same all at so_many some long told many joined i holds is line e here =
     let below : i < count = omega (arith, slice_get_within audits i holds is, many) in
     let up : suc i * portions ≤ count * portions = mul-le-mul_right portions (omega (arith, below)) in
     let within : i * portions + portions ≤ length answers = omega (arith, up, long) in
     let tells : (p : ℕ) (b : Bool) → p < portions → slice_get answers (i * portions + p) ≡ Some b → IsTrue b ↔ PortionHolds g limits e p portions = λ p b lt got. one p b lt (told (i * portions + p) b got) in
     let whole = chunk_tells (λ p. PortionHolds g limits e p portions) answers i portions within tells in
-    let law = portions_make_the_entry g limits e portions lawful some in
+    let law = portions_make_the_entry g limits e portions some in
     subst (λ (b : Bool). IsTrue b ↔ IsTrueEntry g limits e) (sym (joined i holds is)) (λ yes. law.1 (whole.0 yes), λ true. whole.1 (law.0 true))
   where
     one : (p : ℕ) (b : Bool) → p < portions → IsPortionOf g own these each ((from + (i * portions + p)) - first) b → IsTrue b ↔ PortionHolds g limits e p portions

@@ -26,6 +26,6 @@ returns g c =
     if_ok_more (λ (b : Bool). IsTrue b ↔ proved c.triples_of.result.now) (λ (b : Bool). IsTrue b ↔ TriplesHold geometry limits shape verdict evidence)
     (λ b h. (
       (λ t. one_portion geometry limits shape verdict evidence asked (subst proved c.triples_of.ensures (h.0 t))),
-      (λ s. h.1 (subst proved (sym c.triples_of.ensures) (all_proved geometry limits shape c.requires.limits.domain_range.1 verdict evidence s 0 1))),
+      (λ s. h.1 (subst proved (sym c.triples_of.ensures) (all_proved geometry limits shape verdict evidence s 0 1))),
     ))
     c.are_proved.result c.are_proved.ensures

@@ -28,7 +28,7 @@ returns-clause-audits g c =
     let is = c.new-job.ensures.0 in
     if_both c.joined.result
     (λ audits len each.
-    audits_from g.G.Grid.geometry c.args.limits work.limits c.args.items.now work.items.now work.first c.args.from count portions work.portions answers.items audits.items c.requires.limits (ap (λ w. w.limits) is) (ap (λ w. w.items.now) is) (ap (λ w. w.first) is) (ap (λ w. w.portions) is) some
+    audits_from g.G.Grid.geometry c.args.limits work.limits c.args.items.now work.items.now work.first c.args.from count portions work.portions answers.items audits.items (ap (λ w. w.limits) is) (ap (λ w. w.items.now) is) (ap (λ w. w.first) is) (ap (λ w. w.portions) is) some
     many c.in_ok-answers.ensures.answers (sym audits.ok.0 ∙ len ∙ ap (λ (n : ℕ). chunk_count n portions) (ap length c.deref.ensures.value ∙ many) ∙ chunks count portions some)
     (λ i holds at. each i holds at ∙ ap (λ (xs : List Bool). list_all (λ x. x) (slice_chunk xs portions i)) c.deref.ensures.value))
     c.joined.ensures.len c.joined.ensures.each
