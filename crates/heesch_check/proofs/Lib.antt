@@ -1,3 +1,4 @@
+pub mod Advances
 pub mod Answering
 pub mod Audits
 pub mod Batches

@@ -1,11 +1,11 @@
-use Rattle.std.proofs.Common.{◌≡◌, ◌∙◌, Bool, List, false, length, ◌<◌, ◌≤◌, sym, subst, rules, true≢false}
+use Rattle.std.proofs.Common.{◌≡◌, ◌∙◌, All, Bool, List, false, length, ◌<◌, ◌≤◌, sym, subst, rules, true≢false}
 use Rattle.std.specs.Prelude.{◌↔◌, IsTrue}
 use Rattle.heesch_grid.specs.declared.Cell.{Cell}
 use Rattle.heesch_cert.specs.declared.entry.TripleProof.{TripleProof}
 use Rattle.heesch_audit.specs.Portions.{AreProved, AreTriplesAsked, PortionHolds}
 use Rattle.heesch_audit.specs.Shapes.{AreCanonical}
 use Rattle.heesch_audit.proofs.Equal.{granted, refused}
-use Rattle.heesch_audit.proofs.Portions.{bare_portion, portion_from, portion_proved, unless_bare}
+use Rattle.heesch_audit.proofs.Portions.{Domain, asked_domains, bare_portion, portion_from, portion_proved, unless_bare}
 use Rattle.heesch_audit.proofs.Proofs.{if_ok_more}
 use Rattle.heesch_audit.proofs.split.portion_holds.Goals as goal
 
@@ -37,6 +37,13 @@ pub returns-then-not-branch-2 : goal.returns-then-not-branch-2
 returns-then-not-branch-2 g c =
     let fails : c.in_ok-are_parts_due.field-0 ≡ false = search rules in
     refused (λ holds. true≢false (sym (c.in_ok-are_parts_due.ensures.1 (λ first. (holds.beside first).parts)) ∙ fails))
+
+pub are_proved-requires-clause-domains : goal.are_proved-requires-clause-domains
+are_proved-requires-clause-domains g c =
+    let geometry = g.G.Grid.geometry in
+    let limits = c.args.limits in
+    let entry = c.args.entry.now in
+    subst (All (Domain geometry limits c.in-Some.shape)) (sym c.triples_of-written.ensures) (asked_domains geometry limits c.in-Some.shape c.requires.limits.domain_range.1 entry.verdict entry.evidence (c.in_ok-are_asked.ensures.0 c.if-not-branch.false))
 
 pub returns : goal.returns
 returns g c =

@@ -1,10 +1,10 @@
-use Rattle.std.proofs.Common.{◌≡◌, ◌∙◌, Bool, List, true, false, sym, subst, rules, true≢false}
+use Rattle.std.proofs.Common.{◌≡◌, ◌∙◌, All, Bool, List, true, false, sym, subst, rules, true≢false}
 use Rattle.std.specs.Prelude.{◌↔◌, IsTrue}
 use Rattle.heesch_cert.specs.declared.entry.TripleProof.{TripleProof}
 use Rattle.heesch_cert.specs.TrueEntry.{TriplesHold}
 use Rattle.heesch_audit.specs.Portions.{AreProved}
 use Rattle.heesch_audit.proofs.Equal.{refused}
-use Rattle.heesch_audit.proofs.Portions.{all_proved, asked_of, one_portion}
+use Rattle.heesch_audit.proofs.Portions.{Domain, all_proved, asked_domains, asked_of, one_portion}
 use Rattle.heesch_audit.proofs.Proofs.{if_ok_more}
 use Rattle.heesch_audit.proofs.triples.triples_hold.Goals as goal
 
@@ -12,6 +12,14 @@ pub returns-then-not-branch : goal.returns-then-not-branch
 returns-then-not-branch g c =
     let fails : c.in_ok-are_asked.field-0 ≡ false = search rules in
     refused (λ h. true≢false (sym (c.in_ok-are_asked.ensures.1 (asked_of g.G.Grid.geometry c.args.limits c.args.shape.now c.args.verdict c.args.evidence.now h)) ∙ fails))
+
+pub are_proved-requires-clause-domains : goal.are_proved-requires-clause-domains
+are_proved-requires-clause-domains g c =
+    let geometry = g.G.Grid.geometry in
+    let shape = c.args.shape.now in
+    let limits = c.args.limits in
+    let yes : c.in_ok-are_asked.field-0 ≡ true = search rules in
+    subst (All (Domain geometry limits shape)) (sym c.triples_of.ensures) (asked_domains geometry limits shape c.requires.limits.domain_range.1 c.args.verdict c.args.evidence.now (c.in_ok-are_asked.ensures.0 yes))
 
 pub returns : goal.returns
 returns g c =
