@@ -1,6 +1,6 @@
 -- An entry is true exactly where each portion of it holds.
 use Rattle.std.proofs.Common.{◌≡◌, refl, sym, subst, ℕ, zero, suc, ◌<◌, ◌≤◌, ◌%◌, true, false, List, length, get_or, All, arith, inl, inr, true≢false}
-use Rattle.std.specs.Prelude.{◌↔◌, Option, Some, None, IfSome, IfNone, is_none, IsTrue, slice_get}
+use Rattle.std.specs.Prelude.{◌↔◌, Option, Some, None, IfSome, IfNone, Bool, is_some, not, IsTrue, slice_get}
 use Rattle.std.proofs.Math.Nat.{mod-eq_of_lt, mod-le, mod-lt, mod-one}
 use Rattle.std.proofs.lemmas.List.Elements.{All-nil, All-get_or}
 use Rattle.std.proofs.lemmas.Option.{get_or_from_slice_get, slice_get-get_or, slice_get_cases, slice_get_within}
@@ -111,10 +111,12 @@ module _ (g : Geometry) (limits : Limits) (entry : Entry) where
   fails_beside shape (suc (suc (suc (suc (suc (suc (suc (suc zero)))))))) few f h = f.fails h.bare
   fails_beside shape (suc (suc (suc (suc (suc (suc (suc (suc (suc n))))))))) few f h = absurd (omega (arith, few))
 
-  -- the answer where no part fails is whether the parts hold
-  pub parts_answer : AreCanonical g entry.cells → (o : Option ℕ) → IfNone o (PartsHold g limits entry) → IfSome o (λ part. (part ≤ 8) × IsLeastFailing g limits entry part) → IsTrue (is_none o) ↔ PartsHold g limits entry
-  parts_answer shape None none some = ((λ t. none), (λ parts. refl))
-  parts_answer shape (Some part) none some = ((λ t. absurd (true≢false (sym t))), (λ parts. absurd (fails_beside shape part some.0 some.1 parts)))
+  -- whether no part fails is whether the parts hold
+  pub parts_answer : AreCanonical g entry.cells → (failing : Option ℕ) (none : Bool) → is_some failing ≡ not none → IfNone failing (PartsHold g limits entry) → IfSome failing (λ part. (part ≤ 8) × IsLeastFailing g limits entry part) → IsTrue none ↔ PartsHold g limits entry
+  parts_answer shape None true is hold fail = ((λ t. hold), (λ parts. refl))
+  parts_answer shape None false is hold fail = absurd (true≢false (sym is))
+  parts_answer shape (Some part) true is hold fail = absurd (true≢false is)
+  parts_answer shape (Some part) false is hold fail = ((λ t. absurd (true≢false (sym t))), (λ parts. absurd (fails_beside shape part fail.0 fail.1 parts)))
 
 module _ (g : Geometry) (limits : Limits) (entry : Entry) where
   parts_of : IsTrueEntry g limits entry → PartsHold g limits entry

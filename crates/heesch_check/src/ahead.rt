@@ -62,10 +62,7 @@ fn judge_and_gather<G: Grid + Send + Sync, T: Threads + Sync, R: Source, H: Gate
     next: &mut Seq<Item>,
     workers: u32,
     gate: &H,
-) -> (
-    Result<Option<Checked>, NoMemory>,
-    Result<Reading, IoStop>,
-)
+) -> (Result<Option<Checked>, NoMemory>, Result<Reading, IoStop>)
     requires grid { geometry_of judge.old.header.grid ≡ G.geometry }
     requires shapes { HasShapes judge.old.header judge.old.header.subject judge.old.shapes }
     requires limits { AreLimits judge.old.header.limits }

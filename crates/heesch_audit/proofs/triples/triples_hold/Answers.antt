@@ -14,7 +14,7 @@ returns-then-not-branch g c =
     refused (λ h. true≢false (sym (c.in_ok-are_asked.ensures.1 (asked_of g.G.Grid.geometry c.args.limits c.args.shape.now c.args.verdict c.args.evidence.now h)) ∙ fails))
 
 pub are_proved-requires-clause-domains : goal.are_proved-requires-clause-domains
-are_proved-requires-clause-domains g c =
+are_proved-requires-clause-domains g c κs within =
     let geometry = g.G.Grid.geometry in
     let shape = c.args.shape.now in
     let limits = c.args.limits in
