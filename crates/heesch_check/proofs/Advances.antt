@@ -7,7 +7,7 @@ use Rattle.heesch_check.specs.declared.ahead.Advance.{Advance}
 use Rattle.heesch_check.specs.declared.ahead.Advance.TheVariants as advances
 use Rattle.heesch_check.specs.declared.reading.Reading.{Reading}
 use Rattle.heesch_check.specs.declared.reading.Reading.TheVariants as readings
-use Rattle.heesch_check.specs.Reading.{AdvancesTo, GrowsOn, IsReading}
+use Rattle.heesch_check.specs.Reading.{AdvancesTo, GrowsOn, IsPending}
 
 -- no round is left behind an answer, one behind the end of what is read, and else as many at most as bytes may be read
 abbrev pub to_judge : Advance → ℕ → ℕ
@@ -37,3 +37,10 @@ fewer header first now next old new entries from (advances.Further readings.More
 fewer header first now next old new entries from (advances.Further readings.End) grows to = let before = from_more from old.count grows.0 in omega (arith, before)
 fewer header first now next old new entries from (advances.Further (readings.Fault part)) grows to = let before = from_more from old.count grows.0 in omega (arith, before)
 fewer header first now next old new entries from (advances.Further (readings.TooLong line ending)) grows to = let before = from_more from old.count grows.0 in omega (arith, before)
+
+-- where more may follow behind a round, the next one is pending
+pub pending_of : (header own : Header) (first now : Option (List ℕ)) (round slice : List Item) (s : Streamed) (entries : ℕ) (told : Advance) (reading : Reading) → own ≡ header → slice ≡ round → told ≡ advances.Further reading → AdvancesTo header first now round s entries told
+    → IsPending own first now slice s entries reading
+pending_of header own first now round slice s entries told reading same at is to =
+    let p : IsPending header first now round s entries reading = subst (AdvancesTo header first now round s entries) is to in
+    subst (λ (x : Header). IsPending x first now slice s entries reading) (sym same) (subst (λ (x : List Item). IsPending header first now x s entries reading) (sym at) p)

@@ -1,5 +1,5 @@
 -- A batch of items behind those that were judged, and how far reading came with it.
-use Rattle.std.proofs.Common.{◌≡◌, ◌⊎◌, inl, inr, ℕ, ◌-◌, ◌<◌, arith, false, List, [], ◌∷◌, ◌++◌, length, take, drop, Option, Some, None, refl, sym, ap, subst, ◌∙◌, append_assoc}
+use Rattle.std.proofs.Common.{◌≡◌, ◌⊎◌, inl, inr, ℕ, ◌+◌, ◌-◌, ◌<◌, ◌≤◌, arith, false, List, [], ◌∷◌, ◌++◌, length, take, drop, Option, Some, None, refl, sym, ap, subst, ◌∙◌, append_assoc}
 use Rattle.std.specs.List.{AllByRecursion}
 use Rattle.std.proofs.lemmas.List.{append-nil, length-append, take_all}
 use Rattle.heesch_cert.specs.declared.header.Header.{Header}
@@ -240,4 +240,5 @@ behind_no_further first before now header round none s n m enough reading result
     let judged = pending_judged first before header round n m s reading result bound full p judges is in
     let here : StopsGathering first before now ((p.found ++ round) ++ []) [] enough =
     subst (λ (x : List Item). StopsGathering first before now x [] enough) (sym (append-nil (p.found ++ round))) (subst (λ (x : List Item). StopsGathering first before now (p.found ++ round) x enough) empty told) in
-    judged_no_further first before now header (p.found ++ round) [] m enough full judged small here
+    let few : length {A = Item} [] + enough ≤ 256 = omega (arith, small) in
+    judged_no_further first before now header (p.found ++ round) [] m enough full judged few here

@@ -1,5 +1,5 @@
 //! A round judged, and the next one read.
-ghost use Rattle.std.specs.Prelude.{◌≡◌, ◌+◌, ◌<◌, ◌≤◌, ℕ, List, [], Option, Err, IfOk, IsTrue, false, length};
+ghost use Rattle.std.specs.Prelude.{◌≡◌, ◌+◌, ◌++◌, ◌≤◌, ℕ, List, [], Option, Err, IfOk, IsTrue, false, length};
 ghost use Rattle.std.specs.List.{AllByRecursion};
 ghost use Rattle.heesch_cert.specs.Limits.{AreLimits};
 ghost use Rattle.heesch_grid.specs.Names.{geometry_of};
@@ -80,6 +80,8 @@ fn judge_and_gather<G: Grid + Send + Sync, T: Threads + Sync, R: Source, H: Gate
         rt,
         &mut || -> Result<Option<Checked>, NoMemory>
             requires { (geometry_of judge.now.header.grid ≡ G.geometry) × HasShapes judge.now.header judge.now.header.subject judge.now.shapes × AreLimits judge.now.header.limits × AllByRecursion IsFit round.now × (1 ≤ workers) × (workers ≤ 64) }
+            ensures judges { IfOk result (JudgesRound judge.entry.now.header judge.entry.now.entries judge.exit.now.entries round.entry.now readings.More) }
+            ensures kept { judge.exit.now ≡ record judge.entry.now { entries = judge.exit.now.entries } }
         { judge.judge_round(rt, alloc, round, Reading::More, workers, gate) },
         &mut || -> Result<Reading, IoStop>
             requires { MayGather (R.left source.now) stream.now next.now readings.More }
@@ -91,7 +93,12 @@ fn judge_and_gather<G: Grid + Send + Sync, T: Threads + Sync, R: Source, H: Gate
 /// round is judged.
 ///
 /// Errors: those of reading only where the round has no answer.
-pub(crate) fn advance<G: Grid + Send + Sync, T: Threads + Sync, R: Source, H: Gate + Sync>(
+pub(crate) fn judge_and_advance<
+    G: Grid + Send + Sync,
+    T: Threads + Sync,
+    R: Source,
+    H: Gate + Sync,
+>(
     rt: &T,
     alloc: Global,
     source: &mut R,

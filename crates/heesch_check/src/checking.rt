@@ -18,7 +18,7 @@ ghost use Rattle.heesch_check.specs.Reading.{
   ReadsNoFurther,
 };
 
-use crate::ahead::{Advance, ROUND, advance};
+use crate::ahead::{Advance, ROUND, judge_and_advance};
 use crate::answers::Checked;
 use crate::judging::{Judge, fault_behind};
 use crate::reading::{Reading, gather, read_first};
@@ -233,7 +233,7 @@ fn check_behind<G: Grid + Send + Sync, T: Threads + Sync, R: Source, H: Gate + S
 {
     let mut round = Seq::new(alloc);
     let first = items.as_slice();
-    let mut told = advance(
+    let mut told = judge_and_advance(
         rt,
         alloc,
         source,
@@ -252,7 +252,7 @@ fn check_behind<G: Grid + Send + Sync, T: Threads + Sync, R: Source, H: Gate + S
             Advance::Further { reading } => reading,
         };
         let mut next = Seq::new(alloc);
-        told = advance(
+        told = judge_and_advance(
             rt,
             alloc,
             source,
