@@ -1,7 +1,7 @@
 -- A batch of items behind those that were judged, and how far reading came with it.
-use Rattle.std.proofs.Common.{◌≡◌, ◌⊎◌, inl, inr, ℕ, ◌+◌, ◌-◌, ◌<◌, ◌≤◌, arith, false, List, [], ◌∷◌, ◌++◌, length, take, drop, Option, Some, None, refl, sym, ap, subst, ◌∙◌, append_assoc}
+use Rattle.std.proofs.Common.{◌≡◌, ◌⊎◌, inl, inr, ℕ, ◌-◌, ◌<◌, arith, false, List, [], ◌∷◌, ◌++◌, length, take, drop, Option, Some, None, refl, sym, ap, subst, ◌∙◌, append_assoc}
 use Rattle.std.specs.List.{AllByRecursion}
-use Rattle.std.proofs.lemmas.List.{append-nil, length-append, take_all}
+use Rattle.std.proofs.lemmas.List.{append-nil, take_all}
 use Rattle.heesch_cert.specs.declared.header.Header.{Header}
 use Rattle.heesch_reader.specs.declared.item.Item.{Item}
 use Rattle.heesch_reader.specs.declared.item.Item.TheVariants as items
@@ -17,7 +17,7 @@ use Rattle.heesch_check.specs.declared.answers.Checked.{Checked}
 use Rattle.heesch_check.specs.declared.reading.Reading.{Reading}
 use Rattle.heesch_check.specs.declared.reading.Reading.TheVariants as readings
 use Rattle.heesch_check.specs.Judging.{IsFit, AreJudged}
-use Rattle.heesch_check.specs.Reading.{IsAnswerOf, IsReading, Reads, Gathers, LacksItems, StopsGathering, MayGather, LackItems, JudgesRound, IsPending, BeginWith, ReadsNoFurther}
+use Rattle.heesch_check.specs.Reading.{IsAnswerOf, IsReading, Reads, Gathers, LacksItems, StopsGathering, MayGather, LackRound, JudgesRound, Underway, BeginWith, ReadsNoFurther}
 use Rattle.heesch_check.proofs.Leading.{IsBounded}
 use Rattle.heesch_check.proofs.Batches.{batch_settled, stop_settled, stop_decided}
 use Rattle.heesch_check.proofs.Readings.{Answers, all_right, as_reading, reading_answers, batch_fits}
@@ -102,51 +102,16 @@ batch_answers first now header found batch before after s reading answer bound f
       | inr all ↦ reading_answers first now header (found ++ batch) after s reading answer bound full (batch_settled a.input header found batch before after a.held a.tail a.reached bound full j a.read all.0) h all.1
     ]
 
--- ---- a round that was read behind items that were judged
-
-pub pending_fits : (first now : Option (List ℕ)) (header : Header) (round : List Item) (s : Streamed) (n : ℕ) (reading : Reading) → IsPending header first now round s n reading → AllByRecursion IsFit round
-pending_fits first now header round s n reading p = batch_fits first now p.found round s reading p.reads
-
--- its answer is that of the input
-pub pending_answers : (first now : Option (List ℕ)) (header : Header) (round : List Item) (n m : ℕ) (s : Streamed) (reading : Reading) (result : Option Checked) (answer : Checked) → IsBounded header → header.brief ≡ false
-    → IsPending header first now round s n reading → JudgesRound header n m round reading result → result ≡ Some answer → Answers first answer
-pending_answers first now header round n m s reading result answer bound full p judges is =
-    batch_answers first now header p.found round n m s reading answer bound full p.judged p.reads (subst (JudgesRound header n m round reading) is judges)
-
--- without an answer, more may follow
-pub pending_more : (header : Header) (round : List Item) (n m : ℕ) (reading : Reading) (result : Option Checked) → JudgesRound header n m round reading result → result ≡ None → reading ≡ readings.More
-pending_more header round n m reading result judges is = none_more header m reading (subst (JudgesRound header n m round reading) is judges).1
-
--- and it is judged good
-pub pending_judged : (first now : Option (List ℕ)) (header : Header) (round : List Item) (n m : ℕ) (s : Streamed) (reading : Reading) (result : Option Checked) → IsBounded header → header.brief ≡ false
-    → (p : IsPending header first now round s n reading) → JudgesRound header n m round reading result → result ≡ None → AreJudged header (p.found ++ round) m
-pending_judged first now header round n m s reading result bound full p judges is =
-    let a = as_reading first now (p.found ++ round) s reading p.reads in
-    batch_settled a.input header p.found round n m a.held a.tail a.reached bound full p.judged a.read (subst (JudgesRound header n m round reading) is judges).0
-
--- where more may follow, nothing is gathered behind it yet
-pub pending_reads : (first now : Option (List ℕ)) (header : Header) (round none : List Item) (s : Streamed) (n : ℕ) (reading : Reading) → (p : IsPending header first now round s n reading) → reading ≡ readings.More → none ≡ [] → IsReading first now ((p.found ++ round) ++ none) s readings.More
-pending_reads first now header round none s n reading p more is =
-    let h : HasRead first now (p.found ++ round) s = subst (λ (x : Reading). IsReading first now (p.found ++ round) s x) more p.reads in
-    subst (λ (x : List Item). HasRead first now x s) (sym (ap (λ (x : List Item). (p.found ++ round) ++ x) is ∙ append-nil (p.found ++ round))) h
-
-pub pending_may : (first now : Option (List ℕ)) (header : Header) (round none : List Item) (s : Streamed) (n : ℕ) (reading : Reading) → IsPending header first now round s n reading → reading ≡ readings.More → none ≡ [] → MayGather now s none readings.More
-pending_may first now header round none s n reading p more is = (first, p.found ++ round, pending_reads first now header round none s n reading p more is)
-
--- the next round is gathered behind it
-pub pending_next : (first before now : Option (List ℕ)) (header : Header) (round none after : List Item) (n m enough : ℕ) (old new : Streamed) (reading to : Reading) (result : Option Checked) → IsBounded header → header.brief ≡ false
-    → IsPending header first before round old n reading → JudgesRound header n m round reading result → result ≡ None → none ≡ [] → Gathers before now old new none after enough readings.More to → IsPending header first now after new m to
-pending_next first before now header round none after n m enough old new reading to result bound full p judges is empty r = record {
-  found = p.found ++ round;
-  judged = pending_judged first before header round n m old reading result bound full p judges is;
-  reads = r.goes_on first (p.found ++ round) (pending_reads first before header round none old n reading p (pending_more header round n m reading result judges is) empty);
-}
-
--- more was read where more may follow
-pub gathers_grow : (before now : Option (List ℕ)) (none after : List Item) (enough : ℕ) (old new : Streamed) (to : Reading) → none ≡ [] → 0 < enough → Gathers before now old new none after enough readings.More to → to ≡ readings.More → old.count < new.count
-gathers_grow before now none after enough old new to empty some r more =
-    let few : length none ≡ 0 = ap length empty in
-    (r.grows more (omega (arith, few, some))).0
+-- a batch without an answer: more may follow
+pub batch_goes_on : (first now : Option (List ℕ)) (header : Header) (found batch : List Item) (before after : ℕ) (s : Streamed) (reading : Reading) → IsBounded header → header.brief ≡ false
+    → AreJudged header found before → IsReading first now (found ++ batch) s reading → JudgesRound header before after batch reading None → Underway header first now s after
+batch_goes_on first now header found batch before after s reading bound full j h judges =
+    let a = as_reading first now (found ++ batch) s reading h in
+    record {
+      all = found ++ batch;
+      has_read = subst (λ (x : Reading). IsReading first now (found ++ batch) s x) (none_more header after reading judges.1) h;
+      judged = batch_settled a.input header found batch before after a.held a.tail a.reached bound full j a.read judges.0;
+    }
 
 -- ---- the first batch, whose first item is the header
 
@@ -155,17 +120,67 @@ rest_of header batch others e =
     let many : length batch - 1 ≡ length others = omega (arith, ap length e) in
     ap (λ (n : ℕ). take n (drop 1 batch)) many ∙ ap (λ (x : List Item). take (length others) (drop 1 x)) e ∙ take_all (length others) others (omega arith)
 
-pub start_pending : (first now : Option (List ℕ)) (header : Header) (batch : List Item) (s : Streamed) (n : ℕ) (reading : Reading) → BeginWith header batch → n ≡ 0 → IsReading first now batch s reading → IsPending header first now (take (length batch - 1) (drop 1 batch)) s n reading
-start_pending first now header batch s n reading b none h = record {
-  found = items.Header header ∷ [];
-  judged = subst (AreJudged header (items.Header header ∷ [])) (sym none) (first_judged header);
-  reads = subst (λ (x : List Item). IsReading first now ((items.Header header ∷ []) ++ x) s reading) (sym (rest_of header batch b.0 b.1)) (subst (λ (x : List Item). IsReading first now x s reading) b.1 h);
-}
+from_header : (first now : Option (List ℕ)) (header : Header) (batch others : List Item) (s : Streamed) (reading : Reading) → batch ≡ items.Header header ∷ others → IsReading first now batch s reading → IsReading first now ((items.Header header ∷ []) ++ others) s reading
+from_header first now header batch others s reading e h = subst (λ (x : List Item). IsReading first now x s reading) e h
+
+pub start_fits : (first now : Option (List ℕ)) (header : Header) (batch : List Item) (s : Streamed) (reading : Reading) → BeginWith header batch → IsReading first now batch s reading → AllByRecursion IsFit (take (length batch - 1) (drop 1 batch))
+start_fits first now header batch s reading b h =
+    subst (AllByRecursion IsFit) (sym (rest_of header batch b.0 b.1)) (batch_fits first now (items.Header header ∷ []) b.0 s reading (from_header first now header batch b.0 s reading b.1 h))
+
+start_judges : (header : Header) (batch : List Item) (before after : ℕ) (reading : Reading) (result : Option Checked) → (b : BeginWith header batch) → before ≡ 0 → JudgesRound header before after (take (length batch - 1) (drop 1 batch)) reading result → JudgesRound header 0 after b.0 reading result
+start_judges header batch before after reading result b none judges =
+    subst (λ (n : ℕ). JudgesRound header n after b.0 reading result) none (subst (λ (x : List Item). JudgesRound header before after x reading result) (rest_of header batch b.0 b.1) judges)
+
+pub start_answers : (first now : Option (List ℕ)) (header : Header) (batch : List Item) (before after : ℕ) (s : Streamed) (reading : Reading) (result : Option Checked) (answer : Checked) → IsBounded header → header.brief ≡ false
+    → BeginWith header batch → before ≡ 0 → IsReading first now batch s reading → JudgesRound header before after (take (length batch - 1) (drop 1 batch)) reading result → result ≡ Some answer → Answers first answer
+start_answers first now header batch before after s reading result answer bound full b none h judges is =
+    batch_answers first now header (items.Header header ∷ []) b.0 0 after s reading answer bound full (first_judged header) (from_header first now header batch b.0 s reading b.1 h)
+    (subst (JudgesRound header 0 after b.0 reading) is (start_judges header batch before after reading result b none judges))
+
+pub start_goes_on : (first now : Option (List ℕ)) (header : Header) (batch : List Item) (before after : ℕ) (s : Streamed) (reading : Reading) (result : Option Checked) → IsBounded header → header.brief ≡ false
+    → BeginWith header batch → before ≡ 0 → IsReading first now batch s reading → JudgesRound header before after (take (length batch - 1) (drop 1 batch)) reading result → result ≡ None → Underway header first now s after
+start_goes_on first now header batch before after s reading result bound full b none h judges is =
+    batch_goes_on first now header (items.Header header ∷ []) b.0 0 after s reading bound full (first_judged header) (from_header first now header batch b.0 s reading b.1 h)
+    (subst (JudgesRound header 0 after b.0 reading) is (start_judges header batch before after reading result b none judges))
+
+-- ---- a further round
+
+next_reading : (first before now : Option (List ℕ)) (header : Header) (old new : Streamed) (n enough : ℕ) (after : List Item) (reading : Reading) → (u : Underway header first before old n) → Gathers before now old new [] after enough readings.More reading → IsReading first now (u.all ++ after) new reading
+next_reading first before now header old new n enough after reading u r = r.goes_on first u.all (subst (λ (x : List Item). HasRead first before x old) (sym (append-nil u.all)) u.has_read)
+
+pub next_may : (first before : Option (List ℕ)) (header : Header) (s : Streamed) (n : ℕ) → Underway header first before s n → MayGather before s [] readings.More
+next_may first before header s n u = (first, u.all, subst (λ (x : List Item). HasRead first before x s) (sym (append-nil u.all)) u.has_read)
+
+pub next_fits : (first before now : Option (List ℕ)) (header : Header) (old new : Streamed) (n enough : ℕ) (after : List Item) (reading : Reading) → Underway header first before old n → Gathers before now old new [] after enough readings.More reading → AllByRecursion IsFit after
+next_fits first before now header old new n enough after reading u r = batch_fits first now u.all after new reading (next_reading first before now header old new n enough after reading u r)
+
+pub next_answers : (first before now : Option (List ℕ)) (header own : Header) (old new : Streamed) (n m enough : ℕ) (after : List Item) (reading : Reading) (result : Option Checked) (answer : Checked) → IsBounded header → header.brief ≡ false → own ≡ header
+    → Underway header first before old n → Gathers before now old new [] after enough readings.More reading → JudgesRound own n m after reading result → result ≡ Some answer → Answers first answer
+next_answers first before now header own old new n m enough after reading result answer bound full same u r judges is =
+    batch_answers first now header u.all after n m new reading answer bound full u.judged (next_reading first before now header old new n enough after reading u r)
+    (subst (JudgesRound header n m after reading) is (subst (λ (x : Header). JudgesRound x n m after reading result) same judges))
+
+pub next_goes_on : (first before now : Option (List ℕ)) (header own : Header) (old new : Streamed) (n m enough : ℕ) (after : List Item) (reading : Reading) (result : Option Checked) → IsBounded header → header.brief ≡ false → own ≡ header
+    → Underway header first before old n → Gathers before now old new [] after enough readings.More reading → JudgesRound own n m after reading result → result ≡ None → Underway header first now new m
+next_goes_on first before now header own old new n m enough after reading result bound full same u r judges is =
+    batch_goes_on first now header u.all after n m new reading bound full u.judged (next_reading first before now header old new n enough after reading u r)
+    (subst (JudgesRound header n m after reading) is (subst (λ (x : Header). JudgesRound x n m after reading result) same judges))
+
+-- a round with no answer leaves less to read
+pub next_smaller : (before now : Option (List ℕ)) (header own : Header) (old new : Streamed) (n m enough : ℕ) (after : List Item) (reading : Reading) (result : Option Checked) (first : Option (List ℕ)) → Underway header first before old n → 0 < enough
+    → Gathers before now old new [] after enough readings.More reading → JudgesRound own n m after reading result → result ≡ None → 1099511627776 - new.count < 1099511627776 - old.count
+next_smaller before now header own old new n m enough after reading result first u some r judges is =
+    let more = none_more own m reading (subst (JudgesRound own n m after reading) is judges).1 in
+    let further : HasRead first now (u.all ++ after) new = subst (λ (x : Reading). IsReading first now (u.all ++ after) new x) more (next_reading first before now header old new n enough after reading u r) in
+    let grows = (r.grows more some).0 in
+    let count = further.count_is in
+    let most = further.at_most in
+    omega (arith, grows, count, most)
 
 -- ---- what is read of the source
 
 -- what was read before one more piece decides nothing
-pub reads_no_further : (first before now : Option (List ℕ)) (all : List Item) (s : Streamed) → HasRead first before all s → (all ≡ []) ⊎ LackItems all → TakesOnePiece before now → ReadsNoFurther first now
+pub reads_no_further : (first before now : Option (List ℕ)) (all : List Item) (s : Streamed) → HasRead first before all s → (all ≡ []) ⊎ LackRound all → TakesOnePiece before now → ReadsNoFurther first now
 reads_no_further first before now all s h judged piece = record {
   bytes = h.bytes;
   last = piece.0;
@@ -174,7 +189,7 @@ reads_no_further first before now all s h judged piece = record {
   undecided = record { all = all; begins = h.begins; judged = judged };
 }
 
-lacking : (first now : Option (List ℕ)) (found front : List Item) (enough : ℕ) → (l : LacksItems first now found front enough) → LackItems (found ++ (front ++ l.more)) → ReadsNoFurther first now
+lacking : (first now : Option (List ℕ)) (found front : List Item) (enough : ℕ) → (l : LacksItems first now found front enough) → LackRound (found ++ (front ++ l.more)) → ReadsNoFurther first now
 lacking first now found front enough l lack = record {
   bytes = l.bytes;
   last = l.last;
@@ -188,17 +203,17 @@ pub begin_on : (header : Header) (front after more : List Item) → after ≡ fr
 begin_on header front after more is b = (b.0 ++ more, is ∙ ap (λ (x : List Item). x ++ more) b.1)
 
 -- of the first round, with the header
-pub start_no_further : (first before now : Option (List ℕ)) (header : Header) (front : List Item) → header.brief ≡ false → BeginWith header front → StopsGathering first before now [] front 33 → ReadsNoFurther first before → ReadsNoFurther first now
+pub start_no_further : (first before now : Option (List ℕ)) (header : Header) (front : List Item) → header.brief ≡ false → BeginWith header front → StopsGathering first before now [] front 257 → ReadsNoFurther first before → ReadsNoFurther first now
 start_no_further first before now header front full b stops none = elim stops [
   | inl same ↦ subst (ReadsNoFurther first) (sym same) none
   | inr l ↦
       let all : front ++ l.more ≡ items.Header header ∷ (b.0 ++ l.more) = ap (λ (x : List Item). x ++ l.more) b.1 in
-      let few : length (items.Header header ∷ (b.0 ++ l.more)) < 33 = subst (λ (x : List Item). length x < 33) all l.few in
-      lacking first now [] front 33 l (record {
+      let few : length (items.Header header ∷ (b.0 ++ l.more)) < 257 = subst (λ (x : List Item). length x < 257) all l.few in
+      lacking first now [] front 257 l (record {
         header = header;
         entries = 0;
         front = items.Header header ∷ [];
-        others = b.0 ++ l.more;
+        round = b.0 ++ l.more;
         split = all;
         full = full;
         judged = first_judged header;
@@ -206,39 +221,16 @@ start_no_further first before now header front full b stops none = elim stops [
       })
 ]
 
--- behind items that were judged, fewer than so many others, and what is gathered behind them
-judged_no_further : (first before now : Option (List ℕ)) (header : Header) (front others : List Item) (n enough : ℕ) → header.brief ≡ false → AreJudged header front n → length others + enough ≤ 256 → StopsGathering first before now (front ++ others) [] enough → ReadsNoFurther first before → ReadsNoFurther first now
-judged_no_further first before now header front others n enough full judged small stops none = elim stops [
+-- what a further round's gathering says, which begins with no items
+pub next_stops : (first before now : Option (List ℕ)) (header : Header) (s : Streamed) (n : ℕ) → (u : Underway header first before s n) → (none : List Item) → none ≡ []
+    → (IsReading first before (u.all ++ none) s readings.More → StopsGathering first before now u.all none 256) → StopsGathering first before now u.all [] 256
+next_stops first before now header s n u none is stops =
+    let h : HasRead first before (u.all ++ none) s = subst (λ (x : List Item). HasRead first before x s) (sym (ap (λ (x : List Item). u.all ++ x) is ∙ append-nil u.all)) u.has_read in
+    subst (λ (x : List Item). StopsGathering first before now u.all x 256) is (stops h)
+
+-- of a further round
+pub next_no_further : (first before now : Option (List ℕ)) (header : Header) (s : Streamed) (n : ℕ) → (u : Underway header first before s n) → header.brief ≡ false → StopsGathering first before now u.all [] 256 → ReadsNoFurther first before → ReadsNoFurther first now
+next_no_further first before now header s n u full stops none = elim stops [
   | inl same ↦ subst (ReadsNoFurther first) (sym same) none
-  | inr l ↦
-      let few = l.few in
-      let both : length (others ++ l.more) ≡ length others + length l.more = length-append others l.more in
-      lacking first now (front ++ others) [] enough l (record {
-        header = header;
-        entries = n;
-        front = front;
-        others = others ++ l.more;
-        split = append_assoc front others l.more;
-        full = full;
-        judged = judged;
-        few = omega (arith, few, both, small);
-      })
+  | inr l ↦ lacking first now u.all [] 256 l (record { header = header; entries = n; front = u.all; round = l.more; split = refl; full = full; judged = u.judged; few = l.few })
 ]
-
--- where the next round is gathered before the one at hand is judged
-pub ahead_no_further : (first before now : Option (List ℕ)) (header : Header) (round none : List Item) (s : Streamed) (n enough : ℕ) (reading : Reading) → header.brief ≡ false → (p : IsPending header first before round s n reading) → reading ≡ readings.More → length round + enough ≤ 256
-    → none ≡ [] → ((found : List Item) → IsReading first before (found ++ none) s readings.More → StopsGathering first before now found none enough) → ReadsNoFurther first before → ReadsNoFurther first now
-ahead_no_further first before now header round none s n enough reading full p more small is stops =
-    let told = stops (p.found ++ round) (pending_reads first before header round none s n reading p more is) in
-    judged_no_further first before now header p.found round n enough full p.judged small (subst (λ (x : List Item). StopsGathering first before now (p.found ++ round) x enough) is told)
-
--- where it is gathered behind one that was judged good
-pub behind_no_further : (first before now : Option (List ℕ)) (header : Header) (round none : List Item) (s : Streamed) (n m enough : ℕ) (reading : Reading) (result : Option Checked) → IsBounded header → header.brief ≡ false → (p : IsPending header first before round s n reading) → JudgesRound header n m round reading result → result ≡ None → enough ≤ 256
-    → none ≡ [] → ((found : List Item) → IsReading first before (found ++ none) s readings.More → StopsGathering first before now found none enough) → ReadsNoFurther first before → ReadsNoFurther first now
-behind_no_further first before now header round none s n m enough reading result bound full p judges is small empty stops =
-    let told = stops (p.found ++ round) (pending_reads first before header round none s n reading p (pending_more header round n m reading result judges is) empty) in
-    let judged = pending_judged first before header round n m s reading result bound full p judges is in
-    let here : StopsGathering first before now ((p.found ++ round) ++ []) [] enough =
-    subst (λ (x : List Item). StopsGathering first before now x [] enough) (sym (append-nil (p.found ++ round))) (subst (λ (x : List Item). StopsGathering first before now (p.found ++ round) x enough) empty told) in
-    let few : length {A = Item} [] + enough ≤ 256 = omega (arith, small) in
-    judged_no_further first before now header (p.found ++ round) [] m enough full judged few here

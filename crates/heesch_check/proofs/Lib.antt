@@ -1,4 +1,3 @@
-pub mod Advances
 pub mod Answering
 pub mod Audits
 pub mod Batches

@@ -1,6 +1,6 @@
 -- What reading came to, and the answer behind items that were judged.
 use Rattle.std.specs.Io.KnownBytes.{Consumes}
-use Rattle.std.specs.Prelude.{◌≡◌, ◌⊎◌, ℕ, ◌+◌, ◌<◌, ◌≤◌, false, List, [], ◌∷◌, ◌++◌, length, slice_get, Option, Some, None, Result, IfOk, ⊤}
+use Rattle.std.specs.Prelude.{◌≡◌, ◌⊎◌, ℕ, ◌+◌, ◌<◌, ◌≤◌, false, List, [], ◌∷◌, ◌++◌, length, slice_get, Option, Some, None, Result, IfOk}
 use Rattle.heesch_grid.specs.declared.Cell.{Cell}
 use Rattle.heesch_cert.specs.declared.header.Header.{Header}
 use Rattle.heesch_cert.specs.declared.verdict.Verdict.{Verdict}
@@ -15,8 +15,6 @@ use Rattle.heesch_reader.specs.declared.progress.AtHand.TheVariants as endings
 use Rattle.heesch_reader.specs.Endings.{ending_of}
 use Rattle.heesch_io.specs.Input.{IsAllOf}
 use Rattle.heesch_stream.specs.Taking.{Streamed, Begins, HasRead, IsCatalogue, HasFault, HasTooMany, piece_max}
-use Rattle.heesch_check.specs.declared.ahead.Advance.{Advance}
-use Rattle.heesch_check.specs.declared.ahead.Advance.TheVariants as advances
 use Rattle.heesch_check.specs.declared.answers.Checked.{Checked}
 use Rattle.heesch_check.specs.declared.answers.Checked.TheVariants as answers
 use Rattle.heesch_io.specs.declared.fault.IoStop.{IoStop}
@@ -132,21 +130,11 @@ abbrev pub JudgesRound : Header → (before after : ℕ) → List Item → Readi
 JudgesRound header before after batch reading None = AreAllGood header before after batch × IsAnswerOf header after reading None
 JudgesRound header before after batch reading (Some answer) = StopsIn header before after batch answer ⊎ (AreAllGood header before after batch × IsAnswerOf header after reading (Some answer))
 
--- behind items that were judged, so many entries among them, these ones were read, and reading came so far
-pub record IsPending (header : Header) (first now : Option (List ℕ)) (round : List Item) (s : Streamed) (entries : ℕ) (reading : Reading) : Type 0 where
-  pub found : List Item
-  pub judged : AreJudged header found entries
-  pub reads : IsReading first now (found ++ round) s reading
-
--- a round has the answer of the whole input, or it was judged good and the next one was read behind it
-abbrev pub AdvancesTo : Header → (first now : Option (List ℕ)) → List Item → Streamed → ℕ → Advance → Type 0
-AdvancesTo header first now next s entries (advances.Answer answer) = (input : List ℕ) × IsAllOf first input × IsChecked input answer
-AdvancesTo header first now next s entries (advances.Further reading) = IsPending header first now next s entries reading
-
--- a round without the answer is one behind which more was to follow, and bytes were read where more may follow still
-abbrev pub GrowsOn : Reading → (old new : ℕ) → Advance → Type 0
-GrowsOn from old new (advances.Answer answer) = ⊤
-GrowsOn from old new (advances.Further reading) = (from ≡ readings.More) × (reading ≡ readings.More → old < new)
+-- items were read and judged, so many entries among them, and more may follow
+pub record Underway (header : Header) (first now : Option (List ℕ)) (s : Streamed) (entries : ℕ) : Type 0 where
+  pub all : List Item
+  pub has_read : HasRead first now all s
+  pub judged : AreJudged header all entries
 
 -- whatever was read before, nothing but bytes was read behind it, or these are its first items, and reading came so far
 abbrev pub FirstReads : (before now : Option (List ℕ)) (old new : Streamed) → List Item → Reading → Type 0
@@ -154,28 +142,28 @@ FirstReads before now old new all reading = (first : Option (List ℕ)) → HasR
 
 -- ---- what is read of the source
 
--- where so many items are whole and not judged, no more is read
-abbrev pub unjudged_max : ℕ
-unjudged_max = 256
+-- how many items are gathered before they are judged
+abbrev pub round_size : ℕ
+round_size = 256
 
--- behind a header that isn't brief, good entries, and maybe an end behind all of them, there are fewer items than so many
-pub record LackItems (all : List Item) : Type 0 where
+-- behind a header that isn't brief, good entries, and maybe an end behind all of them, there are fewer items than a round has
+pub record LackRound (all : List Item) : Type 0 where
   pub header : Header
   pub entries : ℕ
   pub front : List Item
-  pub others : List Item
-  pub split : all ≡ front ++ others
+  pub round : List Item
+  pub split : all ≡ front ++ round
   pub full : header.brief ≡ false
   pub judged : AreJudged header front entries
-  pub few : length others < unjudged_max
+  pub few : length round < round_size
 
--- the bytes decide nothing yet that has to be judged: they begin a catalogue with no whole item, or with a header, good entries, maybe an end behind all of them, and then fewer than 256 whole items
+-- the bytes decide nothing yet that is judged: they begin a catalogue with no whole item, or with a header, good entries, maybe an end behind all of them, and then fewer whole items than a round has
 pub record DecideNothing (bytes : List ℕ) : Type 0 where
   pub all : List Item
   pub begins : Begins bytes all
-  pub judged : (all ≡ []) ⊎ LackItems all
+  pub judged : (all ≡ []) ⊎ LackRound all
 
--- no piece is read beyond those items: what was read before the last piece decides nothing that has to be judged
+-- no piece is read beyond the round that decides: what was read before the last piece decides nothing that is judged
 pub record ReadsNoFurther (first now : Option (List ℕ)) : Type 0 where
   pub bytes : List ℕ
   pub last : List ℕ

@@ -18,7 +18,6 @@ ghost use Rattle.heesch_check.specs.Reading.{
   ReadsNoFurther,
 };
 
-use crate::ahead::{Advance, ROUND, judge_and_advance};
 use crate::answers::Checked;
 use crate::judging::{Judge, fault_behind};
 use crate::reading::{Reading, gather, read_first};
@@ -33,19 +32,20 @@ use heesch_stream::Stream;
 use std::alloc::Global;
 use std::thread::Threads;
 
+/// How many items are gathered before they are judged.
+const ROUND: usize = 256;
+
 /// Whether what the source has left is a valid catalogue, else its first invalid part.
 ///
 /// `TooLong` comes where the first 2^40 bytes decide no invalid part and more follow.
 ///
-/// Entries are judged by rounds: items are gathered from as many pieces as that takes until there are 32, the input is at
+/// Entries are judged by rounds: items are gathered from as many pieces as that takes until there are 256, the input is at
 /// fault or ends, or as much is read as may be; then the entries that are in their places are audited by the workers, each
-/// once, and the answer is that of the first item at fault. With two workers or more, the caller's thread reads the next
-/// round meanwhile, unless both rounds could have more than 256 items. The gate is told of each entry's number, from 0. Where
-/// an entry of a round has the proofs of several triples, its entries are audited in portions, and the gate is told of the
-/// portions' numbers, from that of the round's first entry on. No piece is read where 256 items are whole and not judged, and
-/// none behind the round that follows the one that decides the answer. No more is held than the items of two rounds and
-/// those of a piece for each. The free list of a size is made once, by the workers, before the first round, but where the
-/// input is at fault with nothing whole behind its header, or with a brief entry.
+/// once, and the answer is that of the first item at fault. The gate is told of each entry's number, from 0. Where an entry
+/// of a round has the proofs of several triples, its entries are audited in portions, and the gate is told of the portions'
+/// numbers, from that of the round's first entry on. Reading stops with the round that decides the answer, and no more is
+/// held than the items of a round and those of one piece. The free list of a size is made once, by the workers, before the
+/// first round, but where the input is at fault with nothing whole behind its header, or with a brief entry.
 ///
 /// Errors: `Failed` only where the source's count of faults rose; `NoMemory` where memory was refused. At an error too the
 /// source has given the bytes of some pieces, front first, and no piece beyond the round at hand.
@@ -231,39 +231,18 @@ fn check_behind<G: Grid + Send + Sync, T: Threads + Sync, R: Source, H: Gate + S
     ensures failed { result ≡ Err IoStop.Failed → Rose (R.faults source.old) (R.faults source.new) }
     ensures later { R.faults source.old ≤ R.faults source.new }
 {
-    let mut round = Seq::new(alloc);
     let first = items.as_slice();
-    let mut told = judge_and_advance(
-        rt,
-        alloc,
-        source,
-        stream,
-        &mut judge,
-        &first[1..],
-        reading,
-        &mut round,
-        workers,
-        gate,
-    )?;
+    let told = judge.judge_round(rt, alloc, &first[1..], reading, workers, gate)?;
     drop(items);
+    if let Some(answer) = told {
+        return Ok(answer);
+    }
     'rounds: loop {
-        let reading = match told {
-            Advance::Answer { answer } => return Ok(answer),
-            Advance::Further { reading } => reading,
-        };
-        let mut next = Seq::new(alloc);
-        told = judge_and_advance(
-            rt,
-            alloc,
-            source,
-            stream,
-            &mut judge,
-            round.as_slice(),
-            reading,
-            &mut next,
-            workers,
-            gate,
-        )?;
-        round = next;
+        let mut round = Seq::new(alloc);
+        let reading = gather(stream, source, &mut round, Reading::More, ROUND)?;
+        let answer = judge.judge_round(rt, alloc, round.as_slice(), reading, workers, gate)?;
+        if let Some(answer) = answer {
+            return Ok(answer);
+        }
     }
 }

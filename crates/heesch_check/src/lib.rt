@@ -1,7 +1,6 @@
 //! Whether bytes are a valid catalogue.
 #![tactic(auto)]
 
-mod ahead;
 mod answers;
 mod checking;
 mod handle;

@@ -5,7 +5,6 @@
 //! numbers, whatever the schedule.
 #![tactic(auto)]
 
-mod beside;
 mod gate;
 mod gather;
 mod job;
@@ -16,7 +15,6 @@ mod seats;
 mod tests;
 mod workers;
 
-pub use beside::run_beside;
 pub use gate::{Gate, Open};
 pub use job::{Answer, Job};
 pub use run::{run_all, run_span};
