@@ -1,5 +1,5 @@
 -- The entries that stand first among the items of a round, and what their audits say.
-use Rattle.std.proofs.Common.{◌≡◌, ◌↔◌, ℕ, suc, ◌+◌, ◌-◌, ◌<◌, ◌≤◌, Bool, true, false, not, IsTrue, List, [], ◌∷◌, ◌++◌, length, get_or, take, drop, Option, Some, None, refl, sym, ap, subst, ◌∙◌, arith}
+use Rattle.std.proofs.Common.{IfOk, Result, Ok, Err, ◌≡◌, ◌↔◌, ℕ, suc, ◌+◌, ◌-◌, ◌<◌, ◌≤◌, Bool, true, false, not, IsTrue, List, [], ◌∷◌, ◌++◌, length, get_or, take, drop, Option, Some, None, refl, sym, ap, subst, ◌∙◌, arith}
 use Rattle.std.specs.List.{AllByRecursion, position_or_len}
 use Rattle.std.proofs.lemmas.Bool.{false≢true}
 use Rattle.std.proofs.lemmas.List.{take_more, take_all, take-append-drop, length-take-le, length-drop}
@@ -161,3 +161,8 @@ round_goes_on header own before until good middle after found audits result same
     (subst (λ (x : ℕ). JudgesAll header x after (take (length found - good) (drop good found)) result) at
     (subst (λ (x : Header). JudgesAll x middle after (take (length found - good) (drop good found)) result) same judges))) in
     subst (λ (x : List Item). JudgesAll header before after x result) (take-append-drop k found) (good_then header before (before + k) after (take k found) (drop k found) result g back)
+
+-- what both clauses on an answer give
+pub if_ok_both : {X E : Type 0} (P Q R : X → Type 0) → ((x : X) → P x → Q x → R x) → (r : Result X E) → IfOk r P → IfOk r Q → IfOk r R
+if_ok_both P Q R both (Ok x) p q = both x p q
+if_ok_both P Q R both (Err e) p q = tt

@@ -1,7 +1,8 @@
 -- A batch of items behind those that were judged, and how far reading came with it.
-use Rattle.std.proofs.Common.{◌≡◌, ◌⊎◌, inl, inr, ℕ, ◌-◌, ◌<◌, arith, false, List, [], ◌∷◌, ◌++◌, length, take, drop, Option, Some, None, refl, sym, ap, subst, ◌∙◌, append_assoc}
+use Rattle.std.proofs.Common.{◌≡◌, ◌⊎◌, inl, inr, ℕ, ◌+◌, ◌-◌, ◌<◌, ◌≤◌, arith, true, false, true≢false, List, [], ◌∷◌, ◌++◌, length, take, drop, Option, Some, None, refl, sym, ap, subst, ◌∙◌, append_assoc}
+use Rattle.std.specs.Prelude.{is_some}
 use Rattle.std.specs.List.{AllByRecursion}
-use Rattle.std.proofs.lemmas.List.{append-nil, take_all}
+use Rattle.std.proofs.lemmas.List.{append-nil, length-append, take_all}
 use Rattle.heesch_cert.specs.declared.header.Header.{Header}
 use Rattle.heesch_reader.specs.declared.item.Item.{Item}
 use Rattle.heesch_reader.specs.declared.item.Item.TheVariants as items
@@ -16,8 +17,8 @@ use Rattle.heesch_line.specs.Forms.{IsLine}
 use Rattle.heesch_check.specs.declared.answers.Checked.{Checked}
 use Rattle.heesch_check.specs.declared.reading.Reading.{Reading}
 use Rattle.heesch_check.specs.declared.reading.Reading.TheVariants as readings
-use Rattle.heesch_check.specs.Judging.{IsFit, AreJudged}
-use Rattle.heesch_check.specs.Reading.{IsAnswerOf, IsReading, Reads, Gathers, LacksItems, StopsGathering, MayGather, LackRound, JudgesRound, Underway, BeginWith, ReadsNoFurther}
+use Rattle.heesch_check.specs.Judging.{AreAllGood, ArePlaced, IsFit, AreJudged, JudgesAll}
+use Rattle.heesch_check.specs.Reading.{AnswersOrGoesOn, IsAnswerOf, IsReading, Reads, Gathers, LacksItems, StopsGathering, MayGather, LackRound, JudgesRound, IsPending, Underway, BeginWith, ReadsNoFurther}
 use Rattle.heesch_check.proofs.Leading.{IsBounded}
 use Rattle.heesch_check.proofs.Batches.{batch_settled, stop_settled, stop_decided}
 use Rattle.heesch_check.proofs.Readings.{Answers, all_right, as_reading, reading_answers, batch_fits}
@@ -102,16 +103,99 @@ batch_answers first now header found batch before after s reading answer bound f
       | inr all ↦ reading_answers first now header (found ++ batch) after s reading answer bound full (batch_settled a.input header found batch before after a.held a.tail a.reached bound full j a.read all.0) h all.1
     ]
 
--- a batch without an answer: more may follow
-pub batch_goes_on : (first now : Option (List ℕ)) (header : Header) (found batch : List Item) (before after : ℕ) (s : Streamed) (reading : Reading) → IsBounded header → header.brief ≡ false
-    → AreJudged header found before → IsReading first now (found ++ batch) s reading → JudgesRound header before after batch reading None → Underway header first now s after
-batch_goes_on first now header found batch before after s reading bound full j h judges =
-    let a = as_reading first now (found ++ batch) s reading h in
-    record {
-      all = found ++ batch;
-      has_read = subst (λ (x : Reading). IsReading first now (found ++ batch) s x) (none_more header after reading judges.1) h;
-      judged = batch_settled a.input header found batch before after a.held a.tail a.reached bound full j a.read judges.0;
-    }
+-- ---- a round that was read behind items that were judged
+
+pub pending_fits : (first now : Option (List ℕ)) (header : Header) (round : List Item) (s : Streamed) (n : ℕ) (reading : Reading) → IsPending header first now round s n reading → AllByRecursion IsFit round
+pending_fits first now header round s n reading p = batch_fits first now p.found round s reading p.reads
+
+-- its answer is that of the input
+pub pending_answers : (first now : Option (List ℕ)) (header : Header) (round : List Item) (n m : ℕ) (s : Streamed) (reading : Reading) (result : Option Checked) (answer : Checked) → IsBounded header → header.brief ≡ false
+    → IsPending header first now round s n reading → JudgesRound header n m round reading result → result ≡ Some answer → Answers first answer
+pending_answers first now header round n m s reading result answer bound full p judges is =
+    batch_answers first now header p.found round n m s reading answer bound full p.judged p.reads (subst (JudgesRound header n m round reading) is judges)
+
+-- without an answer, more may follow
+pub pending_more : (header : Header) (round : List Item) (n m : ℕ) (reading : Reading) (result : Option Checked) → JudgesRound header n m round reading result → result ≡ None → reading ≡ readings.More
+pending_more header round n m reading result judges is = none_more header m reading (subst (JudgesRound header n m round reading) is judges).1
+
+-- and it is judged good
+pub pending_judged : (first now : Option (List ℕ)) (header : Header) (round : List Item) (n m : ℕ) (s : Streamed) (reading : Reading) (result : Option Checked) → IsBounded header → header.brief ≡ false
+    → (p : IsPending header first now round s n reading) → JudgesRound header n m round reading result → result ≡ None → AreJudged header (p.found ++ round) m
+pending_judged first now header round n m s reading result bound full p judges is =
+    let a = as_reading first now (p.found ++ round) s reading p.reads in
+    batch_settled a.input header p.found round n m a.held a.tail a.reached bound full p.judged a.read (subst (JudgesRound header n m round reading) is judges).0
+
+-- where more may follow, nothing is gathered behind it yet
+pub pending_reads : (first now : Option (List ℕ)) (header : Header) (round none : List Item) (s : Streamed) (n : ℕ) (reading : Reading) → (p : IsPending header first now round s n reading) → reading ≡ readings.More → none ≡ [] → IsReading first now ((p.found ++ round) ++ none) s readings.More
+pending_reads first now header round none s n reading p more is =
+    let h : HasRead first now (p.found ++ round) s = subst (λ (x : Reading). IsReading first now (p.found ++ round) s x) more p.reads in
+    subst (λ (x : List Item). HasRead first now x s) (sym (ap (λ (x : List Item). (p.found ++ round) ++ x) is ∙ append-nil (p.found ++ round))) h
+
+pub pending_may : (first now : Option (List ℕ)) (header : Header) (round none : List Item) (s : Streamed) (n : ℕ) (reading : Reading) → IsPending header first now round s n reading → reading ≡ readings.More → none ≡ [] → MayGather now s none readings.More
+pending_may first now header round none s n reading p more is = (first, p.found ++ round, pending_reads first now header round none s n reading p more is)
+
+-- the next round is gathered behind it
+pub pending_next : (first before now : Option (List ℕ)) (header : Header) (round none after : List Item) (n m enough : ℕ) (old new : Streamed) (reading to : Reading) (result : Option Checked) → IsBounded header → header.brief ≡ false
+    → IsPending header first before round old n reading → JudgesRound header n m round reading result → result ≡ None → none ≡ [] → Gathers before now old new none after enough readings.More to → IsPending header first now after new m to
+pending_next first before now header round none after n m enough old new reading to result bound full p judges is empty r = record {
+  found = p.found ++ round;
+  judged = pending_judged first before header round n m old reading result bound full p judges is;
+  reads = r.goes_on first (p.found ++ round) (pending_reads first before header round none old n reading p (pending_more header round n m reading result judges is) empty);
+}
+
+-- more was read where more may follow
+pub gathers_grow : (before now : Option (List ℕ)) (none after : List Item) (enough : ℕ) (old new : Streamed) (to : Reading) → none ≡ [] → 0 < enough → Gathers before now old new none after enough readings.More to → to ≡ readings.More → old.count < new.count
+gathers_grow before now none after enough old new to empty some r more =
+    let few : length none ≡ 0 = ap length empty in
+    (r.grows more (omega (arith, few, some))).0
+
+-- it was judged good, and more may follow
+pub pending_goes_on : (first now : Option (List ℕ)) (header : Header) (round : List Item) (n m : ℕ) (s : Streamed) (reading : Reading) (result : Option Checked) → IsBounded header → header.brief ≡ false
+    → IsPending header first now round s n reading → JudgesRound header n m round reading result → result ≡ None → Underway header first now s m
+pending_goes_on first now header round n m s reading result bound full p judges is = record {
+  all = p.found ++ round;
+  has_read = subst (λ (x : Reading). IsReading first now (p.found ++ round) s x) (pending_more header round n m reading result judges is) p.reads;
+  judged = pending_judged first now header round n m s reading result bound full p judges is;
+}
+
+-- where each of the items is an entry in its place and judged good, there are as many more entries
+pub good_counts : (header : Header) (n m : ℕ) (found : List Item) → ArePlaced header n found → AreAllGood header n m found → m ≡ n + length found
+good_counts header n m [] placed good = omega (arith, good)
+good_counts header n m (items.Entry line e ∷ found) placed good =
+    let up : good.0 ≡ n + 1 = good.1.1 in
+    let rest = good_counts header (n + 1) m found placed.1 (subst (λ (x : ℕ). AreAllGood header x m found) up good.2) in
+    omega (arith, rest)
+good_counts header n m (items.Brief line cells verdict ∷ found) placed good = absurd placed
+good_counts header n m (items.End count ∷ found) placed good = absurd placed
+good_counts header n m (items.Header other ∷ found) placed good = absurd placed
+
+pub all_behind : (header : Header) (n m behind : ℕ) (front : List Item) (told : Option Checked) → n ≤ behind → behind - n ≡ length front → ArePlaced header n (take (behind - n) front) → JudgesAll header n m front told → told ≡ None → m ≡ behind
+all_behind header n m behind front told more all placed judges none =
+    let whole : take (behind - n) front ≡ front = ap (λ (k : ℕ). take k front) all ∙ take_all (length front) front (omega arith) in
+    let counts = good_counts header n m front (subst (ArePlaced header n) whole placed) (subst (JudgesAll header n m front) none judges) in
+    omega (arith, counts, all, more)
+
+pub none_of : (o : Option Checked) → is_some o ≡ false → o ≡ None
+none_of None e = refl
+none_of (Some x) e = absurd (true≢false e)
+
+-- what a round came to
+pub pending_told : (first now : Option (List ℕ)) (header : Header) (round : List Item) (n m : ℕ) (s : Streamed) (reading : Reading) (told : Option Checked) → IsBounded header → header.brief ≡ false
+    → IsPending header first now round s n reading → JudgesRound header n m round reading told → AnswersOrGoesOn header first now s m told
+pending_told first now header round n m s reading None bound full p judges = pending_goes_on first now header round n m s reading None bound full p judges refl
+pending_told first now header round n m s reading (Some answer) bound full p judges = pending_answers first now header round n m s reading (Some answer) answer bound full p judges refl
+
+-- where its first items have the answer
+pub front_told : (first before now : Option (List ℕ)) (header : Header) (front : List Item) (n m : ℕ) (old new : Streamed) (told : Option Checked) → IsBounded header → header.brief ≡ false
+    → IsPending header first before front old n readings.More → JudgesAll header n m front told → is_some told ≡ true → AnswersOrGoesOn header first now new m told
+front_told first before now header front n m old new None bound full p judges is = absurd (true≢false (sym is))
+front_told first before now header front n m old new (Some answer) bound full p judges is = pending_answers first before header front n m old readings.More (Some answer) answer bound full p (inl judges) refl
+
+-- where they have none, the rest is pending behind them
+pub rest_pending : (first before now : Option (List ℕ)) (header : Header) (front none rest : List Item) (n m enough : ℕ) (old new : Streamed) (to : Reading) (told : Option Checked) → IsBounded header → header.brief ≡ false
+    → IsPending header first before front old n readings.More → JudgesAll header n m front told → told ≡ None → none ≡ [] → Gathers before now old new none rest enough readings.More to → IsPending header first now rest new m to
+rest_pending first before now header front none rest n m enough old new to told bound full p judges is empty r =
+    pending_next first before now header front none rest n m enough old new readings.More to None bound full p (subst (JudgesAll header n m front) is judges, refl) refl empty r
 
 -- ---- the first batch, whose first item is the header
 
@@ -120,62 +204,12 @@ rest_of header batch others e =
     let many : length batch - 1 ≡ length others = omega (arith, ap length e) in
     ap (λ (n : ℕ). take n (drop 1 batch)) many ∙ ap (λ (x : List Item). take (length others) (drop 1 x)) e ∙ take_all (length others) others (omega arith)
 
-from_header : (first now : Option (List ℕ)) (header : Header) (batch others : List Item) (s : Streamed) (reading : Reading) → batch ≡ items.Header header ∷ others → IsReading first now batch s reading → IsReading first now ((items.Header header ∷ []) ++ others) s reading
-from_header first now header batch others s reading e h = subst (λ (x : List Item). IsReading first now x s reading) e h
-
-pub start_fits : (first now : Option (List ℕ)) (header : Header) (batch : List Item) (s : Streamed) (reading : Reading) → BeginWith header batch → IsReading first now batch s reading → AllByRecursion IsFit (take (length batch - 1) (drop 1 batch))
-start_fits first now header batch s reading b h =
-    subst (AllByRecursion IsFit) (sym (rest_of header batch b.0 b.1)) (batch_fits first now (items.Header header ∷ []) b.0 s reading (from_header first now header batch b.0 s reading b.1 h))
-
-start_judges : (header : Header) (batch : List Item) (before after : ℕ) (reading : Reading) (result : Option Checked) → (b : BeginWith header batch) → before ≡ 0 → JudgesRound header before after (take (length batch - 1) (drop 1 batch)) reading result → JudgesRound header 0 after b.0 reading result
-start_judges header batch before after reading result b none judges =
-    subst (λ (n : ℕ). JudgesRound header n after b.0 reading result) none (subst (λ (x : List Item). JudgesRound header before after x reading result) (rest_of header batch b.0 b.1) judges)
-
-pub start_answers : (first now : Option (List ℕ)) (header : Header) (batch : List Item) (before after : ℕ) (s : Streamed) (reading : Reading) (result : Option Checked) (answer : Checked) → IsBounded header → header.brief ≡ false
-    → BeginWith header batch → before ≡ 0 → IsReading first now batch s reading → JudgesRound header before after (take (length batch - 1) (drop 1 batch)) reading result → result ≡ Some answer → Answers first answer
-start_answers first now header batch before after s reading result answer bound full b none h judges is =
-    batch_answers first now header (items.Header header ∷ []) b.0 0 after s reading answer bound full (first_judged header) (from_header first now header batch b.0 s reading b.1 h)
-    (subst (JudgesRound header 0 after b.0 reading) is (start_judges header batch before after reading result b none judges))
-
-pub start_goes_on : (first now : Option (List ℕ)) (header : Header) (batch : List Item) (before after : ℕ) (s : Streamed) (reading : Reading) (result : Option Checked) → IsBounded header → header.brief ≡ false
-    → BeginWith header batch → before ≡ 0 → IsReading first now batch s reading → JudgesRound header before after (take (length batch - 1) (drop 1 batch)) reading result → result ≡ None → Underway header first now s after
-start_goes_on first now header batch before after s reading result bound full b none h judges is =
-    batch_goes_on first now header (items.Header header ∷ []) b.0 0 after s reading bound full (first_judged header) (from_header first now header batch b.0 s reading b.1 h)
-    (subst (JudgesRound header 0 after b.0 reading) is (start_judges header batch before after reading result b none judges))
-
--- ---- a further round
-
-next_reading : (first before now : Option (List ℕ)) (header : Header) (old new : Streamed) (n enough : ℕ) (after : List Item) (reading : Reading) → (u : Underway header first before old n) → Gathers before now old new [] after enough readings.More reading → IsReading first now (u.all ++ after) new reading
-next_reading first before now header old new n enough after reading u r = r.goes_on first u.all (subst (λ (x : List Item). HasRead first before x old) (sym (append-nil u.all)) u.has_read)
-
-pub next_may : (first before : Option (List ℕ)) (header : Header) (s : Streamed) (n : ℕ) → Underway header first before s n → MayGather before s [] readings.More
-next_may first before header s n u = (first, u.all, subst (λ (x : List Item). HasRead first before x s) (sym (append-nil u.all)) u.has_read)
-
-pub next_fits : (first before now : Option (List ℕ)) (header : Header) (old new : Streamed) (n enough : ℕ) (after : List Item) (reading : Reading) → Underway header first before old n → Gathers before now old new [] after enough readings.More reading → AllByRecursion IsFit after
-next_fits first before now header old new n enough after reading u r = batch_fits first now u.all after new reading (next_reading first before now header old new n enough after reading u r)
-
-pub next_answers : (first before now : Option (List ℕ)) (header own : Header) (old new : Streamed) (n m enough : ℕ) (after : List Item) (reading : Reading) (result : Option Checked) (answer : Checked) → IsBounded header → header.brief ≡ false → own ≡ header
-    → Underway header first before old n → Gathers before now old new [] after enough readings.More reading → JudgesRound own n m after reading result → result ≡ Some answer → Answers first answer
-next_answers first before now header own old new n m enough after reading result answer bound full same u r judges is =
-    batch_answers first now header u.all after n m new reading answer bound full u.judged (next_reading first before now header old new n enough after reading u r)
-    (subst (JudgesRound header n m after reading) is (subst (λ (x : Header). JudgesRound x n m after reading result) same judges))
-
-pub next_goes_on : (first before now : Option (List ℕ)) (header own : Header) (old new : Streamed) (n m enough : ℕ) (after : List Item) (reading : Reading) (result : Option Checked) → IsBounded header → header.brief ≡ false → own ≡ header
-    → Underway header first before old n → Gathers before now old new [] after enough readings.More reading → JudgesRound own n m after reading result → result ≡ None → Underway header first now new m
-next_goes_on first before now header own old new n m enough after reading result bound full same u r judges is =
-    batch_goes_on first now header u.all after n m new reading bound full u.judged (next_reading first before now header old new n enough after reading u r)
-    (subst (JudgesRound header n m after reading) is (subst (λ (x : Header). JudgesRound x n m after reading result) same judges))
-
--- a round with no answer leaves less to read
-pub next_smaller : (before now : Option (List ℕ)) (header own : Header) (old new : Streamed) (n m enough : ℕ) (after : List Item) (reading : Reading) (result : Option Checked) (first : Option (List ℕ)) → Underway header first before old n → 0 < enough
-    → Gathers before now old new [] after enough readings.More reading → JudgesRound own n m after reading result → result ≡ None → 1099511627776 - new.count < 1099511627776 - old.count
-next_smaller before now header own old new n m enough after reading result first u some r judges is =
-    let more = none_more own m reading (subst (JudgesRound own n m after reading) is judges).1 in
-    let further : HasRead first now (u.all ++ after) new = subst (λ (x : Reading). IsReading first now (u.all ++ after) new x) more (next_reading first before now header old new n enough after reading u r) in
-    let grows = (r.grows more some).0 in
-    let count = further.count_is in
-    let most = further.at_most in
-    omega (arith, grows, count, most)
+pub start_pending : (first now : Option (List ℕ)) (header : Header) (batch : List Item) (s : Streamed) (n : ℕ) (reading : Reading) → BeginWith header batch → n ≡ 0 → IsReading first now batch s reading → IsPending header first now (take (length batch - 1) (drop 1 batch)) s n reading
+start_pending first now header batch s n reading b none h = record {
+  found = items.Header header ∷ [];
+  judged = subst (AreJudged header (items.Header header ∷ [])) (sym none) (first_judged header);
+  reads = subst (λ (x : List Item). IsReading first now ((items.Header header ∷ []) ++ x) s reading) (sym (rest_of header batch b.0 b.1)) (subst (λ (x : List Item). IsReading first now x s reading) b.1 h);
+}
 
 -- ---- what is read of the source
 
@@ -203,13 +237,13 @@ pub begin_on : (header : Header) (front after more : List Item) → after ≡ fr
 begin_on header front after more is b = (b.0 ++ more, is ∙ ap (λ (x : List Item). x ++ more) b.1)
 
 -- of the first round, with the header
-pub start_no_further : (first before now : Option (List ℕ)) (header : Header) (front : List Item) → header.brief ≡ false → BeginWith header front → StopsGathering first before now [] front 257 → ReadsNoFurther first before → ReadsNoFurther first now
+pub start_no_further : (first before now : Option (List ℕ)) (header : Header) (front : List Item) → header.brief ≡ false → BeginWith header front → StopsGathering first before now [] front 33 → ReadsNoFurther first before → ReadsNoFurther first now
 start_no_further first before now header front full b stops none = elim stops [
   | inl same ↦ subst (ReadsNoFurther first) (sym same) none
   | inr l ↦
       let all : front ++ l.more ≡ items.Header header ∷ (b.0 ++ l.more) = ap (λ (x : List Item). x ++ l.more) b.1 in
-      let few : length (items.Header header ∷ (b.0 ++ l.more)) < 257 = subst (λ (x : List Item). length x < 257) all l.few in
-      lacking first now [] front 257 l (record {
+      let few : length (items.Header header ∷ (b.0 ++ l.more)) < 33 = subst (λ (x : List Item). length x < 33) all l.few in
+      lacking first now [] front 33 l (record {
         header = header;
         entries = 0;
         front = items.Header header ∷ [];
@@ -221,16 +255,67 @@ start_no_further first before now header front full b stops none = elim stops [
       })
 ]
 
--- what a further round's gathering says, which begins with no items
-pub next_stops : (first before now : Option (List ℕ)) (header : Header) (s : Streamed) (n : ℕ) → (u : Underway header first before s n) → (none : List Item) → none ≡ []
-    → (IsReading first before (u.all ++ none) s readings.More → StopsGathering first before now u.all none 256) → StopsGathering first before now u.all [] 256
-next_stops first before now header s n u none is stops =
-    let h : HasRead first before (u.all ++ none) s = subst (λ (x : List Item). HasRead first before x s) (sym (ap (λ (x : List Item). u.all ++ x) is ∙ append-nil u.all)) u.has_read in
-    subst (λ (x : List Item). StopsGathering first before now u.all x 256) is (stops h)
-
--- of a further round
-pub next_no_further : (first before now : Option (List ℕ)) (header : Header) (s : Streamed) (n : ℕ) → (u : Underway header first before s n) → header.brief ≡ false → StopsGathering first before now u.all [] 256 → ReadsNoFurther first before → ReadsNoFurther first now
-next_no_further first before now header s n u full stops none = elim stops [
+-- behind items that were judged, fewer than so many others, and what is gathered behind them
+judged_no_further : (first before now : Option (List ℕ)) (header : Header) (front others : List Item) (n enough : ℕ) → header.brief ≡ false → AreJudged header front n → length others + enough ≤ 256 → StopsGathering first before now (front ++ others) [] enough → ReadsNoFurther first before → ReadsNoFurther first now
+judged_no_further first before now header front others n enough full judged small stops none = elim stops [
   | inl same ↦ subst (ReadsNoFurther first) (sym same) none
-  | inr l ↦ lacking first now u.all [] 256 l (record { header = header; entries = n; front = u.all; round = l.more; split = refl; full = full; judged = u.judged; few = l.few })
+  | inr l ↦
+      let few = l.few in
+      let both : length (others ++ l.more) ≡ length others + length l.more = length-append others l.more in
+      lacking first now (front ++ others) [] enough l (record {
+        header = header;
+        entries = n;
+        front = front;
+        round = others ++ l.more;
+        split = append_assoc front others l.more;
+        full = full;
+        judged = judged;
+        few = omega (arith, few, both, small);
+      })
 ]
+
+-- where the next round is gathered before the one at hand is judged
+pub ahead_no_further : (first before now : Option (List ℕ)) (header : Header) (round none : List Item) (s : Streamed) (n enough : ℕ) (reading : Reading) → header.brief ≡ false → (p : IsPending header first before round s n reading) → reading ≡ readings.More → length round + enough ≤ 256
+    → none ≡ [] → ((found : List Item) → IsReading first before (found ++ none) s readings.More → StopsGathering first before now found none enough) → ReadsNoFurther first before → ReadsNoFurther first now
+ahead_no_further first before now header round none s n enough reading full p more small is stops =
+    let told = stops (p.found ++ round) (pending_reads first before header round none s n reading p more is) in
+    judged_no_further first before now header p.found round n enough full p.judged small (subst (λ (x : List Item). StopsGathering first before now (p.found ++ round) x enough) is told)
+
+-- where it is gathered behind one that was judged good
+pub behind_no_further : (first before now : Option (List ℕ)) (header : Header) (round none : List Item) (s : Streamed) (n m enough : ℕ) (reading : Reading) (result : Option Checked) → IsBounded header → header.brief ≡ false → (p : IsPending header first before round s n reading) → JudgesRound header n m round reading result → result ≡ None → enough ≤ 256
+    → none ≡ [] → ((found : List Item) → IsReading first before (found ++ none) s readings.More → StopsGathering first before now found none enough) → ReadsNoFurther first before → ReadsNoFurther first now
+behind_no_further first before now header round none s n m enough reading result bound full p judges is small empty stops =
+    let told = stops (p.found ++ round) (pending_reads first before header round none s n reading p (pending_more header round n m reading result judges is) empty) in
+    let judged = pending_judged first before header round n m s reading result bound full p judges is in
+    let here : StopsGathering first before now ((p.found ++ round) ++ []) [] enough =
+    subst (λ (x : List Item). StopsGathering first before now x [] enough) (sym (append-nil (p.found ++ round))) (subst (λ (x : List Item). StopsGathering first before now (p.found ++ round) x enough) empty told) in
+    let few : length {A = Item} [] + enough ≤ 256 = omega (arith, small) in
+    judged_no_further first before now header (p.found ++ round) [] m enough full judged few here
+
+-- ---- a further round
+
+pub next_may : (first before : Option (List ℕ)) (header : Header) (none : List Item) (s : Streamed) (n : ℕ) → Underway header first before s n → none ≡ [] → MayGather before s none readings.More
+next_may first before header none s n u is = (first, u.all, subst (λ (x : List Item). HasRead first before x s) (sym (ap (λ (x : List Item). u.all ++ x) is ∙ append-nil u.all)) u.has_read)
+
+pub next_pending : (first before now : Option (List ℕ)) (header own : Header) (old new : Streamed) (n enough : ℕ) (none after slice : List Item) (reading : Reading) → own ≡ header → slice ≡ after → none ≡ [] → Underway header first before old n → Gathers before now old new none after enough readings.More reading
+    → IsPending own first now slice new n reading
+next_pending first before now header own old new n enough none after slice reading same at is u r =
+    let h : HasRead first before (u.all ++ none) old = subst (λ (x : List Item). HasRead first before x old) (sym (ap (λ (x : List Item). u.all ++ x) is ∙ append-nil u.all)) u.has_read in
+    let p : IsPending header first now after new n reading = record { found = u.all; judged = u.judged; reads = r.goes_on first u.all h } in
+    subst (λ (x : Header). IsPending x first now slice new n reading) (sym same) (subst (λ (x : List Item). IsPending header first now x new n reading) (sym at) p)
+
+pub next_no_further : (first before now : Option (List ℕ)) (header : Header) (none : List Item) (s : Streamed) (n enough : ℕ) → (u : Underway header first before s n) → header.brief ≡ false → none ≡ [] → enough ≤ 256
+    → ((found : List Item) → IsReading first before (found ++ none) s readings.More → StopsGathering first before now found none enough) → ReadsNoFurther first before → ReadsNoFurther first now
+next_no_further first before now header none s n enough u full is small stops =
+    let h : HasRead first before (u.all ++ none) s = subst (λ (x : List Item). HasRead first before x s) (sym (ap (λ (x : List Item). u.all ++ x) is ∙ append-nil u.all)) u.has_read in
+    let told = subst (λ (x : List Item). StopsGathering first before now u.all x enough) is (stops u.all h) in
+    let here : StopsGathering first before now (u.all ++ []) [] enough = subst (λ (x : List Item). StopsGathering first before now x [] enough) (sym (append-nil u.all)) told in
+    let few : length {A = Item} [] + enough ≤ 256 = omega (arith, small) in
+    judged_no_further first before now header u.all [] n enough full u.judged few here
+
+-- more was read up to here than before the round was begun
+pub next_smaller : (first now : Option (List ℕ)) (header : Header) (old middle new : Streamed) (n : ℕ) → old.count < middle.count → middle.count ≤ new.count → Underway header first now new n → 1099511627776 - new.count < 1099511627776 - old.count
+next_smaller first now header old middle new n up on u =
+    let count = u.has_read.count_is in
+    let most = u.has_read.at_most in
+    omega (arith, up, on, count, most)

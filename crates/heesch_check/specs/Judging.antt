@@ -1,5 +1,5 @@
 -- What is known of the items that were judged.
-use Rattle.std.specs.Prelude.{◌≡◌, ◌⊎◌, ◌↔◌, ℕ, ◌+◌, ◌/◌, ◌%◌, ◌<◌, ◌^◌, Bool, IsTrue, List, [], ◌∷◌, ◌++◌, length, slice_get, Option, Some, None, MatchOption}
+use Rattle.std.specs.Prelude.{◌≡◌, ◌⊎◌, ◌↔◌, ℕ, ◌+◌, ◌/◌, ◌%◌, ◌<◌, ◌≤◌, ◌^◌, Bool, IsTrue, List, [], ◌∷◌, ◌++◌, length, take, slice_get, Option, Some, None, MatchOption}
 use Rattle.std.specs.List.{AllByRecursion}
 use Rattle.heesch_audit.specs.Portions.{PortionHolds}
 use Rattle.heesch_grid.specs.declared.Cell.{Cell}
@@ -117,3 +117,10 @@ pub record AreJudged (header : Header) (found : List Item) (entries : ℕ) : Typ
   pub good : AreGood header 0 es
   pub count : entries ≡ length es
   pub ends_all : EndsAll header (length es) ends
+
+-- audits of the first of these items, each an entry in its place behind so many entries and those before it
+pub record AreAuditsBehind (header : Header) (before : ℕ) (found : List Item) (audits : List Bool) : Type 0 where
+  pub few : length audits ≤ length found
+  pub room : before + length audits < 2 ^ 32
+  pub placed : ArePlaced header before (take (length audits) found)
+  pub are : AreAudits (geometry_of header.grid) header.limits found audits

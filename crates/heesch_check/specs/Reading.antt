@@ -102,6 +102,10 @@ pub record LacksItems (first now : Option (List ℕ)) (found items : List Item) 
 abbrev pub StopsGathering : (first before now : Option (List ℕ)) (found items : List Item) (enough : ℕ) → Type 0
 StopsGathering first before now found items enough = (now ≡ before) ⊎ LacksItems first now found items enough
 
+-- whatever was read before, nothing was read behind these items, or before the last piece there weren't enough
+pub record StopsInTime (before now : Option (List ℕ)) (s : Streamed) (items : List Item) (enough : ℕ) : Type 0 where
+  pub stops : (first : Option (List ℕ)) (found : List Item) → IsReading first before (found ++ items) s readings.More → StopsGathering first before now found items enough
+
 -- no item was read yet, and more may follow
 abbrev pub MayRead : Option (List ℕ) → Streamed → Type 0
 MayRead now s = (first : Option (List ℕ)) × HasRead first now [] s
@@ -130,11 +134,22 @@ abbrev pub JudgesRound : Header → (before after : ℕ) → List Item → Readi
 JudgesRound header before after batch reading None = AreAllGood header before after batch × IsAnswerOf header after reading None
 JudgesRound header before after batch reading (Some answer) = StopsIn header before after batch answer ⊎ (AreAllGood header before after batch × IsAnswerOf header after reading (Some answer))
 
+-- behind items that were judged, so many entries among them, these ones were read, and reading came so far
+pub record IsPending (header : Header) (first now : Option (List ℕ)) (round : List Item) (s : Streamed) (entries : ℕ) (reading : Reading) : Type 0 where
+  pub found : List Item
+  pub judged : AreJudged header found entries
+  pub reads : IsReading first now (found ++ round) s reading
+
 -- items were read and judged, so many entries among them, and more may follow
 pub record Underway (header : Header) (first now : Option (List ℕ)) (s : Streamed) (entries : ℕ) : Type 0 where
   pub all : List Item
   pub has_read : HasRead first now all s
   pub judged : AreJudged header all entries
+
+-- a round has the answer of the whole input, or it was judged good and more may follow
+abbrev pub AnswersOrGoesOn : Header → (first now : Option (List ℕ)) → Streamed → ℕ → Option Checked → Type 0
+AnswersOrGoesOn header first now s entries None = Underway header first now s entries
+AnswersOrGoesOn header first now s entries (Some answer) = (input : List ℕ) × IsAllOf first input × IsChecked input answer
 
 -- whatever was read before, nothing but bytes was read behind it, or these are its first items, and reading came so far
 abbrev pub FirstReads : (before now : Option (List ℕ)) (old new : Streamed) → List Item → Reading → Type 0
@@ -142,7 +157,7 @@ FirstReads before now old new all reading = (first : Option (List ℕ)) → HasR
 
 -- ---- what is read of the source
 
--- how many items are gathered before they are judged
+-- how many items are gathered before all of them are judged
 abbrev pub round_size : ℕ
 round_size = 256
 

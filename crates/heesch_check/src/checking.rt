@@ -18,6 +18,7 @@ ghost use Rattle.heesch_check.specs.Reading.{
   ReadsNoFurther,
 };
 
+use crate::ahead::{FRONT, judge_from};
 use crate::answers::Checked;
 use crate::judging::{Judge, fault_behind};
 use crate::reading::{Reading, gather, read_first};
@@ -32,19 +33,17 @@ use heesch_stream::Stream;
 use std::alloc::Global;
 use std::thread::Threads;
 
-/// How many items are gathered before they are judged.
-const ROUND: usize = 256;
-
 /// Whether what the source has left is a valid catalogue, else its first invalid part.
 ///
 /// `TooLong` comes where the first 2^40 bytes decide no invalid part and more follow.
 ///
 /// Entries are judged by rounds: items are gathered from as many pieces as that takes until there are 256, the input is at
-/// fault or ends, or as much is read as may be; then the entries that are in their places are audited by the workers, each
-/// once, and the answer is that of the first item at fault. The gate is told of each entry's number, from 0. Where an entry
-/// of a round has the proofs of several triples, its entries are audited in portions, and the gate is told of the portions'
-/// numbers, from that of the round's first entry on. Reading stops with the round that decides the answer, and no more is
-/// held than the items of a round and those of one piece. The free list of a size is made once, by the workers, before the
+/// fault or ends, or as much is read as may be; the entries that are in their places are audited by the workers, each once,
+/// and the answer is that of the first item at fault. By one worker a round is 32 items; by more, the first 32 of a round are
+/// audited while the caller's thread gathers the others, which are audited beside them. The gate is told of each entry's
+/// number, from 0. Where one of the entries that are audited at once has the proofs of several triples, these are audited in
+/// portions, and the gate is told of the portions' numbers, from that of the first of them on. Reading stops with the round
+/// that decides the answer, and no more is held than the items of a round and those of one piece. The free list of a size is made once, by the workers, before the
 /// first round, but where the input is at fault with nothing whole behind its header, or with a brief entry.
 ///
 /// Errors: `Failed` only where the source's count of faults rose; `NoMemory` where memory was refused. At an error too the
@@ -71,7 +70,7 @@ pub fn check<T: Threads + Sync, R: Source, H: Gate + Sync>(
     if header.brief {
         return Ok(Checked::InvalidHeader);
     }
-    let reading = gather(&mut stream, source, &mut items, reading, ROUND + 1)?;
+    let reading = gather(&mut stream, source, &mut items, reading, FRONT + 1)?;
     if let Some(answer) = first_fault(items.as_slice(), reading) {
         return Ok(answer);
     }
@@ -232,15 +231,35 @@ fn check_behind<G: Grid + Send + Sync, T: Threads + Sync, R: Source, H: Gate + S
     ensures later { R.faults source.old ≤ R.faults source.new }
 {
     let first = items.as_slice();
-    let told = judge.judge_round(rt, alloc, &first[1..], reading, workers, gate)?;
+    let told = judge_from(
+        rt,
+        alloc,
+        source,
+        stream,
+        &mut judge,
+        &first[1..],
+        reading,
+        workers,
+        gate,
+    )?;
     drop(items);
     if let Some(answer) = told {
         return Ok(answer);
     }
     'rounds: loop {
-        let mut round = Seq::new(alloc);
-        let reading = gather(stream, source, &mut round, Reading::More, ROUND)?;
-        let answer = judge.judge_round(rt, alloc, round.as_slice(), reading, workers, gate)?;
+        let mut front = Seq::new(alloc);
+        let reading = gather(stream, source, &mut front, Reading::More, FRONT)?;
+        let answer = judge_from(
+            rt,
+            alloc,
+            source,
+            stream,
+            &mut judge,
+            front.as_slice(),
+            reading,
+            workers,
+            gate,
+        )?;
         if let Some(answer) = answer {
             return Ok(answer);
         }

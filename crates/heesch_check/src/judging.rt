@@ -8,7 +8,7 @@ ghost use Rattle.heesch_grammar.specs.Entries.{HoldsItsLines};
 ghost use Rattle.heesch_line.specs.Forms.{IsLine};
 ghost use Rattle.heesch_text.specs.Catalogue.{entry_lines};
 ghost use Rattle.heesch_check.specs.Catalogues.{IsInPlace, AreAll};
-ghost use Rattle.heesch_check.specs.Judging.{ArePlaced, HasShapes, IsFit, Judges, JudgesEntry, JudgesEnd, JudgesAll};
+ghost use Rattle.heesch_check.specs.Judging.{AreAuditsBehind, ArePlaced, HasShapes, IsFit, Judges, JudgesEntry, JudgesEnd, JudgesAll};
 ghost use Rattle.heesch_check.specs.Reading.{AnswersEarly, AnswersLong, IsAnswerOf, JudgesRound};
 
 use crate::answers::Checked;
@@ -147,14 +147,14 @@ impl<G: Grid + Send + Sync> Judge<G> {
         }
     }
 
-    /// How many entries there are with those that stand first among the items, each in its place.
-    fn placed(&self, items: &[Item]) -> u32
+    /// How many entries there are behind so many with those that stand first among the items, each in its place.
+    pub fn placed(&self, before: u32, items: &[Item]) -> u32
         requires { HasShapes self.now.header self.now.header.subject self.now.shapes }
-        ensures more { self.now.entries ≤ result }
-        ensures some { result ≤ self.now.entries + length items.now }
-        ensures placed { ArePlaced self.now.header self.now.entries (take (result - self.now.entries) items.now) }
+        ensures more { before ≤ result }
+        ensures some { result ≤ before + length items.now }
+        ensures placed { ArePlaced self.now.header before (take (result - before) items.now) }
     {
-        let mut entries = self.entries;
+        let mut entries = before;
         for item in items {
             let Item::Entry { line: _, entry } = item else {
                 return entries;
@@ -167,33 +167,49 @@ impl<G: Grid + Send + Sync> Judge<G> {
         entries
     }
 
-    /// Judges items, up to the first at fault, and gives its answer. The entries that stand first among them, each in its
-    /// place, are audited at once, each in portions.
-    fn judge_all<T: Threads + Sync, H: Gate + Sync>(
+    /// Whether each of the entries that stand first among the items, each in its place behind so many entries, is true.
+    pub fn audits_behind<T: Threads + Sync, H: Gate + Sync>(
+        &self,
+        rt: &T,
+        alloc: Global,
+        before: u32,
+        items: &[Item],
+        workers: u32,
+        gate: &H,
+    ) -> Result<Vec<bool>, NoMemory>
+        requires grid { geometry_of self.now.header.grid ≡ G.geometry }
+        requires shapes { HasShapes self.now.header self.now.header.subject self.now.shapes }
+        requires limits { AreLimits self.now.header.limits }
+        requires fit { AllByRecursion IsFit items.now }
+        requires workers { (1 ≤ workers) × (workers ≤ 64) }
+        ensures { IfOk result (λ audits. AreAuditsBehind self.now.header before items.now audits.items) }
+    {
+        let until = self.placed(before, items);
+        let limits = self.header.limits;
+        let handle = SharedHandle { rt };
+        audits::<G, SharedHandle<'_, T>, H>(
+            &handle, alloc, items, before, until, limits, workers, gate,
+        )
+    }
+
+    /// Judges items, up to the first at fault, and gives its answer, where those that stand first among them were audited.
+    pub fn judge_audited<T: Threads + Sync>(
         &mut self,
         rt: &T,
         alloc: Global,
         items: &[Item],
-        workers: u32,
-        gate: &H,
+        audits: &[bool],
     ) -> Result<Option<Checked>, NoMemory>
         requires grid { geometry_of self.old.header.grid ≡ G.geometry }
         requires shapes { HasShapes self.old.header self.old.header.subject self.old.shapes }
         requires limits { AreLimits self.old.header.limits }
         requires fit { AllByRecursion IsFit items.now }
-        requires workers { (1 ≤ workers) × (workers ≤ 64) }
+        requires audits { AreAuditsBehind self.old.header self.old.entries items.now audits.now }
         ensures judges { IfOk result (JudgesAll self.old.header self.old.entries self.new.entries items.now) }
         ensures kept { self.new ≡ record self.old { entries = self.new.entries } }
     {
-        let before = self.entries;
-        let until = self.placed(items);
-        let limits = self.header.limits;
-        let handle = SharedHandle { rt };
-        let audits = audits::<G, SharedHandle<'_, T>, H>(
-            &handle, alloc, items, before, until, limits, workers, gate,
-        )?;
-        let good = leading(&audits);
-        self.entries = before + good as u32;
+        let good = leading(audits);
+        self.entries += good as u32;
         if good < audits.len() {
             return Ok(Some(self.next_is_invalid()));
         }
@@ -261,7 +277,32 @@ impl<G: Grid + Send + Sync> Judge<G> {
         }
     }
 
-    /// Judges the items of a round, and then what reading came to behind them: the answer, unless more may follow.
+    /// Judges items that were audited, and then what reading came to behind them: the answer, unless more may follow.
+    pub fn judge_audited_round<T: Threads + Sync>(
+        &mut self,
+        rt: &T,
+        alloc: Global,
+        items: &[Item],
+        audits: &[bool],
+        reading: Reading,
+    ) -> Result<Option<Checked>, NoMemory>
+        requires grid { geometry_of self.old.header.grid ≡ G.geometry }
+        requires shapes { HasShapes self.old.header self.old.header.subject self.old.shapes }
+        requires limits { AreLimits self.old.header.limits }
+        requires fit { AllByRecursion IsFit items.now }
+        requires audits { AreAuditsBehind self.old.header self.old.entries items.now audits.now }
+        ensures judges { IfOk result (JudgesRound self.old.header self.old.entries self.new.entries items.now reading) }
+        ensures kept { self.new ≡ record self.old { entries = self.new.entries } }
+    {
+        let answer = self.judge_audited(rt, alloc, items, audits)?;
+        if answer.is_some() {
+            return Ok(answer);
+        }
+        Ok(self.answer(reading))
+    }
+
+    /// Judges the items of a round, the entries at once, each in portions, and then what reading came to behind them: the
+    /// answer, unless more may follow.
     pub fn judge_round<T: Threads + Sync, H: Gate + Sync>(
         &mut self,
         rt: &T,
@@ -279,10 +320,7 @@ impl<G: Grid + Send + Sync> Judge<G> {
         ensures judges { IfOk result (JudgesRound self.old.header self.old.entries self.new.entries items.now reading) }
         ensures kept { self.new ≡ record self.old { entries = self.new.entries } }
     {
-        let answer = self.judge_all(rt, alloc, items, workers, gate)?;
-        if answer.is_some() {
-            return Ok(answer);
-        }
-        Ok(self.answer(reading))
+        let audits = self.audits_behind(rt, alloc, self.entries, items, workers, gate)?;
+        self.judge_audited_round(rt, alloc, items, &audits, reading)
     }
 }

@@ -1,6 +1,7 @@
 //! Whether bytes are a valid catalogue.
 #![tactic(auto)]
 
+mod ahead;
 mod answers;
 mod checking;
 mod handle;

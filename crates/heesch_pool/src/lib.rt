@@ -5,6 +5,7 @@
 //! numbers, whatever the schedule.
 #![tactic(auto)]
 
+mod beside;
 mod gate;
 mod gather;
 mod job;
@@ -15,6 +16,7 @@ mod seats;
 mod tests;
 mod workers;
 
+pub use beside::run_beside;
 pub use gate::{Gate, Open};
 pub use job::{Answer, Job};
 pub use run::{run_all, run_span};

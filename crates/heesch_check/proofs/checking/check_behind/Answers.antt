@@ -1,94 +1,99 @@
-use Rattle.std.proofs.Common.{rules, sym, ap, subst, arith}
-use Rattle.heesch_check.specs.declared.reading.Reading.TheVariants as readings
-use Rattle.heesch_check.specs.Reading.{Gathers, MayGather}
-use Rattle.heesch_check.proofs.Leading.{bounded}
-use Rattle.heesch_check.proofs.Behind.{start_fits, start_answers, start_goes_on, next_may, next_fits, next_answers, next_goes_on, next_smaller, next_stops, next_no_further}
+use Rattle.std.proofs.Common.{◌≡◌, ap, arith, length, rules, subst}
+use Rattle.heesch_cert.specs.declared.header.Header.{Header}
+use Rattle.heesch_check.specs.Reading.{AnswersOrGoesOn, Underway}
+use Rattle.heesch_check.proofs.Behind.{next_may, next_no_further, next_pending, next_smaller, start_pending}
 use Rattle.heesch_check.proofs.checking.check_behind.Goals as goal
 
-pub judge_round-requires-clause-fit : goal.judge_round-requires-clause-fit
-judge_round-requires-clause-fit g c κs within =
-    rw c.as_slice-first.ensures (start_fits c.requires.underway.0 (g.R.Source.left c.args.source.now) c.args.judge.header c.args.items c.args.stream.now c.args.reading c.requires.begins c.requires.underway.1)
+pub judge_from-requires-clause-pending : goal.judge_from-requires-clause-pending
+judge_from-requires-clause-pending g c κs within =
+    rw c.as_slice-first.ensures (c.requires.underway.0, start_pending c.requires.underway.0 (g.R.Source.left c.args.source.now) c.args.judge.header c.args.items c.args.stream.now c.args.judge.entries c.args.reading c.requires.begins c.requires.none c.requires.underway.1)
 
 pub returns-in-Some-clause-ok : goal.returns-in-Some-clause-ok
 returns-in-Some-clause-ok g c first h =
-    start_answers first (g.R.Source.left c.args.source.now) c.args.judge.header c.args.items c.args.judge.entries c.judge_round.new.self.entries c.args.stream.now c.args.reading c.in_ok-told.told c.in-Some.answer
-    (bounded c.args.judge.header c.args.judge.shapes c.requires.shapes) c.requires.full c.requires.begins c.requires.none h (rw c.as_slice-first.ensures at c.in_ok-told.ensures.judges) c.in-Some.is
+    let p = start_pending first (g.R.Source.left c.args.source.now) c.args.judge.header c.args.items c.args.stream.now c.args.judge.entries c.args.reading c.requires.begins c.requires.none h in
+    subst (AnswersOrGoesOn c.args.judge.header first (g.R.Source.left c.judge_from.new.source) c.judge_from.new.stream c.judge_from.new.judge.entries) c.in-Some.is (c.in_ok-told.ensures.ok first (rw c.as_slice-first.ensures p))
+
+pub returns-in-Some-clause-no_further : goal.returns-in-Some-clause-no_further
+returns-in-Some-clause-no_further g c first h none =
+    let p = start_pending first (g.R.Source.left c.args.source.now) c.args.judge.header c.args.items c.args.stream.now c.args.judge.entries c.args.reading c.requires.begins c.requires.none h in
+    c.judge_from.ensures.no_further first (rw c.as_slice-first.ensures p) none
+
+pub returns-in_err-told-clause-no_further : goal.returns-in_err-told-clause-no_further
+returns-in_err-told-clause-no_further g c first h none =
+    let p = start_pending first (g.R.Source.left c.args.source.now) c.args.judge.header c.args.items c.args.stream.now c.args.judge.entries c.args.reading c.requires.begins c.requires.none h in
+    c.judge_from.ensures.no_further first (rw c.as_slice-first.ensures p) none
 
 pub rounds-init : goal.rounds-init
 rounds-init g c = record {
   kept = search rules;
   goes_on = λ first h.
-      start_goes_on first (g.R.Source.left c.args.source.now) c.args.judge.header c.args.items c.args.judge.entries c.judge_round.new.self.entries c.args.stream.now c.args.reading c.in_ok-told.told
-      (bounded c.args.judge.header c.args.judge.shapes c.requires.shapes) c.requires.full c.requires.begins c.requires.none h (rw c.as_slice-first.ensures at c.in_ok-told.ensures.judges) c.in_default.is;
-  no_further = λ first h none. none;
-  later = omega arith;
+      let p = start_pending first (g.R.Source.left c.args.source.now) c.args.judge.header c.args.items c.args.stream.now c.args.judge.entries c.args.reading c.requires.begins c.requires.none h in
+      subst (AnswersOrGoesOn c.args.judge.header first (g.R.Source.left c.judge_from.new.source) c.judge_from.new.stream c.judge_from.new.judge.entries) c.in_default.is (c.in_ok-told.ensures.ok first (rw c.as_slice-first.ensures p));
+  no_further = λ first h none.
+      let p = start_pending first (g.R.Source.left c.args.source.now) c.args.judge.header c.args.items c.args.stream.now c.args.judge.entries c.args.reading c.requires.begins c.requires.none h in
+      c.judge_from.ensures.no_further first (rw c.as_slice-first.ensures p) none;
+  later = c.judge_from.ensures.later;
 }
 
 pub gather-requires : goal.gather-requires
 gather-requires g c =
+    let first = c.requires.underway.0 in
     record {
-      may = subst (λ xs. MayGather (g.R.Source.left c.rounds.source) c.rounds.stream xs readings.More) (sym c.new-round.ensures)
-          (next_may c.requires.underway.0 (g.R.Source.left c.rounds.source) c.args.judge.header c.rounds.stream c.rounds.judge.entries (c.rounds.invariant.goes_on c.requires.underway.0 c.requires.underway.1));
+      may = next_may first (g.R.Source.left c.rounds.source) c.args.judge.header c.new-front.result c.rounds.stream c.rounds.judge.entries (c.rounds.invariant.goes_on first c.requires.underway.1) c.new-front.ensures;
     }
 
-pub judge_round-requires-in-rounds-clause-fit : goal.judge_round-requires-in-rounds-clause-fit
-judge_round-requires-in-rounds-clause-fit g c κs within =
-    let u = c.rounds.invariant.goes_on c.requires.underway.0 c.requires.underway.1 in
-    rw c.as_slice.ensures (next_fits c.requires.underway.0 (g.R.Source.left c.rounds.source) (g.R.Source.left c.gather.new.source) c.args.judge.header c.rounds.stream c.gather.new.stream c.rounds.judge.entries 256 c.gather.new.items c.in_ok-reading.reading u
-    (subst (λ xs. Gathers (g.R.Source.left c.rounds.source) (g.R.Source.left c.gather.new.source) c.rounds.stream c.gather.new.stream xs c.gather.new.items 256 readings.More c.in_ok-reading.reading) c.new-round.ensures c.in_ok-reading.ensures.ok))
+pub judge_from-requires-in-rounds-clause-pending : goal.judge_from-requires-in-rounds-clause-pending
+judge_from-requires-in-rounds-clause-pending g c κs within =
+    let first = c.requires.underway.0 in
+    (first, next_pending first (g.R.Source.left c.rounds.source) (g.R.Source.left c.gather.new.source) c.args.judge.header c.rounds.judge.header c.rounds.stream c.gather.new.stream c.rounds.judge.entries 32 c.new-front.result c.gather.new.items c.as_slice.result.now c.in_ok-reading.reading (ap (λ w. w.header) c.rounds.invariant.kept) c.as_slice.ensures c.new-front.ensures (c.rounds.invariant.goes_on first c.requires.underway.1) c.in_ok-reading.ensures.ok)
 
 pub returns-in-Some-answer-clause-ok : goal.returns-in-Some-answer-clause-ok
 returns-in-Some-answer-clause-ok g c first h =
-    let u = c.rounds.invariant.goes_on first h in
-    next_answers first (g.R.Source.left c.rounds.source) (g.R.Source.left c.gather.new.source) c.args.judge.header c.rounds.judge.header c.rounds.stream c.gather.new.stream c.rounds.judge.entries c.judge_round-in-rounds.new.self.entries 256 c.gather.new.items c.in_ok-reading.reading
-    c.in_ok-answer.answer c.in-Some-answer.answer (bounded c.args.judge.header c.args.judge.shapes c.requires.shapes) c.requires.full (ap (λ w. w.header) c.rounds.invariant.kept) u
-    (subst (λ xs. Gathers (g.R.Source.left c.rounds.source) (g.R.Source.left c.gather.new.source) c.rounds.stream c.gather.new.stream xs c.gather.new.items 256 readings.More c.in_ok-reading.reading) c.new-round.ensures c.in_ok-reading.ensures.ok)
-    (rw c.as_slice.ensures at c.in_ok-answer.ensures.judges) c.in-Some-answer.is
+    let p = next_pending first (g.R.Source.left c.rounds.source) (g.R.Source.left c.gather.new.source) c.args.judge.header c.rounds.judge.header c.rounds.stream c.gather.new.stream c.rounds.judge.entries 32 c.new-front.result c.gather.new.items c.as_slice.result.now c.in_ok-reading.reading (ap (λ w. w.header) c.rounds.invariant.kept) c.as_slice.ensures c.new-front.ensures (c.rounds.invariant.goes_on first h) c.in_ok-reading.ensures.ok in
+    let new = c.judge_from-in-rounds.new in
+    subst (AnswersOrGoesOn c.rounds.judge.header first (g.R.Source.left new.source) new.stream new.judge.entries) c.in-Some-answer.is (c.in_ok-answer.ensures.ok first p)
 
 pub rounds-smaller : goal.rounds-smaller
 rounds-smaller g c =
-    let u = c.rounds.invariant.goes_on c.requires.underway.0 c.requires.underway.1 in
-    next_smaller (g.R.Source.left c.rounds.source) (g.R.Source.left c.gather.new.source) c.args.judge.header c.rounds.judge.header c.rounds.stream c.gather.new.stream c.rounds.judge.entries c.judge_round-in-rounds.new.self.entries 256 c.gather.new.items c.in_ok-reading.reading
-    c.in_ok-answer.answer c.requires.underway.0 u (omega arith)
-    (subst (λ xs. Gathers (g.R.Source.left c.rounds.source) (g.R.Source.left c.gather.new.source) c.rounds.stream c.gather.new.stream xs c.gather.new.items 256 readings.More c.in_ok-reading.reading) c.new-round.ensures c.in_ok-reading.ensures.ok)
-    (rw c.as_slice.ensures at c.in_ok-answer.ensures.judges) c.in_default-answer.is
+    let first = c.requires.underway.0 in
+    let p = next_pending first (g.R.Source.left c.rounds.source) (g.R.Source.left c.gather.new.source) c.args.judge.header c.rounds.judge.header c.rounds.stream c.gather.new.stream c.rounds.judge.entries 32 c.new-front.result c.gather.new.items c.as_slice.result.now c.in_ok-reading.reading (ap (λ w. w.header) c.rounds.invariant.kept) c.as_slice.ensures c.new-front.ensures (c.rounds.invariant.goes_on first c.requires.underway.1) c.in_ok-reading.ensures.ok in
+    let new = c.judge_from-in-rounds.new in
+    let under = subst (AnswersOrGoesOn c.rounds.judge.header first (g.R.Source.left new.source) new.stream new.judge.entries) c.in_default-answer.is (c.in_ok-answer.ensures.ok first p) in
+    let grows = c.in_ok-answer.ensures.grows c.in_default-answer.is in
+    let none : length c.new-front.result ≡ 0 = ap length c.new-front.ensures in
+    let up = (c.in_ok-reading.ensures.ok.grows grows.0 (omega (arith, none))).0 in
+    next_smaller first (g.R.Source.left new.source) c.rounds.judge.header c.rounds.stream c.gather.new.stream new.stream new.judge.entries up grows.1 under
 
 pub rounds-preserved : goal.rounds-preserved
 rounds-preserved g c = record {
   kept = search rules;
   goes_on = λ first h.
-      let u = c.rounds.invariant.goes_on first h in
-      next_goes_on first (g.R.Source.left c.rounds.source) (g.R.Source.left c.gather.new.source) c.args.judge.header c.rounds.judge.header c.rounds.stream c.gather.new.stream c.rounds.judge.entries c.judge_round-in-rounds.new.self.entries 256 c.gather.new.items c.in_ok-reading.reading
-      c.in_ok-answer.answer (bounded c.args.judge.header c.args.judge.shapes c.requires.shapes) c.requires.full (ap (λ w. w.header) c.rounds.invariant.kept) u
-      (subst (λ xs. Gathers (g.R.Source.left c.rounds.source) (g.R.Source.left c.gather.new.source) c.rounds.stream c.gather.new.stream xs c.gather.new.items 256 readings.More c.in_ok-reading.reading) c.new-round.ensures c.in_ok-reading.ensures.ok)
-      (rw c.as_slice.ensures at c.in_ok-answer.ensures.judges) c.in_default-answer.is;
+      let p = next_pending first (g.R.Source.left c.rounds.source) (g.R.Source.left c.gather.new.source) c.args.judge.header c.rounds.judge.header c.rounds.stream c.gather.new.stream c.rounds.judge.entries 32 c.new-front.result c.gather.new.items c.as_slice.result.now c.in_ok-reading.reading (ap (λ w. w.header) c.rounds.invariant.kept) c.as_slice.ensures c.new-front.ensures (c.rounds.invariant.goes_on first h) c.in_ok-reading.ensures.ok in
+      let new = c.judge_from-in-rounds.new in
+      let under = subst (AnswersOrGoesOn c.rounds.judge.header first (g.R.Source.left new.source) new.stream new.judge.entries) c.in_default-answer.is (c.in_ok-answer.ensures.ok first p) in
+      subst (λ (x : Header). Underway x first (g.R.Source.left new.source) new.stream new.judge.entries) (ap (λ w. w.header) c.rounds.invariant.kept) under;
   no_further = λ first h none.
       let u = c.rounds.invariant.goes_on first h in
-      next_no_further first (g.R.Source.left c.rounds.source) (g.R.Source.left c.gather.new.source) c.args.judge.header c.rounds.stream c.rounds.judge.entries u c.requires.full
-      (next_stops first (g.R.Source.left c.rounds.source) (g.R.Source.left c.gather.new.source) c.args.judge.header c.rounds.stream c.rounds.judge.entries u _ c.new-round.ensures (c.gather.ensures.no_further first u.all)) (c.rounds.invariant.no_further first h none);
-  later = omega (arith, c.rounds.invariant.later, c.gather.ensures.later);
+      let p = next_pending first (g.R.Source.left c.rounds.source) (g.R.Source.left c.gather.new.source) c.args.judge.header c.rounds.judge.header c.rounds.stream c.gather.new.stream c.rounds.judge.entries 32 c.new-front.result c.gather.new.items c.as_slice.result.now c.in_ok-reading.reading (ap (λ w. w.header) c.rounds.invariant.kept) c.as_slice.ensures c.new-front.ensures u c.in_ok-reading.ensures.ok in
+      c.judge_from-in-rounds.ensures.no_further first p
+      (next_no_further first (g.R.Source.left c.rounds.source) (g.R.Source.left c.gather.new.source) c.args.judge.header c.new-front.result c.rounds.stream c.rounds.judge.entries 32 u c.requires.full c.new-front.ensures (omega arith) (c.gather.ensures.no_further first) (c.rounds.invariant.no_further first h none));
+  later = omega (arith, c.rounds.invariant.later, c.gather.ensures.later, c.judge_from-in-rounds.ensures.later);
 }
-
-pub returns-in-Some-clause-no_further : goal.returns-in-Some-clause-no_further
-returns-in-Some-clause-no_further g c first h none = none
 
 pub returns-in-Some-answer-clause-no_further : goal.returns-in-Some-answer-clause-no_further
 returns-in-Some-answer-clause-no_further g c first h none =
     let u = c.rounds.invariant.goes_on first h in
-    next_no_further first (g.R.Source.left c.rounds.source) (g.R.Source.left c.gather.new.source) c.args.judge.header c.rounds.stream c.rounds.judge.entries u c.requires.full
-    (next_stops first (g.R.Source.left c.rounds.source) (g.R.Source.left c.gather.new.source) c.args.judge.header c.rounds.stream c.rounds.judge.entries u _ c.new-round.ensures (c.gather.ensures.no_further first u.all)) (c.rounds.invariant.no_further first h none)
-
-pub returns-in_err-told-clause-no_further : goal.returns-in_err-told-clause-no_further
-returns-in_err-told-clause-no_further g c first h none = none
+    let p = next_pending first (g.R.Source.left c.rounds.source) (g.R.Source.left c.gather.new.source) c.args.judge.header c.rounds.judge.header c.rounds.stream c.gather.new.stream c.rounds.judge.entries 32 c.new-front.result c.gather.new.items c.as_slice.result.now c.in_ok-reading.reading (ap (λ w. w.header) c.rounds.invariant.kept) c.as_slice.ensures c.new-front.ensures u c.in_ok-reading.ensures.ok in
+    c.judge_from-in-rounds.ensures.no_further first p
+    (next_no_further first (g.R.Source.left c.rounds.source) (g.R.Source.left c.gather.new.source) c.args.judge.header c.new-front.result c.rounds.stream c.rounds.judge.entries 32 u c.requires.full c.new-front.ensures (omega arith) (c.gather.ensures.no_further first) (c.rounds.invariant.no_further first h none))
 
 pub returns-in_err-reading-clause-no_further : goal.returns-in_err-reading-clause-no_further
 returns-in_err-reading-clause-no_further g c first h none =
-    let u = c.rounds.invariant.goes_on first h in
-    next_no_further first (g.R.Source.left c.rounds.source) (g.R.Source.left c.gather.new.source) c.args.judge.header c.rounds.stream c.rounds.judge.entries u c.requires.full
-    (next_stops first (g.R.Source.left c.rounds.source) (g.R.Source.left c.gather.new.source) c.args.judge.header c.rounds.stream c.rounds.judge.entries u _ c.new-round.ensures (c.gather.ensures.no_further first u.all)) (c.rounds.invariant.no_further first h none)
+    next_no_further first (g.R.Source.left c.rounds.source) (g.R.Source.left c.gather.new.source) c.args.judge.header c.new-front.result c.rounds.stream c.rounds.judge.entries 32 (c.rounds.invariant.goes_on first h) c.requires.full c.new-front.ensures (omega arith) (c.gather.ensures.no_further first) (c.rounds.invariant.no_further first h none)
 
 pub returns-in_err-answer-clause-no_further : goal.returns-in_err-answer-clause-no_further
 returns-in_err-answer-clause-no_further g c first h none =
     let u = c.rounds.invariant.goes_on first h in
-    next_no_further first (g.R.Source.left c.rounds.source) (g.R.Source.left c.gather.new.source) c.args.judge.header c.rounds.stream c.rounds.judge.entries u c.requires.full
-    (next_stops first (g.R.Source.left c.rounds.source) (g.R.Source.left c.gather.new.source) c.args.judge.header c.rounds.stream c.rounds.judge.entries u _ c.new-round.ensures (c.gather.ensures.no_further first u.all)) (c.rounds.invariant.no_further first h none)
+    let p = next_pending first (g.R.Source.left c.rounds.source) (g.R.Source.left c.gather.new.source) c.args.judge.header c.rounds.judge.header c.rounds.stream c.gather.new.stream c.rounds.judge.entries 32 c.new-front.result c.gather.new.items c.as_slice.result.now c.in_ok-reading.reading (ap (λ w. w.header) c.rounds.invariant.kept) c.as_slice.ensures c.new-front.ensures u c.in_ok-reading.ensures.ok in
+    c.judge_from-in-rounds.ensures.no_further first p
+    (next_no_further first (g.R.Source.left c.rounds.source) (g.R.Source.left c.gather.new.source) c.args.judge.header c.new-front.result c.rounds.stream c.rounds.judge.entries 32 u c.requires.full c.new-front.ensures (omega arith) (c.gather.ensures.no_further first) (c.rounds.invariant.no_further first h none))

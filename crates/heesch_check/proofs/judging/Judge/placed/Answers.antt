@@ -9,6 +9,6 @@ loop-item-preserved g c =
     let header = c.args.self.now.header in
     record {
       count = omega (arith, c.loop-item.invariant.count);
-      placed = placed_on header c.args.self.now.entries c.loop-item.entries c.loop-item.item-index c.args.items.now c.item-item.result c.in-Entry.line c.in-Entry.entry c.loop-item.invariant.placed c.loop-item.invariant.count c.loop-item-test.true c.item-item.is c.in-Entry.is
+      placed = placed_on header c.args.before c.loop-item.entries c.loop-item.item-index c.args.items.now c.item-item.result c.in-Entry.line c.in-Entry.entry c.loop-item.invariant.placed c.loop-item.invariant.count c.loop-item-test.true c.item-item.is c.in-Entry.is
           (subst (IsInPlace (geometry_of header.grid) header.subject c.loop-item.entries) c.as_slice.ensures (c.if-not-is_in_place.ensures.place.0 refl));
     }
