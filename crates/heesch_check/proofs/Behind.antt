@@ -237,13 +237,13 @@ pub begin_on : (header : Header) (front after more : List Item) → after ≡ fr
 begin_on header front after more is b = (b.0 ++ more, is ∙ ap (λ (x : List Item). x ++ more) b.1)
 
 -- of the first round, with the header
-pub start_no_further : (first before now : Option (List ℕ)) (header : Header) (front : List Item) → header.brief ≡ false → BeginWith header front → StopsGathering first before now [] front 33 → ReadsNoFurther first before → ReadsNoFurther first now
+pub start_no_further : (first before now : Option (List ℕ)) (header : Header) (front : List Item) → header.brief ≡ false → BeginWith header front → StopsGathering first before now [] front 65 → ReadsNoFurther first before → ReadsNoFurther first now
 start_no_further first before now header front full b stops none = elim stops [
   | inl same ↦ subst (ReadsNoFurther first) (sym same) none
   | inr l ↦
       let all : front ++ l.more ≡ items.Header header ∷ (b.0 ++ l.more) = ap (λ (x : List Item). x ++ l.more) b.1 in
-      let few : length (items.Header header ∷ (b.0 ++ l.more)) < 33 = subst (λ (x : List Item). length x < 33) all l.few in
-      lacking first now [] front 33 l (record {
+      let few : length (items.Header header ∷ (b.0 ++ l.more)) < 65 = subst (λ (x : List Item). length x < 65) all l.few in
+      lacking first now [] front 65 l (record {
         header = header;
         entries = 0;
         front = items.Header header ∷ [];

@@ -27,7 +27,7 @@ use std::alloc::Global;
 use std::thread::Threads;
 
 /// How many items of a round are gathered before the first of them are audited.
-pub(crate) const FRONT: usize = 32;
+pub(crate) const FRONT: usize = 64;
 
 /// How many items a round has, unless one piece has more.
 const ROUND: usize = 256;

@@ -39,7 +39,7 @@ use std::thread::Threads;
 ///
 /// Entries are judged by rounds: items are gathered from as many pieces as that takes until there are 256, the input is at
 /// fault or ends, or as much is read as may be; the entries that are in their places are audited by the workers, each once,
-/// and the answer is that of the first item at fault. By one worker a round is 32 items; by more, the first 32 of a round are
+/// and the answer is that of the first item at fault. By one worker a round is 64 items; by more, the first 64 of a round are
 /// audited while the caller's thread gathers the others, which are audited beside them. The gate is told of each entry's
 /// number, from 0. Where one of the entries that are audited at once has the proofs of several triples, these are audited in
 /// portions, and the gate is told of the portions' numbers, from that of the first of them on. Reading stops with the round

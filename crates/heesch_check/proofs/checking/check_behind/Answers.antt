@@ -45,18 +45,18 @@ gather-requires g c =
 pub judge_from-requires-in-rounds-clause-pending : goal.judge_from-requires-in-rounds-clause-pending
 judge_from-requires-in-rounds-clause-pending g c κs within =
     let first = c.requires.underway.0 in
-    (first, next_pending first (g.R.Source.left c.rounds.source) (g.R.Source.left c.gather.new.source) c.args.judge.header c.rounds.judge.header c.rounds.stream c.gather.new.stream c.rounds.judge.entries 32 c.new-front.result c.gather.new.items c.as_slice.result.now c.in_ok-reading.reading (ap (λ w. w.header) c.rounds.invariant.kept) c.as_slice.ensures c.new-front.ensures (c.rounds.invariant.goes_on first c.requires.underway.1) c.in_ok-reading.ensures.ok)
+    (first, next_pending first (g.R.Source.left c.rounds.source) (g.R.Source.left c.gather.new.source) c.args.judge.header c.rounds.judge.header c.rounds.stream c.gather.new.stream c.rounds.judge.entries 64 c.new-front.result c.gather.new.items c.as_slice.result.now c.in_ok-reading.reading (ap (λ w. w.header) c.rounds.invariant.kept) c.as_slice.ensures c.new-front.ensures (c.rounds.invariant.goes_on first c.requires.underway.1) c.in_ok-reading.ensures.ok)
 
 pub returns-in-Some-answer-clause-ok : goal.returns-in-Some-answer-clause-ok
 returns-in-Some-answer-clause-ok g c first h =
-    let p = next_pending first (g.R.Source.left c.rounds.source) (g.R.Source.left c.gather.new.source) c.args.judge.header c.rounds.judge.header c.rounds.stream c.gather.new.stream c.rounds.judge.entries 32 c.new-front.result c.gather.new.items c.as_slice.result.now c.in_ok-reading.reading (ap (λ w. w.header) c.rounds.invariant.kept) c.as_slice.ensures c.new-front.ensures (c.rounds.invariant.goes_on first h) c.in_ok-reading.ensures.ok in
+    let p = next_pending first (g.R.Source.left c.rounds.source) (g.R.Source.left c.gather.new.source) c.args.judge.header c.rounds.judge.header c.rounds.stream c.gather.new.stream c.rounds.judge.entries 64 c.new-front.result c.gather.new.items c.as_slice.result.now c.in_ok-reading.reading (ap (λ w. w.header) c.rounds.invariant.kept) c.as_slice.ensures c.new-front.ensures (c.rounds.invariant.goes_on first h) c.in_ok-reading.ensures.ok in
     let new = c.judge_from-in-rounds.new in
     subst (AnswersOrGoesOn c.rounds.judge.header first (g.R.Source.left new.source) new.stream new.judge.entries) c.in-Some-answer.is (c.in_ok-answer.ensures.ok first p)
 
 pub rounds-smaller : goal.rounds-smaller
 rounds-smaller g c =
     let first = c.requires.underway.0 in
-    let p = next_pending first (g.R.Source.left c.rounds.source) (g.R.Source.left c.gather.new.source) c.args.judge.header c.rounds.judge.header c.rounds.stream c.gather.new.stream c.rounds.judge.entries 32 c.new-front.result c.gather.new.items c.as_slice.result.now c.in_ok-reading.reading (ap (λ w. w.header) c.rounds.invariant.kept) c.as_slice.ensures c.new-front.ensures (c.rounds.invariant.goes_on first c.requires.underway.1) c.in_ok-reading.ensures.ok in
+    let p = next_pending first (g.R.Source.left c.rounds.source) (g.R.Source.left c.gather.new.source) c.args.judge.header c.rounds.judge.header c.rounds.stream c.gather.new.stream c.rounds.judge.entries 64 c.new-front.result c.gather.new.items c.as_slice.result.now c.in_ok-reading.reading (ap (λ w. w.header) c.rounds.invariant.kept) c.as_slice.ensures c.new-front.ensures (c.rounds.invariant.goes_on first c.requires.underway.1) c.in_ok-reading.ensures.ok in
     let new = c.judge_from-in-rounds.new in
     let under = subst (AnswersOrGoesOn c.rounds.judge.header first (g.R.Source.left new.source) new.stream new.judge.entries) c.in_default-answer.is (c.in_ok-answer.ensures.ok first p) in
     let grows = c.in_ok-answer.ensures.grows c.in_default-answer.is in
@@ -68,32 +68,32 @@ pub rounds-preserved : goal.rounds-preserved
 rounds-preserved g c = record {
   kept = search rules;
   goes_on = λ first h.
-      let p = next_pending first (g.R.Source.left c.rounds.source) (g.R.Source.left c.gather.new.source) c.args.judge.header c.rounds.judge.header c.rounds.stream c.gather.new.stream c.rounds.judge.entries 32 c.new-front.result c.gather.new.items c.as_slice.result.now c.in_ok-reading.reading (ap (λ w. w.header) c.rounds.invariant.kept) c.as_slice.ensures c.new-front.ensures (c.rounds.invariant.goes_on first h) c.in_ok-reading.ensures.ok in
+      let p = next_pending first (g.R.Source.left c.rounds.source) (g.R.Source.left c.gather.new.source) c.args.judge.header c.rounds.judge.header c.rounds.stream c.gather.new.stream c.rounds.judge.entries 64 c.new-front.result c.gather.new.items c.as_slice.result.now c.in_ok-reading.reading (ap (λ w. w.header) c.rounds.invariant.kept) c.as_slice.ensures c.new-front.ensures (c.rounds.invariant.goes_on first h) c.in_ok-reading.ensures.ok in
       let new = c.judge_from-in-rounds.new in
       let under = subst (AnswersOrGoesOn c.rounds.judge.header first (g.R.Source.left new.source) new.stream new.judge.entries) c.in_default-answer.is (c.in_ok-answer.ensures.ok first p) in
       subst (λ (x : Header). Underway x first (g.R.Source.left new.source) new.stream new.judge.entries) (ap (λ w. w.header) c.rounds.invariant.kept) under;
   no_further = λ first h none.
       let u = c.rounds.invariant.goes_on first h in
-      let p = next_pending first (g.R.Source.left c.rounds.source) (g.R.Source.left c.gather.new.source) c.args.judge.header c.rounds.judge.header c.rounds.stream c.gather.new.stream c.rounds.judge.entries 32 c.new-front.result c.gather.new.items c.as_slice.result.now c.in_ok-reading.reading (ap (λ w. w.header) c.rounds.invariant.kept) c.as_slice.ensures c.new-front.ensures u c.in_ok-reading.ensures.ok in
+      let p = next_pending first (g.R.Source.left c.rounds.source) (g.R.Source.left c.gather.new.source) c.args.judge.header c.rounds.judge.header c.rounds.stream c.gather.new.stream c.rounds.judge.entries 64 c.new-front.result c.gather.new.items c.as_slice.result.now c.in_ok-reading.reading (ap (λ w. w.header) c.rounds.invariant.kept) c.as_slice.ensures c.new-front.ensures u c.in_ok-reading.ensures.ok in
       c.judge_from-in-rounds.ensures.no_further first p
-      (next_no_further first (g.R.Source.left c.rounds.source) (g.R.Source.left c.gather.new.source) c.args.judge.header c.new-front.result c.rounds.stream c.rounds.judge.entries 32 u c.requires.full c.new-front.ensures (omega arith) (c.gather.ensures.no_further first) (c.rounds.invariant.no_further first h none));
+      (next_no_further first (g.R.Source.left c.rounds.source) (g.R.Source.left c.gather.new.source) c.args.judge.header c.new-front.result c.rounds.stream c.rounds.judge.entries 64 u c.requires.full c.new-front.ensures (omega arith) (c.gather.ensures.no_further first) (c.rounds.invariant.no_further first h none));
   later = omega (arith, c.rounds.invariant.later, c.gather.ensures.later, c.judge_from-in-rounds.ensures.later);
 }
 
 pub returns-in-Some-answer-clause-no_further : goal.returns-in-Some-answer-clause-no_further
 returns-in-Some-answer-clause-no_further g c first h none =
     let u = c.rounds.invariant.goes_on first h in
-    let p = next_pending first (g.R.Source.left c.rounds.source) (g.R.Source.left c.gather.new.source) c.args.judge.header c.rounds.judge.header c.rounds.stream c.gather.new.stream c.rounds.judge.entries 32 c.new-front.result c.gather.new.items c.as_slice.result.now c.in_ok-reading.reading (ap (λ w. w.header) c.rounds.invariant.kept) c.as_slice.ensures c.new-front.ensures u c.in_ok-reading.ensures.ok in
+    let p = next_pending first (g.R.Source.left c.rounds.source) (g.R.Source.left c.gather.new.source) c.args.judge.header c.rounds.judge.header c.rounds.stream c.gather.new.stream c.rounds.judge.entries 64 c.new-front.result c.gather.new.items c.as_slice.result.now c.in_ok-reading.reading (ap (λ w. w.header) c.rounds.invariant.kept) c.as_slice.ensures c.new-front.ensures u c.in_ok-reading.ensures.ok in
     c.judge_from-in-rounds.ensures.no_further first p
-    (next_no_further first (g.R.Source.left c.rounds.source) (g.R.Source.left c.gather.new.source) c.args.judge.header c.new-front.result c.rounds.stream c.rounds.judge.entries 32 u c.requires.full c.new-front.ensures (omega arith) (c.gather.ensures.no_further first) (c.rounds.invariant.no_further first h none))
+    (next_no_further first (g.R.Source.left c.rounds.source) (g.R.Source.left c.gather.new.source) c.args.judge.header c.new-front.result c.rounds.stream c.rounds.judge.entries 64 u c.requires.full c.new-front.ensures (omega arith) (c.gather.ensures.no_further first) (c.rounds.invariant.no_further first h none))
 
 pub returns-in_err-reading-clause-no_further : goal.returns-in_err-reading-clause-no_further
 returns-in_err-reading-clause-no_further g c first h none =
-    next_no_further first (g.R.Source.left c.rounds.source) (g.R.Source.left c.gather.new.source) c.args.judge.header c.new-front.result c.rounds.stream c.rounds.judge.entries 32 (c.rounds.invariant.goes_on first h) c.requires.full c.new-front.ensures (omega arith) (c.gather.ensures.no_further first) (c.rounds.invariant.no_further first h none)
+    next_no_further first (g.R.Source.left c.rounds.source) (g.R.Source.left c.gather.new.source) c.args.judge.header c.new-front.result c.rounds.stream c.rounds.judge.entries 64 (c.rounds.invariant.goes_on first h) c.requires.full c.new-front.ensures (omega arith) (c.gather.ensures.no_further first) (c.rounds.invariant.no_further first h none)
 
 pub returns-in_err-answer-clause-no_further : goal.returns-in_err-answer-clause-no_further
 returns-in_err-answer-clause-no_further g c first h none =
     let u = c.rounds.invariant.goes_on first h in
-    let p = next_pending first (g.R.Source.left c.rounds.source) (g.R.Source.left c.gather.new.source) c.args.judge.header c.rounds.judge.header c.rounds.stream c.gather.new.stream c.rounds.judge.entries 32 c.new-front.result c.gather.new.items c.as_slice.result.now c.in_ok-reading.reading (ap (λ w. w.header) c.rounds.invariant.kept) c.as_slice.ensures c.new-front.ensures u c.in_ok-reading.ensures.ok in
+    let p = next_pending first (g.R.Source.left c.rounds.source) (g.R.Source.left c.gather.new.source) c.args.judge.header c.rounds.judge.header c.rounds.stream c.gather.new.stream c.rounds.judge.entries 64 c.new-front.result c.gather.new.items c.as_slice.result.now c.in_ok-reading.reading (ap (λ w. w.header) c.rounds.invariant.kept) c.as_slice.ensures c.new-front.ensures u c.in_ok-reading.ensures.ok in
     c.judge_from-in-rounds.ensures.no_further first p
-    (next_no_further first (g.R.Source.left c.rounds.source) (g.R.Source.left c.gather.new.source) c.args.judge.header c.new-front.result c.rounds.stream c.rounds.judge.entries 32 u c.requires.full c.new-front.ensures (omega arith) (c.gather.ensures.no_further first) (c.rounds.invariant.no_further first h none))
+    (next_no_further first (g.R.Source.left c.rounds.source) (g.R.Source.left c.gather.new.source) c.args.judge.header c.new-front.result c.rounds.stream c.rounds.judge.entries 64 u c.requires.full c.new-front.ensures (omega arith) (c.gather.ensures.no_further first) (c.rounds.invariant.no_further first h none))
