@@ -1,4 +1,3 @@
-use Rattle.std.proofs.Common.{◌++◌}
 use Rattle.heesch_check.proofs.Readings.{batch_fits}
 use Rattle.heesch_check.proofs.ahead.gather_and_audit.Goals as goal
 

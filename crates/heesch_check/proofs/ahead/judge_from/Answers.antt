@@ -1,7 +1,6 @@
-use Rattle.std.proofs.Common.{◌≡◌, ◌-◌, ◌∙◌, Bool, List, Vec, Global, ap, arith, length, subst, sym}
+use Rattle.std.proofs.Common.{◌≡◌, ◌-◌, ◌∙◌, Bool, List, ap, arith, length, subst, sym}
 use Rattle.std.specs.Prelude.{IfOk, Result}
 use Rattle.heesch_io.specs.declared.fault.IoStop.{IoStop}
-use Rattle.heesch_io.specs.declared.fault.NoMemory.{NoMemory}
 use Rattle.heesch_cert.specs.declared.header.Header.{Header}
 use Rattle.heesch_reader.specs.declared.item.Item.{Item}
 use Rattle.heesch_check.specs.declared.ahead.Rest.{Rest}

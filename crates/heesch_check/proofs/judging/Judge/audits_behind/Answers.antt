@@ -1,4 +1,4 @@
-use Rattle.std.proofs.Common.{◌≡◌, ◌+◌, ◌-◌, Bool, Vec, Global, take, arith, subst, sym}
+use Rattle.std.proofs.Common.{◌≡◌, ◌+◌, Bool, Vec, Global, take, arith, subst, sym}
 use Rattle.std.specs.Prelude.{vec_len}
 use Rattle.heesch_check.specs.Judging.{AreAudits, AreAuditsBehind, ArePlaced}
 use Rattle.heesch_check.proofs.Audits.{if_ok_both}

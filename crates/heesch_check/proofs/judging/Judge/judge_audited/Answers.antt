@@ -1,5 +1,4 @@
-use Rattle.std.proofs.Common.{◌≡◌, ◌+◌, ◌-◌, not, length, take, refl, sym, ap, subst, ◌∙◌, arith}
-use Rattle.std.specs.List.{position_or_len}
+use Rattle.std.proofs.Common.{◌+◌, length, take, refl, subst, arith}
 use Rattle.std.proofs.lemmas.Result.{IfOk-weaker}
 use Rattle.heesch_check.specs.Judging.{ArePlaced, JudgesAll}
 use Rattle.heesch_check.proofs.Audits.{round_stops, round_goes_on}
