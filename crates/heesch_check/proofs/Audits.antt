@@ -1,8 +1,9 @@
 -- The entries that stand first among the items of a round, and what their audits say.
-use Rattle.std.proofs.Common.{IfOk, Result, Ok, Err, ◌≡◌, ◌↔◌, ℕ, suc, ◌+◌, ◌-◌, ◌<◌, ◌≤◌, Bool, true, false, not, IsTrue, List, [], ◌∷◌, ◌++◌, length, get_or, take, drop, Option, Some, None, refl, sym, ap, subst, ◌∙◌, arith}
+use Rattle.std.proofs.Common.{IfOk, Result, Ok, Err, ◌≡◌, ◌↔◌, ℕ, zero, suc, ◌+◌, ◌-◌, ◌<◌, ◌≤◌, Bool, true, false, not, IsTrue, List, [], ◌∷◌, ◌++◌, length, get_or, take, drop, Option, Some, None, refl, sym, ap, subst, ◌∙◌, arith}
 use Rattle.std.specs.List.{AllByRecursion, position_or_len}
 use Rattle.std.proofs.lemmas.Bool.{false≢true}
-use Rattle.std.proofs.lemmas.List.{take_more, take_all, take-append-drop, length-take-le, length-drop}
+use Rattle.std.proofs.Math.Seq.{take-append-add}
+use Rattle.std.proofs.lemmas.List.{take_more, take_all, take-append-drop, length-append, length-take-le, length-drop}
 use Rattle.std.proofs.lemmas.List.Sums.{prefix_len-le-length}
 use Rattle.heesch_cert.specs.declared.entry.Entry.{Entry}
 use Rattle.heesch_cert.specs.declared.header.Header.{Header}
@@ -14,17 +15,18 @@ use Rattle.heesch_reader.specs.declared.item.Item.TheVariants as items
 use Rattle.heesch_check.specs.declared.answers.Checked.{Checked}
 use Rattle.heesch_check.specs.declared.answers.Checked.TheVariants as answers
 use Rattle.heesch_check.specs.Catalogues.{IsInPlace, IsGoodEntry}
-use Rattle.heesch_check.specs.Judging.{IsFit, Judges, AreAllGood, StopsIn, JudgesAll, ArePlaced, AreAudits}
+use Rattle.heesch_check.specs.Judging.{IsFit, Judges, AreAllGood, StopsIn, JudgesAll, ArePlaced, AreAudits, AreAuditsBehind}
 
 -- ---- entries in their places
 
-one_more_placed : (header : Header) (before : ℕ) (xs : List Item) (line : ℕ) (e : Entry) → ArePlaced header before xs → IsInPlace (geometry_of header.grid) header.subject (before + length xs) e.cells → ArePlaced header before (xs ++ items.Entry line e ∷ [])
-one_more_placed header before [] line e placed here = (subst (λ (n : ℕ). IsInPlace (geometry_of header.grid) header.subject n e.cells) (omega arith) here, tt)
-one_more_placed header before (items.Entry at x ∷ xs) line e placed here =
-    (placed.0, one_more_placed header (before + 1) xs line e placed.1 (subst (λ (n : ℕ). IsInPlace (geometry_of header.grid) header.subject n e.cells) (omega arith) here))
-one_more_placed header before (items.Header other ∷ xs) line e placed here = absurd placed
-one_more_placed header before (items.Brief at cells verdict ∷ xs) line e placed here = absurd placed
-one_more_placed header before (items.End count ∷ xs) line e placed here = absurd placed
+-- entries in their places, and others in their places behind them
+pub placed_append : (header : Header) (before : ℕ) (xs ys : List Item) → ArePlaced header before xs → ArePlaced header (before + length xs) ys → ArePlaced header before (xs ++ ys)
+placed_append header before [] ys placed behind = subst (λ (n : ℕ). ArePlaced header n ys) (omega arith) behind
+placed_append header before (items.Entry at x ∷ xs) ys placed behind =
+    (placed.0, placed_append header (before + 1) xs ys placed.1 (subst (λ (n : ℕ). ArePlaced header n ys) (omega arith) behind))
+placed_append header before (items.Header other ∷ xs) ys placed behind = absurd placed
+placed_append header before (items.Brief at cells verdict ∷ xs) ys placed behind = absurd placed
+placed_append header before (items.End count ∷ xs) ys placed behind = absurd placed
 
 -- one more entry is in its place
 pub placed_on : (header : Header) (before entries i : ℕ) (found : List Item) (item : Item) (line : ℕ) (e : Entry) → ArePlaced header before (take i found) → entries ≡ before + i → i < length found → item ≡ get_or found i item → item ≡ items.Entry line e
@@ -33,7 +35,7 @@ placed_on header before entries i found item line e placed is lt at kind here =
     let many : length (take i found) ≡ i = length-take-le i found (omega (arith, lt)) in
     let more : take (i + 1) found ≡ take i found ++ items.Entry line e ∷ [] = take_more found i item lt ∙ ap (λ (x : Item). take i found ++ x ∷ []) (sym at ∙ kind) in
     subst (ArePlaced header before) (sym more)
-    (one_more_placed header before (take i found) line e placed (subst (λ (n : ℕ). IsInPlace (geometry_of header.grid) header.subject n e.cells) (omega (arith, is, many)) here))
+    (placed_append header before (take i found) (items.Entry line e ∷ []) placed (subst (λ (n : ℕ). IsInPlace (geometry_of header.grid) header.subject n e.cells) (omega (arith, is, many)) here, tt))
 
 -- so far the entries are those behind which the first ones stand
 pub placed_far : (header : Header) (before entries i : ℕ) (found : List Item) → ArePlaced header before (take i found) → entries ≡ before + i → ArePlaced header before (take (entries - before) found)
@@ -166,3 +168,30 @@ round_goes_on header own before until good middle after found audits result same
 pub if_ok_both : {X E : Type 0} (P Q R : X → Type 0) → ((x : X) → P x → Q x → R x) → (r : Result X E) → IfOk r P → IfOk r Q → IfOk r R
 if_ok_both P Q R both (Ok x) p q = both x p q
 if_ok_both P Q R both (Err e) p q = tt
+
+-- ---- audits of items that stand behind others
+
+audits_append : (g : Geometry) (limits : Limits) (front rest : List Item) (a b : List Bool) → length a ≡ length front → AreAudits g limits front a → AreAudits g limits rest b → AreAudits g limits (front ++ rest) (a ++ b)
+audits_append g limits [] rest [] b many own behind i holds at = behind i holds at
+audits_append g limits [] rest (x ∷ a) b many own behind i holds at = absurd cc
+audits_append g limits (item ∷ front) rest [] b many own behind i holds at = absurd cc
+audits_append g limits (item ∷ front) rest (x ∷ a) b many own behind zero holds at = λ line e there. own zero holds at line e there
+audits_append g limits (item ∷ front) rest (x ∷ a) b many own behind (suc i) holds at =
+    audits_append g limits front rest a b (omega (arith, many)) (λ j. own (suc j)) behind i holds at
+
+-- where all of the first items were audited, and behind them some of the others, these are audits of them together
+pub audits_together : (header : Header) (before until : ℕ) (front rest : List Item) (a b : List Bool) → before + length a ≡ until → length a ≡ length front → AreAuditsBehind header before front a → AreAuditsBehind header until rest b → AreAuditsBehind header before (front ++ rest) (a ++ b)
+audits_together header before until front rest a b until_is all own others =
+    let few = others.few in
+    let room = others.room in
+    let both = length-append a b in
+    let items_of_both = length-append front rest in
+    let first : take (length (a ++ b)) (front ++ rest) ≡ front ++ take (length b) rest = ap (λ (n : ℕ). take n (front ++ rest)) (omega (arith, both, all)) ∙ take-append-add front rest (length b) in
+    let placed : ArePlaced header before front = subst (ArePlaced header before) (take_all (length a) front (omega (arith, all))) own.placed in
+    let behind : ArePlaced header (before + length front) (take (length b) rest) = subst (λ (n : ℕ). ArePlaced header n (take (length b) rest)) (omega (arith, until_is, all)) others.placed in
+    record {
+      few = omega (arith, both, items_of_both, all, few);
+      room = omega (arith, both, until_is, room);
+      placed = subst (ArePlaced header before) (sym first) (placed_append header before front (take (length b) rest) placed behind);
+      are = audits_append (geometry_of header.grid) header.limits front rest a b all own.are others.are;
+    }

@@ -18,7 +18,7 @@ use Rattle.heesch_check.specs.declared.answers.Checked.{Checked}
 use Rattle.heesch_check.specs.declared.reading.Reading.{Reading}
 use Rattle.heesch_check.specs.declared.reading.Reading.TheVariants as readings
 use Rattle.heesch_check.specs.Judging.{AreAllGood, ArePlaced, IsFit, AreJudged, JudgesAll}
-use Rattle.heesch_check.specs.Reading.{AnswersOrGoesOn, IsAnswerOf, IsReading, Reads, Gathers, LacksItems, StopsGathering, MayGather, LackRound, JudgesRound, IsPending, Underway, BeginWith, ReadsNoFurther}
+use Rattle.heesch_check.specs.Reading.{IsAnswerOf, IsReading, Reads, Gathers, LacksItems, StopsGathering, StopsInTime, MayGather, LackRound, JudgesRound, IsPending, BeginWith, ReadsNoFurther}
 use Rattle.heesch_check.proofs.Leading.{IsBounded}
 use Rattle.heesch_check.proofs.Batches.{batch_settled, stop_settled, stop_decided}
 use Rattle.heesch_check.proofs.Readings.{Answers, all_right, as_reading, reading_answers, batch_fits}
@@ -79,6 +79,113 @@ lacks_items first before now found front gathered s enough h m few piece = recor
   few = subst (λ (x : List Item). length x < enough) m.1 few;
 }
 
+-- ---- what is gathered in two steps
+
+-- items gathered behind those that were
+pub gathers_on : (before middle now : Option (List ℕ)) (old mid new : Streamed) (items front after : List Item) (some enough : ℕ) (from step to : Reading) → Gathers before middle old mid items front some from step → Gathers middle now mid new front after enough step to
+    → Gathers before now old new items after enough from to
+gathers_on before middle now old mid new items front after some enough from step to r q = record {
+  more = r.more ++ q.more;
+  after_is = q.after_is ∙ ap (λ (x : List Item). x ++ q.more) r.after_is ∙ append_assoc items r.more q.more;
+  are_enough = q.are_enough;
+  from_more = λ e.
+      let on = q.from_more e in
+      let is = r.from_more on.0 in
+      (is.0, omega (arith, is.1, on.1));
+  grown = λ e.
+      let on = q.from_more e in
+      let is = r.from_more on.0 in
+      elim (q.grown e) [
+        | inl none ↦ elim (r.grown on.0) [
+            | inl alone ↦ inl (none ∙ alone)
+            | inr grows ↦ inr (omega (arith, grows, on.1))
+          ]
+        | inr grows ↦ inr (omega (arith, grows, is.1))
+      ];
+  goes_on = λ first found h. q.goes_on first found (r.goes_on first found h);
+}
+
+-- items that were gathered by themselves stand behind those before them
+pub gathers_behind : (before now : Option (List ℕ)) (old new : Streamed) (front rest : List Item) (left enough : ℕ) (from to : Reading) → enough ≤ length front + left → Gathers before now old new [] rest left from to
+    → Gathers before now old new front (front ++ rest) enough from to
+gathers_behind before now old new front rest left enough from to fit q = record {
+  more = rest;
+  after_is = refl;
+  are_enough = λ e.
+      let many = q.are_enough e in
+      let both = length-append front rest in
+      omega (arith, many, both, fit);
+  from_more = q.from_more;
+  grown = λ e. elim (q.grown e) [
+    | inl none ↦ inl (ap (λ (x : List Item). front ++ x) none ∙ append-nil front)
+    | inr grows ↦ inr grows
+  ];
+  goes_on = λ first found h.
+      let alone : IsReading first before ((found ++ front) ++ []) old from = subst (λ (x : List Item). IsReading first before x old from) (sym (append-nil (found ++ front))) h in
+      subst (λ (x : List Item). IsReading first now x new to) (append_assoc found front rest) (q.goes_on first (found ++ front) alone);
+}
+
+-- where more may follow, others may be gathered by themselves
+pub may_go_on : (now : Option (List ℕ)) (items : List Item) (s : Streamed) (reading : Reading) → MayGather now s items reading → reading ≡ readings.More → MayGather now s [] readings.More
+may_go_on now items s reading m more =
+    let read : IsReading m.0 now (m.1 ++ items) s readings.More = subst (λ (x : Reading). IsReading m.0 now (m.1 ++ items) s x) more m.2 in
+    (m.0, m.1 ++ items, subst (λ (x : List Item). IsReading m.0 now x s readings.More) (sym (append-nil (m.1 ++ items))) read)
+
+-- fewer items would have been enough
+pub stops_before : (first before now : Option (List ℕ)) (found items : List Item) (some enough : ℕ) → some ≤ enough → StopsGathering first before now found items some → StopsGathering first before now found items enough
+stops_before first before now found items some enough fit stops = elim stops [
+  | inl same ↦ inl same
+  | inr l ↦
+      let few = l.few in
+      inr (record { bytes = l.bytes; last = l.last; consumed = l.consumed; one_piece = l.one_piece; more = l.more; begins = l.begins; few = omega (arith, few, fit) })
+]
+
+-- reading went on behind the items that were gathered
+pub stops_on : (first before middle now : Option (List ℕ)) (found items front : List Item) (some enough : ℕ) → some ≤ enough → (more : List Item) × (front ≡ items ++ more) → StopsGathering first before middle found items some → StopsGathering first middle now found front enough
+    → StopsGathering first before now found items enough
+stops_on first before middle now found items front some enough fit m stops on = elim on [
+  | inl same ↦ subst (λ (x : Option (List ℕ)). StopsGathering first before x found items enough) (sym same) (stops_before first before middle found items some enough fit stops)
+  | inr l ↦
+      let all : front ++ l.more ≡ items ++ (m.0 ++ l.more) = ap (λ (x : List Item). x ++ l.more) m.1 ∙ append_assoc items m.0 l.more in
+      inr (record {
+        bytes = l.bytes;
+        last = l.last;
+        consumed = l.consumed;
+        one_piece = l.one_piece;
+        more = m.0 ++ l.more;
+        begins = subst (λ (x : List Item). Begins l.bytes (found ++ x)) all l.begins;
+        few = subst (λ (x : List Item). length x < enough) all l.few;
+      })
+]
+
+-- items that were gathered by themselves stand behind those before them
+pub stops_behind : (first before now : Option (List ℕ)) (found front : List Item) (left enough : ℕ) → length front + left ≤ enough → StopsGathering first before now (found ++ front) [] left → StopsGathering first before now found front enough
+stops_behind first before now found front left enough fit stops = elim stops [
+  | inl same ↦ inl same
+  | inr l ↦
+      let few = l.few in
+      let both = length-append front l.more in
+      inr (record {
+        bytes = l.bytes;
+        last = l.last;
+        consumed = l.consumed;
+        one_piece = l.one_piece;
+        more = l.more;
+        begins = subst (Begins l.bytes) (append_assoc found front l.more) l.begins;
+        few = omega (arith, few, both, fit);
+      })
+]
+
+-- what is gathered beside them stands behind the first items, of which fewer would have been enough
+pub stops_beside : (before middle now : Option (List ℕ)) (old mid : Streamed) (items front : List Item) (some enough left : ℕ) (from step : Reading) → step ≡ readings.More → some ≤ enough → length front + left ≤ enough → Gathers before middle old mid items front some from step
+    → ((first : Option (List ℕ)) (found : List Item) → IsReading first before (found ++ items) old from → StopsGathering first before middle found items some) → StopsInTime middle now mid [] readings.More left → StopsInTime before now old items from enough
+stops_beside before middle now old mid items front some enough left from step more fit room r stops rest = record {
+  stops = λ first found h.
+      let on : IsReading first middle (found ++ front) mid readings.More = subst (λ (x : Reading). IsReading first middle (found ++ front) mid x) more (r.goes_on first found h) in
+      let alone : IsReading first middle ((found ++ front) ++ []) mid readings.More = subst (λ (x : List Item). IsReading first middle x mid readings.More) (sym (append-nil (found ++ front))) on in
+      stops_on first before middle now found items front some enough fit (r.more, r.after_is) (stops first found h) (stops_behind first middle now found front left enough room (rest.stops first (found ++ front) alone));
+}
+
 -- ---- the judgement of items behind others
 
 -- a header alone was judged
@@ -125,91 +232,50 @@ pending_judged first now header round n m s reading result bound full p judges i
     let a = as_reading first now (p.found ++ round) s reading p.reads in
     batch_settled a.input header p.found round n m a.held a.tail a.reached bound full p.judged a.read (subst (JudgesRound header n m round reading) is judges).0
 
--- where more may follow, nothing is gathered behind it yet
-pub pending_reads : (first now : Option (List ℕ)) (header : Header) (round none : List Item) (s : Streamed) (n : ℕ) (reading : Reading) → (p : IsPending header first now round s n reading) → reading ≡ readings.More → none ≡ [] → IsReading first now ((p.found ++ round) ++ none) s readings.More
-pending_reads first now header round none s n reading p more is =
-    let h : HasRead first now (p.found ++ round) s = subst (λ (x : Reading). IsReading first now (p.found ++ round) s x) more p.reads in
-    subst (λ (x : List Item). HasRead first now x s) (sym (ap (λ (x : List Item). (p.found ++ round) ++ x) is ∙ append-nil (p.found ++ round))) h
+-- more of it is gathered
+pub pending_gathered : (first before now : Option (List ℕ)) (header : Header) (items after : List Item) (n enough : ℕ) (old new : Streamed) (from to : Reading) → IsPending header first before items old n from → Gathers before now old new items after enough from to → IsPending header first now after new n to
+pending_gathered first before now header items after n enough old new from to p r = record { found = p.found; judged = p.judged; reads = r.goes_on first p.found p.reads }
 
-pub pending_may : (first now : Option (List ℕ)) (header : Header) (round none : List Item) (s : Streamed) (n : ℕ) (reading : Reading) → IsPending header first now round s n reading → reading ≡ readings.More → none ≡ [] → MayGather now s none readings.More
-pending_may first now header round none s n reading p more is = (first, p.found ++ round, pending_reads first now header round none s n reading p more is)
+-- it was judged good, more may follow, and nothing is read behind it yet
+pub pending_goes_on : (first now : Option (List ℕ)) (header : Header) (round none : List Item) (n m : ℕ) (s : Streamed) (reading : Reading) (result : Option Checked) → IsBounded header → header.brief ≡ false → none ≡ []
+    → IsPending header first now round s n reading → JudgesRound header n m round reading result → result ≡ None → IsPending header first now none s m readings.More
+pending_goes_on first now header round none n m s reading result bound full empty p judges is =
+    let more : IsReading first now (p.found ++ round) s readings.More = subst (λ (x : Reading). IsReading first now (p.found ++ round) s x) (pending_more header round n m reading result judges is) p.reads in
+    record {
+      found = p.found ++ round;
+      judged = pending_judged first now header round n m s reading result bound full p judges is;
+      reads = subst (λ (x : List Item). IsReading first now x s readings.More) (sym (ap (λ (x : List Item). (p.found ++ round) ++ x) empty ∙ append-nil (p.found ++ round))) more;
+    }
 
--- the next round is gathered behind it
-pub pending_next : (first before now : Option (List ℕ)) (header : Header) (round none after : List Item) (n m enough : ℕ) (old new : Streamed) (reading to : Reading) (result : Option Checked) → IsBounded header → header.brief ≡ false
-    → IsPending header first before round old n reading → JudgesRound header n m round reading result → result ≡ None → none ≡ [] → Gathers before now old new none after enough readings.More to → IsPending header first now after new m to
-pending_next first before now header round none after n m enough old new reading to result bound full p judges is empty r = record {
-  found = p.found ++ round;
-  judged = pending_judged first before header round n m old reading result bound full p judges is;
-  reads = r.goes_on first (p.found ++ round) (pending_reads first before header round none old n reading p (pending_more header round n m reading result judges is) empty);
-}
-
--- more was read where more may follow
-pub gathers_grow : (before now : Option (List ℕ)) (none after : List Item) (enough : ℕ) (old new : Streamed) (to : Reading) → none ≡ [] → 0 < enough → Gathers before now old new none after enough readings.More to → to ≡ readings.More → old.count < new.count
-gathers_grow before now none after enough old new to empty some r more =
-    let few : length none ≡ 0 = ap length empty in
-    (r.grows more (omega (arith, few, some))).0
-
--- it was judged good, and more may follow
-pub pending_goes_on : (first now : Option (List ℕ)) (header : Header) (round : List Item) (n m : ℕ) (s : Streamed) (reading : Reading) (result : Option Checked) → IsBounded header → header.brief ≡ false
-    → IsPending header first now round s n reading → JudgesRound header n m round reading result → result ≡ None → Underway header first now s m
-pending_goes_on first now header round n m s reading result bound full p judges is = record {
-  all = p.found ++ round;
-  has_read = subst (λ (x : Reading). IsReading first now (p.found ++ round) s x) (pending_more header round n m reading result judges is) p.reads;
-  judged = pending_judged first now header round n m s reading result bound full p judges is;
-}
-
--- where each of the items is an entry in its place and judged good, there are as many more entries
-pub good_counts : (header : Header) (n m : ℕ) (found : List Item) → ArePlaced header n found → AreAllGood header n m found → m ≡ n + length found
-good_counts header n m [] placed good = omega (arith, good)
-good_counts header n m (items.Entry line e ∷ found) placed good =
-    let up : good.0 ≡ n + 1 = good.1.1 in
-    let rest = good_counts header (n + 1) m found placed.1 (subst (λ (x : ℕ). AreAllGood header x m found) up good.2) in
-    omega (arith, rest)
-good_counts header n m (items.Brief line cells verdict ∷ found) placed good = absurd placed
-good_counts header n m (items.End count ∷ found) placed good = absurd placed
-good_counts header n m (items.Header other ∷ found) placed good = absurd placed
-
-pub all_behind : (header : Header) (n m behind : ℕ) (front : List Item) (told : Option Checked) → n ≤ behind → behind - n ≡ length front → ArePlaced header n (take (behind - n) front) → JudgesAll header n m front told → told ≡ None → m ≡ behind
-all_behind header n m behind front told more all placed judges none =
-    let whole : take (behind - n) front ≡ front = ap (λ (k : ℕ). take k front) all ∙ take_all (length front) front (omega arith) in
-    let counts = good_counts header n m front (subst (ArePlaced header n) whole placed) (subst (JudgesAll header n m front) none judges) in
-    omega (arith, counts, all, more)
-
-pub none_of : (o : Option Checked) → is_some o ≡ false → o ≡ None
-none_of None e = refl
-none_of (Some x) e = absurd (true≢false e)
-
--- what a round came to
-pub pending_told : (first now : Option (List ℕ)) (header : Header) (round : List Item) (n m : ℕ) (s : Streamed) (reading : Reading) (told : Option Checked) → IsBounded header → header.brief ≡ false
-    → IsPending header first now round s n reading → JudgesRound header n m round reading told → AnswersOrGoesOn header first now s m told
-pending_told first now header round n m s reading None bound full p judges = pending_goes_on first now header round n m s reading None bound full p judges refl
-pending_told first now header round n m s reading (Some answer) bound full p judges = pending_answers first now header round n m s reading (Some answer) answer bound full p judges refl
-
--- where its first items have the answer
-pub front_told : (first before now : Option (List ℕ)) (header : Header) (front : List Item) (n m : ℕ) (old new : Streamed) (told : Option Checked) → IsBounded header → header.brief ≡ false
-    → IsPending header first before front old n readings.More → JudgesAll header n m front told → is_some told ≡ true → AnswersOrGoesOn header first now new m told
-front_told first before now header front n m old new None bound full p judges is = absurd (true≢false (sym is))
-front_told first before now header front n m old new (Some answer) bound full p judges is = pending_answers first before header front n m old readings.More (Some answer) answer bound full p (inl judges) refl
-
--- where they have none, the rest is pending behind them
-pub rest_pending : (first before now : Option (List ℕ)) (header : Header) (front none rest : List Item) (n m enough : ℕ) (old new : Streamed) (to : Reading) (told : Option Checked) → IsBounded header → header.brief ≡ false
-    → IsPending header first before front old n readings.More → JudgesAll header n m front told → told ≡ None → none ≡ [] → Gathers before now old new none rest enough readings.More to → IsPending header first now rest new m to
-rest_pending first before now header front none rest n m enough old new to told bound full p judges is empty r =
-    pending_next first before now header front none rest n m enough old new readings.More to None bound full p (subst (JudgesAll header n m front) is judges, refl) refl empty r
+-- bytes are left to read, or items to judge, fewer than before
+pub pending_smaller : (first before now : Option (List ℕ)) (header : Header) (items after none : List Item) (n enough : ℕ) (old new : Streamed) (from to : Reading) → none ≡ [] → 0 < enough → to ≡ readings.More → IsPending header first before items old n from → Gathers before now old new items after enough from to
+    → 1099511627776 - new.count + length none < 1099511627776 - old.count + length items
+pending_smaller first before now header items after none n enough old new from to empty some more p r =
+    let read : HasRead first now (p.found ++ after) new = subst (λ (x : Reading). IsReading first now (p.found ++ after) new x) more (r.goes_on first p.found p.reads) in
+    let count = read.count_is in
+    let most = read.at_most in
+    let on = (r.from_more more).1 in
+    let nothing : length none ≡ 0 = ap length empty in
+    elim (r.grown more) [
+      | inl same ↦
+          let many = r.are_enough more in
+          let here = ap length same in
+          omega (arith, count, most, on, nothing, many, here, some)
+      | inr grows ↦ omega (arith, count, most, grows, nothing)
+    ]
 
 -- ---- the first batch, whose first item is the header
 
-rest_of : (header : Header) (batch others : List Item) → batch ≡ items.Header header ∷ others → take (length batch - 1) (drop 1 batch) ≡ others
-rest_of header batch others e =
-    let many : length batch - 1 ≡ length others = omega (arith, ap length e) in
-    ap (λ (n : ℕ). take n (drop 1 batch)) many ∙ ap (λ (x : List Item). take (length others) (drop 1 x)) e ∙ take_all (length others) others (omega arith)
-
-pub start_pending : (first now : Option (List ℕ)) (header : Header) (batch : List Item) (s : Streamed) (n : ℕ) (reading : Reading) → BeginWith header batch → n ≡ 0 → IsReading first now batch s reading → IsPending header first now (take (length batch - 1) (drop 1 batch)) s n reading
-start_pending first now header batch s n reading b none h = record {
+pub start_pending : (first now : Option (List ℕ)) (header : Header) (batch behind : List Item) (s : Streamed) (n : ℕ) (reading : Reading) → behind ≡ drop 1 batch → BeginWith header batch → n ≡ 0 → IsReading first now batch s reading → IsPending header first now behind s n reading
+start_pending first now header batch behind s n reading is b none h = record {
   found = items.Header header ∷ [];
   judged = subst (AreJudged header (items.Header header ∷ [])) (sym none) (first_judged header);
-  reads = subst (λ (x : List Item). IsReading first now ((items.Header header ∷ []) ++ x) s reading) (sym (rest_of header batch b.0 b.1)) (subst (λ (x : List Item). IsReading first now x s reading) b.1 h);
+  reads = subst (λ (x : List Item). IsReading first now ((items.Header header ∷ []) ++ x) s reading) (sym (is ∙ ap (drop 1) b.1)) (subst (λ (x : List Item). IsReading first now x s reading) b.1 h);
 }
+
+-- it has an item
+pub start_some : (header : Header) (batch : List Item) → BeginWith header batch → 0 < length batch
+start_some header batch b = let many = ap length b.1 in omega (arith, many)
 
 -- ---- what is read of the source
 
@@ -237,13 +303,13 @@ pub begin_on : (header : Header) (front after more : List Item) → after ≡ fr
 begin_on header front after more is b = (b.0 ++ more, is ∙ ap (λ (x : List Item). x ++ more) b.1)
 
 -- of the first round, with the header
-pub start_no_further : (first before now : Option (List ℕ)) (header : Header) (front : List Item) → header.brief ≡ false → BeginWith header front → StopsGathering first before now [] front 65 → ReadsNoFurther first before → ReadsNoFurther first now
+pub start_no_further : (first before now : Option (List ℕ)) (header : Header) (front : List Item) → header.brief ≡ false → BeginWith header front → StopsGathering first before now [] front 17 → ReadsNoFurther first before → ReadsNoFurther first now
 start_no_further first before now header front full b stops none = elim stops [
   | inl same ↦ subst (ReadsNoFurther first) (sym same) none
   | inr l ↦
       let all : front ++ l.more ≡ items.Header header ∷ (b.0 ++ l.more) = ap (λ (x : List Item). x ++ l.more) b.1 in
-      let few : length (items.Header header ∷ (b.0 ++ l.more)) < 65 = subst (λ (x : List Item). length x < 65) all l.few in
-      lacking first now [] front 65 l (record {
+      let few : length (items.Header header ∷ (b.0 ++ l.more)) < 17 = subst (λ (x : List Item). length x < 17) all l.few in
+      lacking first now [] front 17 l (record {
         header = header;
         entries = 0;
         front = items.Header header ∷ [];
@@ -255,67 +321,20 @@ start_no_further first before now header front full b stops none = elim stops [
       })
 ]
 
--- behind items that were judged, fewer than so many others, and what is gathered behind them
-judged_no_further : (first before now : Option (List ℕ)) (header : Header) (front others : List Item) (n enough : ℕ) → header.brief ≡ false → AreJudged header front n → length others + enough ≤ 256 → StopsGathering first before now (front ++ others) [] enough → ReadsNoFurther first before → ReadsNoFurther first now
-judged_no_further first before now header front others n enough full judged small stops none = elim stops [
+-- of a round behind items that were judged
+pub pending_no_further : (first before now : Option (List ℕ)) (header : Header) (round : List Item) (s : Streamed) (n enough : ℕ) (reading : Reading) → header.brief ≡ false → enough ≤ 256 → (p : IsPending header first before round s n reading) → StopsInTime before now s round reading enough → ReadsNoFurther first before → ReadsNoFurther first now
+pending_no_further first before now header round s n enough reading full small p stops none = elim (stops.stops first p.found p.reads) [
   | inl same ↦ subst (ReadsNoFurther first) (sym same) none
   | inr l ↦
       let few = l.few in
-      let both : length (others ++ l.more) ≡ length others + length l.more = length-append others l.more in
-      lacking first now (front ++ others) [] enough l (record {
+      lacking first now p.found round enough l (record {
         header = header;
         entries = n;
-        front = front;
-        round = others ++ l.more;
-        split = append_assoc front others l.more;
+        front = p.found;
+        round = round ++ l.more;
+        split = refl;
         full = full;
-        judged = judged;
-        few = omega (arith, few, both, small);
+        judged = p.judged;
+        few = omega (arith, few, small);
       })
 ]
-
--- where the next round is gathered before the one at hand is judged
-pub ahead_no_further : (first before now : Option (List ℕ)) (header : Header) (round none : List Item) (s : Streamed) (n enough : ℕ) (reading : Reading) → header.brief ≡ false → (p : IsPending header first before round s n reading) → reading ≡ readings.More → length round + enough ≤ 256
-    → none ≡ [] → ((found : List Item) → IsReading first before (found ++ none) s readings.More → StopsGathering first before now found none enough) → ReadsNoFurther first before → ReadsNoFurther first now
-ahead_no_further first before now header round none s n enough reading full p more small is stops =
-    let told = stops (p.found ++ round) (pending_reads first before header round none s n reading p more is) in
-    judged_no_further first before now header p.found round n enough full p.judged small (subst (λ (x : List Item). StopsGathering first before now (p.found ++ round) x enough) is told)
-
--- where it is gathered behind one that was judged good
-pub behind_no_further : (first before now : Option (List ℕ)) (header : Header) (round none : List Item) (s : Streamed) (n m enough : ℕ) (reading : Reading) (result : Option Checked) → IsBounded header → header.brief ≡ false → (p : IsPending header first before round s n reading) → JudgesRound header n m round reading result → result ≡ None → enough ≤ 256
-    → none ≡ [] → ((found : List Item) → IsReading first before (found ++ none) s readings.More → StopsGathering first before now found none enough) → ReadsNoFurther first before → ReadsNoFurther first now
-behind_no_further first before now header round none s n m enough reading result bound full p judges is small empty stops =
-    let told = stops (p.found ++ round) (pending_reads first before header round none s n reading p (pending_more header round n m reading result judges is) empty) in
-    let judged = pending_judged first before header round n m s reading result bound full p judges is in
-    let here : StopsGathering first before now ((p.found ++ round) ++ []) [] enough =
-    subst (λ (x : List Item). StopsGathering first before now x [] enough) (sym (append-nil (p.found ++ round))) (subst (λ (x : List Item). StopsGathering first before now (p.found ++ round) x enough) empty told) in
-    let few : length {A = Item} [] + enough ≤ 256 = omega (arith, small) in
-    judged_no_further first before now header (p.found ++ round) [] m enough full judged few here
-
--- ---- a further round
-
-pub next_may : (first before : Option (List ℕ)) (header : Header) (none : List Item) (s : Streamed) (n : ℕ) → Underway header first before s n → none ≡ [] → MayGather before s none readings.More
-next_may first before header none s n u is = (first, u.all, subst (λ (x : List Item). HasRead first before x s) (sym (ap (λ (x : List Item). u.all ++ x) is ∙ append-nil u.all)) u.has_read)
-
-pub next_pending : (first before now : Option (List ℕ)) (header own : Header) (old new : Streamed) (n enough : ℕ) (none after slice : List Item) (reading : Reading) → own ≡ header → slice ≡ after → none ≡ [] → Underway header first before old n → Gathers before now old new none after enough readings.More reading
-    → IsPending own first now slice new n reading
-next_pending first before now header own old new n enough none after slice reading same at is u r =
-    let h : HasRead first before (u.all ++ none) old = subst (λ (x : List Item). HasRead first before x old) (sym (ap (λ (x : List Item). u.all ++ x) is ∙ append-nil u.all)) u.has_read in
-    let p : IsPending header first now after new n reading = record { found = u.all; judged = u.judged; reads = r.goes_on first u.all h } in
-    subst (λ (x : Header). IsPending x first now slice new n reading) (sym same) (subst (λ (x : List Item). IsPending header first now x new n reading) (sym at) p)
-
-pub next_no_further : (first before now : Option (List ℕ)) (header : Header) (none : List Item) (s : Streamed) (n enough : ℕ) → (u : Underway header first before s n) → header.brief ≡ false → none ≡ [] → enough ≤ 256
-    → ((found : List Item) → IsReading first before (found ++ none) s readings.More → StopsGathering first before now found none enough) → ReadsNoFurther first before → ReadsNoFurther first now
-next_no_further first before now header none s n enough u full is small stops =
-    let h : HasRead first before (u.all ++ none) s = subst (λ (x : List Item). HasRead first before x s) (sym (ap (λ (x : List Item). u.all ++ x) is ∙ append-nil u.all)) u.has_read in
-    let told = subst (λ (x : List Item). StopsGathering first before now u.all x enough) is (stops u.all h) in
-    let here : StopsGathering first before now (u.all ++ []) [] enough = subst (λ (x : List Item). StopsGathering first before now x [] enough) (sym (append-nil u.all)) told in
-    let few : length {A = Item} [] + enough ≤ 256 = omega (arith, small) in
-    judged_no_further first before now header u.all [] n enough full u.judged few here
-
--- more was read up to here than before the round was begun
-pub next_smaller : (first now : Option (List ℕ)) (header : Header) (old middle new : Streamed) (n : ℕ) → old.count < middle.count → middle.count ≤ new.count → Underway header first now new n → 1099511627776 - new.count < 1099511627776 - old.count
-next_smaller first now header old middle new n up on u =
-    let count = u.has_read.count_is in
-    let most = u.has_read.at_most in
-    omega (arith, up, on, count, most)

@@ -85,7 +85,8 @@ pub record Gathers (before now : Option (List ℕ)) (old new : Streamed) (items 
   pub more : List Item
   pub after_is : after ≡ items ++ more
   pub are_enough : to ≡ readings.More → enough ≤ length after
-  pub grows : to ≡ readings.More → length items < enough → (old.count < new.count) × (from ≡ readings.More)
+  pub from_more : to ≡ readings.More → (from ≡ readings.More) × (old.count ≤ new.count)
+  pub grown : to ≡ readings.More → (after ≡ items) ⊎ (old.count < new.count)
   pub goes_on : (first : Option (List ℕ)) (found : List Item) → IsReading first before (found ++ items) old from → IsReading first now (found ++ after) new to
 
 -- what was read before the last piece begins a catalogue with the items found, these ones and others, fewer than enough behind those found
@@ -103,8 +104,8 @@ abbrev pub StopsGathering : (first before now : Option (List ℕ)) (found items 
 StopsGathering first before now found items enough = (now ≡ before) ⊎ LacksItems first now found items enough
 
 -- whatever was read before, nothing was read behind these items, or before the last piece there weren't enough
-pub record StopsInTime (before now : Option (List ℕ)) (s : Streamed) (items : List Item) (enough : ℕ) : Type 0 where
-  pub stops : (first : Option (List ℕ)) (found : List Item) → IsReading first before (found ++ items) s readings.More → StopsGathering first before now found items enough
+pub record StopsInTime (before now : Option (List ℕ)) (s : Streamed) (items : List Item) (from : Reading) (enough : ℕ) : Type 0 where
+  pub stops : (first : Option (List ℕ)) (found : List Item) → IsReading first before (found ++ items) s from → StopsGathering first before now found items enough
 
 -- no item was read yet, and more may follow
 abbrev pub MayRead : Option (List ℕ) → Streamed → Type 0
@@ -139,17 +140,6 @@ pub record IsPending (header : Header) (first now : Option (List ℕ)) (round : 
   pub found : List Item
   pub judged : AreJudged header found entries
   pub reads : IsReading first now (found ++ round) s reading
-
--- items were read and judged, so many entries among them, and more may follow
-pub record Underway (header : Header) (first now : Option (List ℕ)) (s : Streamed) (entries : ℕ) : Type 0 where
-  pub all : List Item
-  pub has_read : HasRead first now all s
-  pub judged : AreJudged header all entries
-
--- a round has the answer of the whole input, or it was judged good and more may follow
-abbrev pub AnswersOrGoesOn : Header → (first now : Option (List ℕ)) → Streamed → ℕ → Option Checked → Type 0
-AnswersOrGoesOn header first now s entries None = Underway header first now s entries
-AnswersOrGoesOn header first now s entries (Some answer) = (input : List ℕ) × IsAllOf first input × IsChecked input answer
 
 -- whatever was read before, nothing but bytes was read behind it, or these are its first items, and reading came so far
 abbrev pub FirstReads : (before now : Option (List ℕ)) (old new : Streamed) → List Item → Reading → Type 0

@@ -1,5 +1,5 @@
 //! The check of a catalogue that comes from a source.
-ghost use Rattle.std.specs.Prelude.{◌≡◌, ◌≤◌, ℕ, List, Option, Err, IfOk, IfSome, IfNone, false};
+ghost use Rattle.std.specs.Prelude.{◌≡◌, ◌<◌, ◌≤◌, ℕ, List, Option, Err, IfOk, IfSome, IfNone, drop, false, length};
 ghost use Rattle.heesch_cert.specs.declared.header.Header.{Header as CatalogueHeader};
 ghost use Rattle.heesch_cert.specs.Limits.{AreLimits};
 ghost use Rattle.heesch_grid.specs.Names.{geometry_of};
@@ -18,7 +18,7 @@ ghost use Rattle.heesch_check.specs.Reading.{
   ReadsNoFurther,
 };
 
-use crate::ahead::{FRONT, judge_from};
+use crate::ahead::{FIRST, ROUND, round_from};
 use crate::answers::Checked;
 use crate::judging::{Judge, fault_behind};
 use crate::reading::{Reading, gather, read_first};
@@ -39,12 +39,17 @@ use std::thread::Threads;
 ///
 /// Entries are judged by rounds: items are gathered from as many pieces as that takes until there are 256, the input is at
 /// fault or ends, or as much is read as may be; the entries that are in their places are audited by the workers, each once,
-/// and the answer is that of the first item at fault. By one worker a round is 64 items; by more, the first 64 of a round are
-/// audited while the caller's thread gathers the others, which are audited beside them. The gate is told of each entry's
-/// number, from 0. Where one of the entries that are audited at once has the proofs of several triples, these are audited in
-/// portions, and the gate is told of the portions' numbers, from that of the first of them on. Reading stops with the round
-/// that decides the answer, and no more is held than the items of a round and those of one piece. The free list of a size is made once, by the workers, before the
-/// first round, but where the input is at fault with nothing whole behind its header, or with a brief entry.
+/// and the answer is that of the first item at fault. By one worker a round is gathered before it is audited. By more, the
+/// first 16 are audited while the caller's thread gathers as many others, these while it gathers as many as there are by now,
+/// and so on, so that there may be five times as many threads as workers.
+///
+/// The gate is told of each entry's number, from 0. Where one of the entries that are audited at once has the proofs of
+/// several triples, these are audited in portions, and the gate is told of the portions' numbers, from that of the first of
+/// them on. Two threads that audit different parts of a round may tell it of the same worker.
+///
+/// Reading stops with the round that decides the answer, and no more is held than the items of a round and those of one
+/// piece. The free list of a size is made once, by the workers, before the first round, but where the input is at fault with
+/// nothing whole behind its header, or with a brief entry.
 ///
 /// Errors: `Failed` only where the source's count of faults rose; `NoMemory` where memory was refused. At an error too the
 /// source has given the bytes of some pieces, front first, and no piece beyond the round at hand.
@@ -70,7 +75,7 @@ pub fn check<T: Threads + Sync, R: Source, H: Gate + Sync>(
     if header.brief {
         return Ok(Checked::InvalidHeader);
     }
-    let reading = gather(&mut stream, source, &mut items, reading, FRONT + 1)?;
+    let reading = gather(&mut stream, source, &mut items, reading, FIRST + 1)?;
     if let Some(answer) = first_fault(items.as_slice(), reading) {
         return Ok(answer);
     }
@@ -205,6 +210,16 @@ fn judge_of<G: Grid + Send + Sync, T: Threads + Sync, H: Gate + Sync>(
     })
 }
 
+/// The items behind the first.
+fn behind_header(items: Seq<Item>) -> Seq<Item>
+    requires { 0 < length items }
+    ensures { result ≡ drop 1 items }
+{
+    let mut all = items.into_vec();
+    let _ = all.remove(0);
+    Seq::from_vec(all)
+}
+
 /// The answer of a catalogue whose header was read, with the items so far, the first of which it is, and how far reading came.
 fn check_behind<G: Grid + Send + Sync, T: Threads + Sync, R: Source, H: Gate + Sync>(
     rt: &T,
@@ -230,38 +245,24 @@ fn check_behind<G: Grid + Send + Sync, T: Threads + Sync, R: Source, H: Gate + S
     ensures failed { result ≡ Err IoStop.Failed → Rose (R.faults source.old) (R.faults source.new) }
     ensures later { R.faults source.old ≤ R.faults source.new }
 {
-    let first = items.as_slice();
-    let told = judge_from(
-        rt,
-        alloc,
-        source,
-        stream,
-        &mut judge,
-        &first[1..],
-        reading,
-        workers,
-        gate,
-    )?;
-    drop(items);
-    if let Some(answer) = told {
-        return Ok(answer);
-    }
+    let mut at_hand = behind_header(items);
+    let mut came_to = reading;
     'rounds: loop {
-        let mut front = Seq::new(alloc);
-        let reading = gather(stream, source, &mut front, Reading::More, FRONT)?;
-        let answer = judge_from(
+        let entries = judge.entries;
+        let round = round_from(
+            rt, alloc, source, stream, &judge, entries, at_hand, came_to, ROUND, workers, gate,
+        )?;
+        let answer = judge.judge_audited_round(
             rt,
             alloc,
-            source,
-            stream,
-            &mut judge,
-            front.as_slice(),
-            reading,
-            workers,
-            gate,
+            round.items.as_slice(),
+            &round.audits,
+            round.reading,
         )?;
         if let Some(answer) = answer {
             return Ok(answer);
         }
+        at_hand = Seq::new(alloc);
+        came_to = Reading::More;
     }
 }

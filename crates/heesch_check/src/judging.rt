@@ -1,5 +1,5 @@
 //! The judgement of the items of a catalogue.
-ghost use Rattle.std.specs.Prelude.{◌≡◌, ◌+◌, ◌-◌, ◌↔◌, ◌<◌, ◌≤◌, ◌^◌, IfOk, IsTrue, Some, length, take};
+ghost use Rattle.std.specs.Prelude.{◌≡◌, ◌+◌, ◌-◌, ◌↔◌, ◌<◌, ◌≤◌, ◌^◌, IfOk, IsTrue, Some, length, take, vec_len};
 ghost use Rattle.std.specs.List.{AllByRecursion};
 ghost use Rattle.heesch_cert.specs.declared.header.Header.{Header as CatalogueHeader};
 ghost use Rattle.heesch_cert.specs.Limits.{AreLimits};
@@ -167,24 +167,28 @@ impl<G: Grid + Send + Sync> Judge<G> {
         entries
     }
 
-    /// Whether each of the entries that stand first among the items, each in its place behind so many entries, is true.
-    pub fn audits_behind<T: Threads + Sync, H: Gate + Sync>(
+    /// Whether each entry of the numbers from `before` to before `until` is true, in order: those that stand first among the
+    /// items, each in its place.
+    pub fn audits_between<T: Threads + Sync, H: Gate + Sync>(
         &self,
         rt: &T,
         alloc: Global,
         before: u32,
+        until: u32,
         items: &[Item],
         workers: u32,
         gate: &H,
     ) -> Result<Vec<bool>, NoMemory>
         requires grid { geometry_of self.now.header.grid ≡ G.geometry }
-        requires shapes { HasShapes self.now.header self.now.header.subject self.now.shapes }
         requires limits { AreLimits self.now.header.limits }
         requires fit { AllByRecursion IsFit items.now }
         requires workers { (1 ≤ workers) × (workers ≤ 64) }
-        ensures { IfOk result (λ audits. AreAuditsBehind self.now.header before items.now audits.items) }
+        requires order { before ≤ until }
+        requires some { until ≤ before + length items.now }
+        requires placed { ArePlaced self.now.header before (take (until - before) items.now) }
+        ensures len { IfOk result (λ audits. before + vec_len audits ≡ until) }
+        ensures audits { IfOk result (λ audits. AreAuditsBehind self.now.header before items.now audits.items) }
     {
-        let until = self.placed(before, items);
         let limits = self.header.limits;
         let handle = SharedHandle { rt };
         audits::<G, SharedHandle<'_, T>, H>(
@@ -299,28 +303,5 @@ impl<G: Grid + Send + Sync> Judge<G> {
             return Ok(answer);
         }
         Ok(self.answer(reading))
-    }
-
-    /// Judges the items of a round, the entries at once, each in portions, and then what reading came to behind them: the
-    /// answer, unless more may follow.
-    pub fn judge_round<T: Threads + Sync, H: Gate + Sync>(
-        &mut self,
-        rt: &T,
-        alloc: Global,
-        items: &[Item],
-        reading: Reading,
-        workers: u32,
-        gate: &H,
-    ) -> Result<Option<Checked>, NoMemory>
-        requires grid { geometry_of self.old.header.grid ≡ G.geometry }
-        requires shapes { HasShapes self.old.header self.old.header.subject self.old.shapes }
-        requires limits { AreLimits self.old.header.limits }
-        requires fit { AllByRecursion IsFit items.now }
-        requires workers { (1 ≤ workers) × (workers ≤ 64) }
-        ensures judges { IfOk result (JudgesRound self.old.header self.old.entries self.new.entries items.now reading) }
-        ensures kept { self.new ≡ record self.old { entries = self.new.entries } }
-    {
-        let audits = self.audits_behind(rt, alloc, self.entries, items, workers, gate)?;
-        self.judge_audited_round(rt, alloc, items, &audits, reading)
     }
 }

@@ -1,5 +1,5 @@
-use Rattle.std.proofs.Common.{◌≡◌, ℕ, ◌-◌, ◌≤◌, List, Option}
-use Rattle.heesch_check.specs.Reading.{IsReading, ReadsNoFurther, Underway}
+use Rattle.std.proofs.Common.{◌≡◌, ℕ, ◌+◌, ◌-◌, ◌≤◌, List, Option, length}
+use Rattle.heesch_check.specs.Reading.{IsPending, IsReading, ReadsNoFurther}
 use Rattle.heesch_check.proofs.checking.check_behind.Given as goal
 
 abbrev pub invariant-rounds : goal.invariant-rounds
@@ -7,10 +7,10 @@ invariant-rounds g l =
     let left = g.R.Source.left in
     record {
       kept : l.judge ≡ record l.fn.judge { entries = l.judge.entries };
-      goes_on : (first : Option (List ℕ)) → IsReading first (left l.fn.source) l.fn.items l.fn.stream l.fn.reading → Underway l.fn.judge.header first (left l.source) l.stream l.judge.entries;
+      pending : (first : Option (List ℕ)) → IsReading first (left l.fn.source) l.fn.items l.fn.stream l.fn.reading → IsPending l.fn.judge.header first (left l.source) l.at_hand l.stream l.judge.entries l.came_to;
       no_further : (first : Option (List ℕ)) → IsReading first (left l.fn.source) l.fn.items l.fn.stream l.fn.reading → ReadsNoFurther first (left l.fn.source) → ReadsNoFurther first (left l.source);
       later : g.R.Source.faults l.fn.source ≤ g.R.Source.faults l.source;
     }
 
 abbrev pub decreases-rounds : goal.decreases-rounds
-decreases-rounds g l = 1099511627776 - l.stream.count
+decreases-rounds g l = 1099511627776 - l.stream.count + length l.at_hand

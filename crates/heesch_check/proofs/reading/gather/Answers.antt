@@ -48,7 +48,8 @@ returns-in_default-reading g c =
         more = m.0;
         after_is = m.1;
         are_enough = λ e. absurd (c.in_default-reading.not-More e);
-        grows = λ e few. absurd (c.in_default-reading.not-More e);
+        from_more = λ e. absurd (c.in_default-reading.not-More e);
+        grown = λ e. absurd (c.in_default-reading.not-More e);
         goes_on = λ first found h. gathered_on first before now found c.pieces.items c.read.new.items c.pieces.stream c.read.new.stream c.in_ok-reading.reading (c.pieces.invariant.goes_on first found h) r;
       };
       no_further = λ first found h.
