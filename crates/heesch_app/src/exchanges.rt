@@ -1,5 +1,5 @@
 //! The answers to `formula` and `answer`.
-ghost use Rattle.std.specs.Prelude.{◌≡◌, ◌≢◌, ◌≤◌, Err, IfOk, OnOk, MatchResult};
+ghost use Rattle.std.specs.Prelude.{◌≡◌, ◌≢◌, ◌≤◌, Err, IfOk, IsOk, OnOk, MatchResult};
 ghost use Rattle.std.specs.Io.KnownBytes.{IsAtEnd};
 ghost use Rattle.heesch_grid.specs.Names.{geometry_of};
 ghost use Rattle.heesch_io.specs.Causes.{Rose};
@@ -63,6 +63,7 @@ fn told(alloc: Global, text: Result<Vec<u8>, ExchangeStop>) -> Result<Reply, IoS
     ensures ok { IfOk result (λ r. MatchResult text
         (λ written. (r.status ≡ Status.Done) × (r.text ≡ written))
         (λ stop. IsFaultTold stop r.status r.text.items)) }
+    ensures given { IfOk text (λ written. IsOk result) }
     ensures read { result ≢ Err IoStop.Failed }
 {
     match text {

@@ -1,5 +1,5 @@
 //! What is written, and the status that comes with it.
-ghost use Rattle.std.specs.Prelude.{◌≡◌, IfOk, IfErr, Ok};
+ghost use Rattle.std.specs.Prelude.{◌≡◌, IfOk, IfErr, IsOk, Ok};
 ghost use Rattle.heesch_app.specs.Endings.{IsPut, read_status};
 
 use crate::Status;
@@ -17,6 +17,7 @@ impl Reply {
     pub fn done(text: Result<Vec<u8>, NoMemory>) -> Result<Reply, IoStop>
         ensures ok { IfOk result (λ r. (text ≡ Ok r.text) × (r.status ≡ Status.Done)) }
         ensures err { IfErr result (λ e. e ≡ IoStop.NoMemory) }
+        ensures given { IfOk text (λ written. IsOk result) }
     {
         match text {
             Ok(text) => Ok(Reply {
