@@ -97,9 +97,9 @@ gathers_on before middle now old mid new items front after some enough from step
       let is = r.from_more on.0 in
       elim (q.grown e) [
         | inl none ↦ elim (r.grown on.0) [
-            | inl alone ↦ inl (none ∙ alone)
-            | inr grows ↦ inr (omega (arith, grows, on.1))
-          ]
+          | inl alone ↦ inl (none ∙ alone)
+          | inr grows ↦ inr (omega (arith, grows, on.1))
+        ]
         | inr grows ↦ inr (omega (arith, grows, is.1))
       ];
   goes_on = λ first found h. q.goes_on first found (r.goes_on first found h);
@@ -303,13 +303,13 @@ pub begin_on : (header : Header) (front after more : List Item) → after ≡ fr
 begin_on header front after more is b = (b.0 ++ more, is ∙ ap (λ (x : List Item). x ++ more) b.1)
 
 -- of the first round, with the header
-pub start_no_further : (first before now : Option (List ℕ)) (header : Header) (front : List Item) → header.brief ≡ false → BeginWith header front → StopsGathering first before now [] front 17 → ReadsNoFurther first before → ReadsNoFurther first now
+pub start_no_further : (first before now : Option (List ℕ)) (header : Header) (front : List Item) → header.brief ≡ false → BeginWith header front → StopsGathering first before now [] front 65 → ReadsNoFurther first before → ReadsNoFurther first now
 start_no_further first before now header front full b stops none = elim stops [
   | inl same ↦ subst (ReadsNoFurther first) (sym same) none
   | inr l ↦
       let all : front ++ l.more ≡ items.Header header ∷ (b.0 ++ l.more) = ap (λ (x : List Item). x ++ l.more) b.1 in
-      let few : length (items.Header header ∷ (b.0 ++ l.more)) < 17 = subst (λ (x : List Item). length x < 17) all l.few in
-      lacking first now [] front 17 l (record {
+      let few : length (items.Header header ∷ (b.0 ++ l.more)) < 65 = subst (λ (x : List Item). length x < 65) all l.few in
+      lacking first now [] front 65 l (record {
         header = header;
         entries = 0;
         front = items.Header header ∷ [];

@@ -1,10 +1,9 @@
-//! Rounds of items: the entries gathered so far are audited while the others are read.
+//! Rounds of items: the first entries are audited while the others are read.
 ghost use Rattle.std.specs.Prelude.{◌≡◌, ◌+◌, ◌-◌, ◌++◌, ◌<◌, ◌≤◌, [], Err, IfOk, IsTrue, length, take, vec_len};
 ghost use Rattle.heesch_cert.specs.Limits.{AreLimits};
 ghost use Rattle.heesch_grid.specs.Names.{geometry_of};
 ghost use Rattle.heesch_io.specs.Causes.{Rose};
 ghost use Rattle.std.specs.List.{AllByRecursion};
-ghost use Rattle.std.specs.Thread.{IsSend, IsSync};
 ghost use Rattle.heesch_check.specs.declared.reading.Reading.TheVariants as readings;
 ghost use Rattle.heesch_check.specs.Judging.{AreAuditsBehind, ArePlaced, HasShapes, IsFit};
 ghost use Rattle.heesch_check.specs.Reading.{Gathers, MayGather, StopsInTime};
@@ -20,10 +19,10 @@ use std::alloc::Global;
 use std::thread::Threads;
 
 /// How many items of a round are gathered before the first of them are audited.
-pub(crate) const FIRST: usize = 16;
+pub(crate) const FIRST: usize = 64;
 
-/// How many items a round has, unless one piece has more.
-pub(crate) const ROUND: usize = 256;
+/// How many items a round has by several workers, unless one piece has more.
+const ROUND: usize = 256;
 
 /// The items of a round, audits of the entries that stand first among them, and how far reading came.
 #[derive(Drop)]
@@ -33,16 +32,23 @@ pub(crate) struct Round {
     pub reading: Reading,
 }
 
-/// How many items are gathered before they are audited, where so many are lacking to a round: as many as it has, at least the
-/// first.
-fn next_few(lacking: usize) -> usize
-    ensures { result ≤ lacking }
+/// How many items a round has: by one worker the first alone, since no others are read beside them.
+pub(crate) fn round_size(workers: u32) -> usize
+    ensures some { 0 < result }
+    ensures most { result ≤ 256 }
 {
-    ROUND.saturating_sub(lacking).max(FIRST).min(lacking)
+    if workers > 1 { ROUND } else { FIRST }
 }
 
-/// Whether others are gathered while these items are audited: there is a worker beside the caller's thread, more may follow,
-/// and these are entries in their places, so many, and fewer than are lacking.
+/// How many items of a round that lacks so many are gathered first.
+fn first_few(lacking: usize) -> usize
+    ensures { result ≤ lacking }
+{
+    FIRST.min(lacking)
+}
+
+/// Whether others are gathered while these items are audited: there are several workers, more may follow, and these are
+/// entries in their places, so many, and fewer than are lacking.
 fn goes_on_beside(
     front: &[Item],
     placed: u32,
@@ -52,13 +58,11 @@ fn goes_on_beside(
 ) -> bool
     ensures more { IsTrue result → reading ≡ Reading.More }
     ensures placed { IsTrue result → placed ≡ length front.now }
-    ensures some { IsTrue result → 0 < length front.now }
     ensures few { IsTrue result → length front.now < lacking }
 {
     workers > 1
         && matches!(reading, Reading::More)
         && placed as usize == front.len()
-        && !front.is_empty()
         && front.len() < lacking
 }
 
@@ -89,8 +93,7 @@ fn gather_and_audit<G: Grid + Send + Sync, T: Threads + Sync, R: Source, H: Gate
 {
     let reading = gather(stream, source, &mut items, came_to, lacking)?;
     let until = judge.placed(before, items.as_slice());
-    let audits =
-        judge.audits_between(rt, alloc, before, until, items.as_slice(), workers, gate)?;
+    let audits = judge.audits_between(rt, alloc, before, until, items.as_slice(), workers, gate)?;
     Ok(Round {
         items,
         audits,
@@ -120,7 +123,6 @@ fn together(front: Seq<Item>, audits: Vec<bool>, rest: Round) -> Result<Round, N
     })
 }
 
-#[cycle(round)]
 /// Audits the first items of a round, all of them, while the caller's thread gathers those that are left and audits them.
 fn audit_and_gather<G: Grid + Send + Sync, T: Threads + Sync, R: Source, H: Gate + Sync>(
     rt: &T,
@@ -157,7 +159,7 @@ fn audit_and_gather<G: Grid + Send + Sync, T: Threads + Sync, R: Source, H: Gate
         ensures audits { IfOk result (λ audits. AreAuditsBehind judge.entry.now.header before front.entry.now audits.items) }
     { judge.audits_between(rt, alloc, before, until, front, workers, gate) };
     let mut others = || -> Result<Round, IoStop>
-        requires { IsSend G.row × IsSync G.row × IsSync T.row × IsSync H.row × (geometry_of judge.now.header.grid ≡ G.geometry) × HasShapes judge.now.header judge.now.header.subject judge.now.shapes × AreLimits judge.now.header.limits × (1 ≤ workers) × (workers ≤ 64) × MayGather (R.left source.now) stream.now [] readings.More }
+        requires { (geometry_of judge.now.header.grid ≡ G.geometry) × HasShapes judge.now.header judge.now.header.subject judge.now.shapes × AreLimits judge.now.header.limits × (1 ≤ workers) × (workers ≤ 64) × MayGather (R.left source.now) stream.now [] readings.More }
         ensures gathers { IfOk result (λ r. Gathers (R.left source.entry.now) (R.left source.exit.now) stream.entry.now stream.exit.now [] r.items left readings.More r.reading) }
         ensures audits { IfOk result (λ r. AreAuditsBehind judge.entry.now.header until r.items r.audits.items) }
         ensures no_further { StopsInTime (R.left source.entry.now) (R.left source.exit.now) stream.entry.now [] readings.More left }
@@ -165,22 +167,26 @@ fn audit_and_gather<G: Grid + Send + Sync, T: Threads + Sync, R: Source, H: Gate
         ensures later { R.faults source.entry.now ≤ R.faults source.exit.now }
     {
         let none = Seq::new(alloc);
-        round_from(
-            rt, alloc, source, stream, judge, until, none, Reading::More, left, workers, gate,
+        gather_and_audit(
+            rt,
+            alloc,
+            source,
+            stream,
+            judge,
+            until,
+            none,
+            Reading::More,
+            left,
+            workers,
+            gate,
         )
     };
     run_beside(rt, &mut fronts, &mut others)
 }
 
-#[cycle(round)]
-/// Gathers the items that are lacking to a round, behind those at hand, and audits the entries that stand first. With two
-/// workers or more the items gathered so far are audited while others are gathered, each time as many as there are.
-pub(crate) fn round_from<
-    G: Grid + Send + Sync,
-    T: Threads + Sync,
-    R: Source,
-    H: Gate + Sync,
->(
+/// Gathers the items that are lacking to a round, behind those at hand, and audits the entries that stand first. By several
+/// workers the first items are audited while the others are gathered.
+pub(crate) fn round_from<G: Grid + Send + Sync, T: Threads + Sync, R: Source, H: Gate + Sync>(
     rt: &T,
     alloc: Global,
     source: &mut R,
@@ -204,7 +210,7 @@ pub(crate) fn round_from<
     ensures failed { result ≡ Err IoStop.Failed → Rose (R.faults source.old) (R.faults source.new) }
     ensures later { R.faults source.old ≤ R.faults source.new }
 {
-    let reading = gather(stream, source, &mut items, came_to, next_few(lacking))?;
+    let reading = gather(stream, source, &mut items, came_to, first_few(lacking))?;
     let front = items.as_slice();
     let until = judge.placed(before, front);
     if !goes_on_beside(front, until - before, reading, lacking, workers) {

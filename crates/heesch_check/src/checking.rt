@@ -18,7 +18,7 @@ ghost use Rattle.heesch_check.specs.Reading.{
   ReadsNoFurther,
 };
 
-use crate::ahead::{FIRST, ROUND, round_from};
+use crate::ahead::{FIRST, round_from, round_size};
 use crate::answers::Checked;
 use crate::judging::{Judge, fault_behind};
 use crate::reading::{Reading, gather, read_first};
@@ -39,13 +39,13 @@ use std::thread::Threads;
 ///
 /// Entries are judged by rounds: items are gathered from as many pieces as that takes until there are 256, the input is at
 /// fault or ends, or as much is read as may be; the entries that are in their places are audited by the workers, each once,
-/// and the answer is that of the first item at fault. By one worker a round is gathered before it is audited. By more, the
-/// first 16 are audited while the caller's thread gathers as many others, these while it gathers as many as there are by now,
-/// and so on, so that there may be five times as many threads as workers.
+/// and the answer is that of the first item at fault. By one worker a round has 64 items. By more, the first 64 of a round
+/// are audited while the caller's thread gathers the others, which are audited beside them, so that there may be twice as many
+/// threads as workers.
 ///
 /// The gate is told of each entry's number, from 0. Where one of the entries that are audited at once has the proofs of
 /// several triples, these are audited in portions, and the gate is told of the portions' numbers, from that of the first of
-/// them on. Two threads that audit different parts of a round may tell it of the same worker.
+/// them on. Two threads that audit the two parts of a round may tell it of the same worker.
 ///
 /// Reading stops with the round that decides the answer, and no more is held than the items of a round and those of one
 /// piece. The free list of a size is made once, by the workers, before the first round, but where the input is at fault with
@@ -245,12 +245,13 @@ fn check_behind<G: Grid + Send + Sync, T: Threads + Sync, R: Source, H: Gate + S
     ensures failed { result ≡ Err IoStop.Failed → Rose (R.faults source.old) (R.faults source.new) }
     ensures later { R.faults source.old ≤ R.faults source.new }
 {
+    let lacking = round_size(workers);
     let mut at_hand = behind_header(items);
     let mut came_to = reading;
     'rounds: loop {
         let entries = judge.entries;
         let round = round_from(
-            rt, alloc, source, stream, &judge, entries, at_hand, came_to, ROUND, workers, gate,
+            rt, alloc, source, stream, &judge, entries, at_hand, came_to, lacking, workers, gate,
         )?;
         let answer = judge.judge_audited_round(
             rt,

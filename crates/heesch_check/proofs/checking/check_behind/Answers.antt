@@ -25,7 +25,7 @@ round_from-requires-clause-may g c κs within =
 
 pub returns-in_err-round-clause-no_further : goal.returns-in_err-round-clause-no_further
 returns-in_err-round-clause-no_further g c first h none =
-    pending_no_further first (g.R.Source.left c.rounds.source) (g.R.Source.left c.round_from.new.source) c.args.judge.header c.rounds.at_hand c.rounds.stream c.rounds.judge.entries 256 c.rounds.came_to c.requires.full (omega arith) (c.rounds.invariant.pending first h) c.round_from.ensures.no_further (c.rounds.invariant.no_further first h none)
+    pending_no_further first (g.R.Source.left c.rounds.source) (g.R.Source.left c.round_from.new.source) c.args.judge.header c.rounds.at_hand c.rounds.stream c.rounds.judge.entries c.round_size-lacking.result c.rounds.came_to c.requires.full c.round_size-lacking.ensures.most (c.rounds.invariant.pending first h) c.round_from.ensures.no_further (c.rounds.invariant.no_further first h none)
 
 pub judge_audited_round-requires-clause-fit : goal.judge_audited_round-requires-clause-fit
 judge_audited_round-requires-clause-fit g c κs within =
@@ -36,11 +36,11 @@ judge_audited_round-requires-clause-fit g c κs within =
     let header = c.args.judge.header in
     let after = c.round_from.new in
     let round = c.in_ok-round.round in
-    rw c.as_slice.ensures (pending_fits first (left after.source) header round.items after.stream judge.entries round.reading (pending_gathered first (left c.rounds.source) (left after.source) header c.rounds.at_hand round.items judge.entries 256 c.rounds.stream after.stream c.rounds.came_to round.reading (c.rounds.invariant.pending first h) c.in_ok-round.ensures.gathers))
+    rw c.as_slice.ensures (pending_fits first (left after.source) header round.items after.stream judge.entries round.reading (pending_gathered first (left c.rounds.source) (left after.source) header c.rounds.at_hand round.items judge.entries c.round_size-lacking.result c.rounds.stream after.stream c.rounds.came_to round.reading (c.rounds.invariant.pending first h) c.in_ok-round.ensures.gathers))
 
 pub returns-in_err-answer-clause-no_further : goal.returns-in_err-answer-clause-no_further
 returns-in_err-answer-clause-no_further g c first h none =
-    pending_no_further first (g.R.Source.left c.rounds.source) (g.R.Source.left c.round_from.new.source) c.args.judge.header c.rounds.at_hand c.rounds.stream c.rounds.judge.entries 256 c.rounds.came_to c.requires.full (omega arith) (c.rounds.invariant.pending first h) c.round_from.ensures.no_further (c.rounds.invariant.no_further first h none)
+    pending_no_further first (g.R.Source.left c.rounds.source) (g.R.Source.left c.round_from.new.source) c.args.judge.header c.rounds.at_hand c.rounds.stream c.rounds.judge.entries c.round_size-lacking.result c.rounds.came_to c.requires.full c.round_size-lacking.ensures.most (c.rounds.invariant.pending first h) c.round_from.ensures.no_further (c.rounds.invariant.no_further first h none)
 
 pub returns-in-Some-clause-ok : goal.returns-in-Some-clause-ok
 returns-in-Some-clause-ok g c first h =
@@ -53,11 +53,11 @@ returns-in-Some-clause-ok g c first h =
     let judges = subst (λ (x : Header). JudgesRound x judge.entries c.judge_audited_round.new.self.entries round.items round.reading c.in_ok-answer.answer) same
     (subst (λ (x : List Item). JudgesRound judge.header judge.entries c.judge_audited_round.new.self.entries x round.reading c.in_ok-answer.answer) c.as_slice.ensures c.in_ok-answer.ensures.judges) in
     let bound = bounded header c.args.judge.shapes c.requires.shapes in
-    pending_answers first (left after.source) header round.items judge.entries c.judge_audited_round.new.self.entries after.stream round.reading c.in_ok-answer.answer c.in-Some.answer bound c.requires.full (pending_gathered first (left c.rounds.source) (left after.source) header c.rounds.at_hand round.items judge.entries 256 c.rounds.stream after.stream c.rounds.came_to round.reading (c.rounds.invariant.pending first h) c.in_ok-round.ensures.gathers) judges c.in-Some.is
+    pending_answers first (left after.source) header round.items judge.entries c.judge_audited_round.new.self.entries after.stream round.reading c.in_ok-answer.answer c.in-Some.answer bound c.requires.full (pending_gathered first (left c.rounds.source) (left after.source) header c.rounds.at_hand round.items judge.entries c.round_size-lacking.result c.rounds.stream after.stream c.rounds.came_to round.reading (c.rounds.invariant.pending first h) c.in_ok-round.ensures.gathers) judges c.in-Some.is
 
 pub returns-in-Some-clause-no_further : goal.returns-in-Some-clause-no_further
 returns-in-Some-clause-no_further g c first h none =
-    pending_no_further first (g.R.Source.left c.rounds.source) (g.R.Source.left c.round_from.new.source) c.args.judge.header c.rounds.at_hand c.rounds.stream c.rounds.judge.entries 256 c.rounds.came_to c.requires.full (omega arith) (c.rounds.invariant.pending first h) c.round_from.ensures.no_further (c.rounds.invariant.no_further first h none)
+    pending_no_further first (g.R.Source.left c.rounds.source) (g.R.Source.left c.round_from.new.source) c.args.judge.header c.rounds.at_hand c.rounds.stream c.rounds.judge.entries c.round_size-lacking.result c.rounds.came_to c.requires.full c.round_size-lacking.ensures.most (c.rounds.invariant.pending first h) c.round_from.ensures.no_further (c.rounds.invariant.no_further first h none)
 
 pub rounds-smaller : goal.rounds-smaller
 rounds-smaller g c =
@@ -73,7 +73,7 @@ rounds-smaller g c =
     (subst (λ (x : List Item). JudgesRound judge.header judge.entries c.judge_audited_round.new.self.entries x round.reading c.in_ok-answer.answer) c.as_slice.ensures c.in_ok-answer.ensures.judges) in
     let bound = bounded header c.args.judge.shapes c.requires.shapes in
     let more = pending_more header round.items judge.entries c.judge_audited_round.new.self.entries round.reading c.in_ok-answer.answer judges c.in_default.is in
-    pending_smaller first (left c.rounds.source) (left after.source) header c.rounds.at_hand round.items c.new-at_hand.result judge.entries 256 c.rounds.stream after.stream c.rounds.came_to round.reading c.new-at_hand.ensures (omega arith) more (c.rounds.invariant.pending first h) c.in_ok-round.ensures.gathers
+    pending_smaller first (left c.rounds.source) (left after.source) header c.rounds.at_hand round.items c.new-at_hand.result judge.entries c.round_size-lacking.result c.rounds.stream after.stream c.rounds.came_to round.reading c.new-at_hand.ensures c.round_size-lacking.ensures.some more (c.rounds.invariant.pending first h) c.in_ok-round.ensures.gathers
 
 pub rounds-preserved : goal.rounds-preserved
 rounds-preserved g c = record {
@@ -88,7 +88,7 @@ rounds-preserved g c = record {
       let judges = subst (λ (x : Header). JudgesRound x judge.entries c.judge_audited_round.new.self.entries round.items round.reading c.in_ok-answer.answer) same
       (subst (λ (x : List Item). JudgesRound judge.header judge.entries c.judge_audited_round.new.self.entries x round.reading c.in_ok-answer.answer) c.as_slice.ensures c.in_ok-answer.ensures.judges) in
       let bound = bounded header c.args.judge.shapes c.requires.shapes in
-      pending_goes_on first (left after.source) header round.items c.new-at_hand.result judge.entries c.judge_audited_round.new.self.entries after.stream round.reading c.in_ok-answer.answer bound c.requires.full c.new-at_hand.ensures (pending_gathered first (left c.rounds.source) (left after.source) header c.rounds.at_hand round.items judge.entries 256 c.rounds.stream after.stream c.rounds.came_to round.reading (c.rounds.invariant.pending first h) c.in_ok-round.ensures.gathers) judges c.in_default.is;
-  no_further = λ first h none. pending_no_further first (g.R.Source.left c.rounds.source) (g.R.Source.left c.round_from.new.source) c.args.judge.header c.rounds.at_hand c.rounds.stream c.rounds.judge.entries 256 c.rounds.came_to c.requires.full (omega arith) (c.rounds.invariant.pending first h) c.round_from.ensures.no_further (c.rounds.invariant.no_further first h none);
+      pending_goes_on first (left after.source) header round.items c.new-at_hand.result judge.entries c.judge_audited_round.new.self.entries after.stream round.reading c.in_ok-answer.answer bound c.requires.full c.new-at_hand.ensures (pending_gathered first (left c.rounds.source) (left after.source) header c.rounds.at_hand round.items judge.entries c.round_size-lacking.result c.rounds.stream after.stream c.rounds.came_to round.reading (c.rounds.invariant.pending first h) c.in_ok-round.ensures.gathers) judges c.in_default.is;
+  no_further = λ first h none. pending_no_further first (g.R.Source.left c.rounds.source) (g.R.Source.left c.round_from.new.source) c.args.judge.header c.rounds.at_hand c.rounds.stream c.rounds.judge.entries c.round_size-lacking.result c.rounds.came_to c.requires.full c.round_size-lacking.ensures.most (c.rounds.invariant.pending first h) c.round_from.ensures.no_further (c.rounds.invariant.no_further first h none);
   later = omega (arith, c.rounds.invariant.later, c.round_from.ensures.later);
 }

@@ -10,91 +10,91 @@ use Rattle.heesch_check.specs.Reading.{Gathers}
 use Rattle.heesch_check.proofs.Audits.{audits_together}
 use Rattle.heesch_check.proofs.Behind.{gathers_behind, gathers_on, may_go_on, stops_before, stops_beside, stops_on}
 use Rattle.heesch_check.proofs.Readings.{batch_fits}
-use Rattle.heesch_check.proofs.ahead.+round.Goals as goal
+use Rattle.heesch_check.proofs.ahead.round_from.Goals as goal
 
 -- ---- the first items are gathered
 
-pub round_from-returns-in_err-reading-clause-no_further : goal.round_from-returns-in_err-reading-clause-no_further
-round_from-returns-in_err-reading-clause-no_further g t c = record {
-  stops = λ first found h. stops_before first (g.R.Source.left c.args.source.now) (g.R.Source.left c.gather.new.source) found c.args.items c.next_few.result c.args.lacking c.next_few.ensures (c.gather.ensures.no_further first found h);
+pub returns-in_err-reading-clause-no_further : goal.returns-in_err-reading-clause-no_further
+returns-in_err-reading-clause-no_further g c = record {
+  stops = λ first found h. stops_before first (g.R.Source.left c.args.source.now) (g.R.Source.left c.gather.new.source) found c.args.items c.first_few.result c.args.lacking c.first_few.ensures (c.gather.ensures.no_further first found h);
 }
 
 -- ---- nothing goes on beside them
 
-pub round_from-gather_and_audit-requires-clause-may : goal.round_from-gather_and_audit-requires-clause-may
-round_from-gather_and_audit-requires-clause-may g t c κs within =
+pub gather_and_audit-requires-clause-may : goal.gather_and_audit-requires-clause-may
+gather_and_audit-requires-clause-may g c κs within =
     let may = c.requires.may in
     (may.0, may.1, c.in_ok-reading.ensures.ok.goes_on may.0 may.1 may.2)
 
-pub round_from-returns-then-not-goes_on_beside-clause-gathers : goal.round_from-returns-then-not-goes_on_beside-clause-gathers
-round_from-returns-then-not-goes_on_beside-clause-gathers g t c =
+pub returns-then-not-goes_on_beside-clause-gathers : goal.returns-then-not-goes_on_beside-clause-gathers
+returns-then-not-goes_on_beside-clause-gathers g c =
     let left = g.R.Source.left in
     let now = c.gather_and_audit.new in
     IfOk-weaker c.gather_and_audit.result _ (λ (r : Round). Gathers (left c.args.source.now) (left now.source) c.args.stream.now now.stream c.args.items r.items c.args.lacking c.args.came_to r.reading)
     (λ r on.
-    gathers_on (left c.args.source.now) (left c.gather.new.source) (left now.source) c.args.stream.now c.gather.new.stream now.stream c.args.items c.gather.new.items r.items c.next_few.result c.args.lacking c.args.came_to c.in_ok-reading.reading r.reading c.in_ok-reading.ensures.ok on)
+    gathers_on (left c.args.source.now) (left c.gather.new.source) (left now.source) c.args.stream.now c.gather.new.stream now.stream c.args.items c.gather.new.items r.items c.first_few.result c.args.lacking c.args.came_to c.in_ok-reading.reading r.reading c.in_ok-reading.ensures.ok on)
     c.gather_and_audit.ensures.gathers
 
-pub round_from-returns-then-not-goes_on_beside-clause-no_further : goal.round_from-returns-then-not-goes_on_beside-clause-no_further
-round_from-returns-then-not-goes_on_beside-clause-no_further g t c =
+pub returns-then-not-goes_on_beside-clause-no_further : goal.returns-then-not-goes_on_beside-clause-no_further
+returns-then-not-goes_on_beside-clause-no_further g c =
     let left = g.R.Source.left in
     let r = c.in_ok-reading.ensures.ok in
     record {
       stops = λ first found h.
-          stops_on first (left c.args.source.now) (left c.gather.new.source) (left c.gather_and_audit.new.source) found c.args.items c.gather.new.items c.next_few.result c.args.lacking c.next_few.ensures (r.more, r.after_is)
+          stops_on first (left c.args.source.now) (left c.gather.new.source) (left c.gather_and_audit.new.source) found c.args.items c.gather.new.items c.first_few.result c.args.lacking c.first_few.ensures (r.more, r.after_is)
           (c.gather.ensures.no_further first found h) (c.gather_and_audit.ensures.no_further.stops first found (r.goes_on first found h));
     }
 
 -- ---- others are gathered beside them
 
-pub round_from-audit_and_gather-audits-requires-clause-fit : goal.round_from-audit_and_gather-audits-requires-clause-fit
-round_from-audit_and_gather-audits-requires-clause-fit g t c κs within =
+pub audit_and_gather-audits-requires-clause-fit : goal.audit_and_gather-audits-requires-clause-fit
+audit_and_gather-audits-requires-clause-fit g c κs within =
     let may = c.requires.may in
     rw c.as_slice-front.ensures (batch_fits may.0 (g.R.Source.left c.gather.new.source) may.1 c.gather.new.items c.gather.new.stream c.in_ok-reading.reading (c.in_ok-reading.ensures.ok.goes_on may.0 may.1 may.2))
 
-pub round_from-audit_and_gather-audits-requires-clause-may : goal.round_from-audit_and_gather-audits-requires-clause-may
-round_from-audit_and_gather-audits-requires-clause-may g t c κs within =
+pub audit_and_gather-audits-requires-clause-may : goal.audit_and_gather-audits-requires-clause-may
+audit_and_gather-audits-requires-clause-may g c κs within =
     let may = c.requires.may in
     may_go_on (g.R.Source.left c.gather.new.source) c.gather.new.items c.gather.new.stream c.in_ok-reading.reading (may.0, may.1, c.in_ok-reading.ensures.ok.goes_on may.0 may.1 may.2) (c.goes_on_beside.ensures.more c.if-not-goes_on_beside.false)
 
-pub round_from-returns-in_err-audits-clause-no_further : goal.round_from-returns-in_err-audits-clause-no_further
-round_from-returns-in_err-audits-clause-no_further g t c =
+pub returns-in_err-audits-clause-no_further : goal.returns-in_err-audits-clause-no_further
+returns-in_err-audits-clause-no_further g c =
     let left = g.R.Source.left in
     let front = c.as_slice-front.result.now in
     let few = c.goes_on_beside.ensures.few c.if-not-goes_on_beside.false in
     let same = ap length c.as_slice-front.ensures in
-    stops_beside (left c.args.source.now) (left c.gather.new.source) (left c.audit_and_gather-audits.new.source) c.args.stream.now c.gather.new.stream c.args.items c.gather.new.items c.next_few.result c.args.lacking (c.args.lacking - length front) c.args.came_to c.in_ok-reading.reading
-    (c.goes_on_beside.ensures.more c.if-not-goes_on_beside.false) c.next_few.ensures (omega (arith, few, same)) c.in_ok-reading.ensures.ok c.gather.ensures.no_further c.audit_and_gather-audits.ensures.no_further
+    stops_beside (left c.args.source.now) (left c.gather.new.source) (left c.audit_and_gather-audits.new.source) c.args.stream.now c.gather.new.stream c.args.items c.gather.new.items c.first_few.result c.args.lacking (c.args.lacking - length front) c.args.came_to c.in_ok-reading.reading
+    (c.goes_on_beside.ensures.more c.if-not-goes_on_beside.false) c.first_few.ensures (omega (arith, few, same)) c.in_ok-reading.ensures.ok c.gather.ensures.no_further c.audit_and_gather-audits.ensures.no_further
 
-pub round_from-returns-in_err-rest-clause-no_further : goal.round_from-returns-in_err-rest-clause-no_further
-round_from-returns-in_err-rest-clause-no_further g t c =
+pub returns-in_err-rest-clause-no_further : goal.returns-in_err-rest-clause-no_further
+returns-in_err-rest-clause-no_further g c =
     let left = g.R.Source.left in
     let front = c.as_slice-front.result.now in
     let few = c.goes_on_beside.ensures.few c.if-not-goes_on_beside.false in
     let same = ap length c.as_slice-front.ensures in
-    stops_beside (left c.args.source.now) (left c.gather.new.source) (left c.audit_and_gather-audits.new.source) c.args.stream.now c.gather.new.stream c.args.items c.gather.new.items c.next_few.result c.args.lacking (c.args.lacking - length front) c.args.came_to c.in_ok-reading.reading
-    (c.goes_on_beside.ensures.more c.if-not-goes_on_beside.false) c.next_few.ensures (omega (arith, few, same)) c.in_ok-reading.ensures.ok c.gather.ensures.no_further c.audit_and_gather-audits.ensures.no_further
+    stops_beside (left c.args.source.now) (left c.gather.new.source) (left c.audit_and_gather-audits.new.source) c.args.stream.now c.gather.new.stream c.args.items c.gather.new.items c.first_few.result c.args.lacking (c.args.lacking - length front) c.args.came_to c.in_ok-reading.reading
+    (c.goes_on_beside.ensures.more c.if-not-goes_on_beside.false) c.first_few.ensures (omega (arith, few, same)) c.in_ok-reading.ensures.ok c.gather.ensures.no_further c.audit_and_gather-audits.ensures.no_further
 
-pub round_from-returns-in_err-round-clause-no_further : goal.round_from-returns-in_err-round-clause-no_further
-round_from-returns-in_err-round-clause-no_further g t c =
+pub returns-in_err-round-clause-no_further : goal.returns-in_err-round-clause-no_further
+returns-in_err-round-clause-no_further g c =
     let left = g.R.Source.left in
     let front = c.as_slice-front.result.now in
     let few = c.goes_on_beside.ensures.few c.if-not-goes_on_beside.false in
     let same = ap length c.as_slice-front.ensures in
-    stops_beside (left c.args.source.now) (left c.gather.new.source) (left c.audit_and_gather-audits.new.source) c.args.stream.now c.gather.new.stream c.args.items c.gather.new.items c.next_few.result c.args.lacking (c.args.lacking - length front) c.args.came_to c.in_ok-reading.reading
-    (c.goes_on_beside.ensures.more c.if-not-goes_on_beside.false) c.next_few.ensures (omega (arith, few, same)) c.in_ok-reading.ensures.ok c.gather.ensures.no_further c.audit_and_gather-audits.ensures.no_further
+    stops_beside (left c.args.source.now) (left c.gather.new.source) (left c.audit_and_gather-audits.new.source) c.args.stream.now c.gather.new.stream c.args.items c.gather.new.items c.first_few.result c.args.lacking (c.args.lacking - length front) c.args.came_to c.in_ok-reading.reading
+    (c.goes_on_beside.ensures.more c.if-not-goes_on_beside.false) c.first_few.ensures (omega (arith, few, same)) c.in_ok-reading.ensures.ok c.gather.ensures.no_further c.audit_and_gather-audits.ensures.no_further
 
-pub round_from-returns-clause-no_further : goal.round_from-returns-clause-no_further
-round_from-returns-clause-no_further g t c =
+pub returns-clause-no_further : goal.returns-clause-no_further
+returns-clause-no_further g c =
     let left = g.R.Source.left in
     let front = c.as_slice-front.result.now in
     let few = c.goes_on_beside.ensures.few c.if-not-goes_on_beside.false in
     let same = ap length c.as_slice-front.ensures in
-    stops_beside (left c.args.source.now) (left c.gather.new.source) (left c.audit_and_gather-audits.new.source) c.args.stream.now c.gather.new.stream c.args.items c.gather.new.items c.next_few.result c.args.lacking (c.args.lacking - length front) c.args.came_to c.in_ok-reading.reading
-    (c.goes_on_beside.ensures.more c.if-not-goes_on_beside.false) c.next_few.ensures (omega (arith, few, same)) c.in_ok-reading.ensures.ok c.gather.ensures.no_further c.audit_and_gather-audits.ensures.no_further
+    stops_beside (left c.args.source.now) (left c.gather.new.source) (left c.audit_and_gather-audits.new.source) c.args.stream.now c.gather.new.stream c.args.items c.gather.new.items c.first_few.result c.args.lacking (c.args.lacking - length front) c.args.came_to c.in_ok-reading.reading
+    (c.goes_on_beside.ensures.more c.if-not-goes_on_beside.false) c.first_few.ensures (omega (arith, few, same)) c.in_ok-reading.ensures.ok c.gather.ensures.no_further c.audit_and_gather-audits.ensures.no_further
 
-pub round_from-returns-clause-gathers : goal.round_from-returns-clause-gathers
-round_from-returns-clause-gathers g t c =
+pub returns-clause-gathers : goal.returns-clause-gathers
+returns-clause-gathers g c =
     let left = g.R.Source.left in
     let front = c.gather.new.items in
     let after = c.audit_and_gather-audits.new in
@@ -105,12 +105,12 @@ round_from-returns-clause-gathers g t c =
     let q = IfOk-at_ok (λ (r : Round). Gathers (left c.gather.new.source) (left after.source) c.gather.new.stream after.stream [] r.items lacks readings.More r.reading) c.in_ok-rest.was c.audit_and_gather-audits.ensures.gathers in
     let alone = subst (λ (x : Reading). Gathers (left c.gather.new.source) (left after.source) c.gather.new.stream after.stream [] rest.items lacks x rest.reading) (sym (c.goes_on_beside.ensures.more c.if-not-goes_on_beside.false)) q in
     let behind = gathers_behind (left c.gather.new.source) (left after.source) c.gather.new.stream after.stream front rest.items lacks c.args.lacking c.in_ok-reading.reading rest.reading (omega (arith, few, same)) alone in
-    let both = gathers_on (left c.args.source.now) (left c.gather.new.source) (left after.source) c.args.stream.now c.gather.new.stream after.stream c.args.items front (front ++ rest.items) c.next_few.result c.args.lacking c.args.came_to c.in_ok-reading.reading rest.reading c.in_ok-reading.ensures.ok behind in
+    let both = gathers_on (left c.args.source.now) (left c.gather.new.source) (left after.source) c.args.stream.now c.gather.new.stream after.stream c.args.items front (front ++ rest.items) c.first_few.result c.args.lacking c.args.came_to c.in_ok-reading.reading rest.reading c.in_ok-reading.ensures.ok behind in
     subst (λ (x : Reading). Gathers (left c.args.source.now) (left after.source) c.args.stream.now after.stream c.args.items c.in_ok-round.round.items c.args.lacking c.args.came_to x) (sym c.in_ok-round.ensures.reading)
     (subst (λ (x : List Item). Gathers (left c.args.source.now) (left after.source) c.args.stream.now after.stream c.args.items x c.args.lacking c.args.came_to rest.reading) (sym c.in_ok-round.ensures.items) both)
 
-pub round_from-returns-clause-audits : goal.round_from-returns-clause-audits
-round_from-returns-clause-audits g t c =
+pub returns-clause-audits : goal.returns-clause-audits
+returns-clause-audits g c =
     let header = c.args.judge.now.header in
     let before = c.args.before in
     let until = c.placed-until.result in
