@@ -12,7 +12,8 @@ use heesch_io::NoMemory;
 use std::alloc::Global;
 use std::thread::Threads;
 
-/// The answers on the numbers from `from` to before `until`, in order, by as many workers as told.
+/// The answers on the numbers from `from` to before `until`, in order, by as many workers as told, or by one for each
+/// number where these are fewer: a thread that finds no ticket would only cost its making.
 ///
 /// Item i is an answer of the job's work on `from + i`. Each worker is one call of `work`, in threads by halves, or in
 /// the caller's own where no thread can be made. `NoMemory` comes where memory was refused, or where an answer was
@@ -35,6 +36,7 @@ pub fn run_span<R: Threads + Sync, T: Send + Sync + Drop, W: Answer<T> + Sync, H
     ensures answers { IfOk result (λ items. AnswersFrom (W.gives job.now.work) from items.items) }
 {
     let count = until - from;
+    let workers = workers.min(count.max(1));
     let (mut board, seat) = Board::new(alloc, count)?;
     let seats = deal(alloc, &mut board, seat, workers)?;
     let Gathered { seats, pairs } = gather(rt, alloc, job, from, &board, seats, 0, gate)?;
