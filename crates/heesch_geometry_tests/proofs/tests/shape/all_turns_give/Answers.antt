@@ -4,7 +4,7 @@ use Rattle.heesch_grid.specs.Geometry.{apply}
 use Rattle.heesch_grid.specs.Vectors.{IsWithin}
 use Rattle.heesch_shape.proofs.Best.{image_small}
 use Rattle.heesch_shape.proofs.Sets.{images_hold}
-use Rattle.heesch_geometry_tests.proofs.shape.all_turns_give.Goals as goal
+use Rattle.heesch_geometry_tests.proofs.tests.shape.all_turns_give.Goals as goal
 
 pub image-requires-clause-within : goal.image-requires-clause-within
 image-requires-clause-within g c =

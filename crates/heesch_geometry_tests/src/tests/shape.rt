@@ -1,8 +1,9 @@
 //! Faults with their places, and canonical forms of images under all turns.
-use crate::made::{are_near, cells, shape_of};
 use heesch_grid::{Cell, Grid, Hex, Iamond, Iso, Square};
+use heesch_made::{are_near, cells, shape_of};
 use heesch_shape::{Shape, ShapeFault};
 use std::process::Abort;
+use std::test::Fail;
 
 /// The fault of these cells.
 fn fault_of<G: Grid>(rt: &impl Abort, cells: &[Cell]) -> Option<ShapeFault> {
@@ -11,8 +12,8 @@ fn fault_of<G: Grid>(rt: &impl Abort, cells: &[Cell]) -> Option<ShapeFault> {
 }
 
 /// Whether the image under each turn has the wanted canonical form.
-fn all_turns_give<G: Grid>(rt: &impl Abort, given: &[Cell], wanted: &[Cell]) -> bool {
-    let base = shape_of::<G>(rt, given).normalised();
+fn all_turns_give<G: Grid>(given: &[Cell], wanted: &[Cell]) -> Result<bool, Fail> {
+    let base = shape_of::<G>(given)?.normalised();
     for k in 0..G::TURNS {
         let by = Iso {
             turn: k,
@@ -21,10 +22,10 @@ fn all_turns_give<G: Grid>(rt: &impl Abort, given: &[Cell], wanted: &[Cell]) -> 
         };
         let form = base.image(by).canonical();
         if form.cells() != wanted {
-            return false;
+            return Ok(false);
         }
     }
-    true
+    Ok(true)
 }
 
 #[test]
@@ -51,7 +52,7 @@ fn faults_have_places(rt: HostRuntime) {
 }
 
 #[test]
-fn turned_pentominoes_have_one_form(rt: HostRuntime) {
+fn turned_pentominoes_have_one_form(rt: HostRuntime) -> Result<(), Fail> {
     for (given, form) in [
         (
             cells![2, 8; 2, 9; 2, 11; 2, 10; 2, 7],
@@ -102,7 +103,7 @@ fn turned_pentominoes_have_one_form(rt: HostRuntime) {
             cells![1, 0; 0, 1; 1, 1; 2, 1; 1, 2],
         ),
     ] {
-        assert!(rt; all_turns_give::<Square>(&rt, &given, &form));
+        assert!(rt; all_turns_give::<Square>(&given, &form)?);
     }
     for (given, form) in [
         (
@@ -126,7 +127,7 @@ fn turned_pentominoes_have_one_form(rt: HostRuntime) {
             cells![1, 0; 2, 0; 1, 1; 0, 2; 1, 2],
         ),
     ] {
-        assert!(rt; all_turns_give::<Hex>(&rt, &given, &form));
+        assert!(rt; all_turns_give::<Hex>(&given, &form)?);
     }
     for (given, form) in [
         (
@@ -146,6 +147,7 @@ fn turned_pentominoes_have_one_form(rt: HostRuntime) {
             cells![4, 1; 2, 2; 5, 2; 1, 4; 4, 4],
         ),
     ] {
-        assert!(rt; all_turns_give::<Iamond>(&rt, &given, &form));
+        assert!(rt; all_turns_give::<Iamond>(&given, &form)?);
     }
+    Ok(())
 }

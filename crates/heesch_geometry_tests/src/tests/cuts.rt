@@ -3,16 +3,15 @@ ghost use Rattle.std.specs.Prelude.{◌≡◌, ◌≤◌, All, IfOk, vec_len};
 ghost use Rattle.heesch_grid.specs.Polyform.{IsCanonicalListOf};
 ghost use Rattle.heesch_grid.specs.Vectors.{IsWithin};
 
-use crate::made::{canonical_of, cells};
 use heesch_cert::Cut;
 use heesch_cnf::Lit;
 use heesch_cuts::{clause_of, cut_for, lawful};
 use heesch_grid::{Cell, Grid, Hex, Square};
 use heesch_io::{NoMemory, Seq};
+use heesch_made::{canonical_of, cells};
 use heesch_place::Universe;
 use heesch_shape::Shape;
 use std::alloc::Global;
-use std::process::Abort;
 use std::test::Fail;
 
 /// The cut of this level, hole and border.
@@ -38,15 +37,14 @@ fn numbers_of(alloc: Global, clause: &[Lit]) -> Result<Vec<i64>, NoMemory> {
 
 /// The clause of the cut over the universe of the single square at level 2, or None where the cut isn't lawful.
 fn clause_over_square(
-    rt: &impl Abort,
     alloc: Global,
     level: u32,
     hole: &[Cell],
     border: &[u32],
-) -> Result<Option<Vec<i64>>, NoMemory>
+) -> Result<Option<Vec<i64>>, Fail>
     requires { All (IsWithin 100000) hole.now }
 {
-    let square = canonical_of::<Square>(rt, &cells![0, 0]);
+    let square = canonical_of::<Square>(&cells![0, 0])?;
     let universe = Universe::of(alloc, &square, 2)?;
     let cut = cut_of(alloc, level, hole, border)?;
     if !lawful(alloc, &square, &universe, &cut)? {
@@ -61,12 +59,12 @@ fn clause_over_square(
 fn conditions_of_the_row_are_all_needed(rt: HostRuntime) -> Result<(), Fail> {
     let alloc = rt.alloc();
     let hole = cells![1, 1];
-    let clause = clause_over_square(&rt, alloc, 2, &hole, &[5, 7, 19, 23])?;
+    let clause = clause_over_square(alloc, 2, &hole, &[5, 7, 19, 23])?;
     assert!(rt; clause.is_some_and(|c| c.as_slice() == [-5, -7, 8, -19, -23].as_slice()));
-    let same = clause_over_square(&rt, alloc, 2, &cells![0, 1; 1, 1], &[2])?;
+    let same = clause_over_square(alloc, 2, &cells![0, 1; 1, 1], &[2])?;
     assert!(rt; same.is_none());
     for level in [0, 1, 3] {
-        assert!(rt; clause_over_square(&rt, alloc, level, &hole, &[5, 7, 19, 23])?.is_none());
+        assert!(rt; clause_over_square(alloc, level, &hole, &[5, 7, 19, 23])?.is_none());
     }
     for border in [
         &[5, 7, 19][..],
@@ -75,11 +73,11 @@ fn conditions_of_the_row_are_all_needed(rt: HostRuntime) -> Result<(), Fail> {
         &[0, 5, 7, 19, 23],
         &[5, 7, 19, 23, 25],
     ] {
-        assert!(rt; clause_over_square(&rt, alloc, 2, &hole, border)?.is_none());
+        assert!(rt; clause_over_square(alloc, 2, &hole, border)?.is_none());
     }
-    assert!(rt; clause_over_square(&rt, alloc, 2, &[], &[])?.is_none());
-    assert!(rt; clause_over_square(&rt, alloc, 2, &cells![0, 0], &[2, 4, 5, 7])?.is_none());
-    assert!(rt; clause_over_square(&rt, alloc, 2, &cells![1, 1; 1, 1], &[5, 7, 19, 23])?.is_none());
+    assert!(rt; clause_over_square(alloc, 2, &[], &[])?.is_none());
+    assert!(rt; clause_over_square(alloc, 2, &cells![0, 0], &[2, 4, 5, 7])?.is_none());
+    assert!(rt; clause_over_square(alloc, 2, &cells![1, 1; 1, 1], &[5, 7, 19, 23])?.is_none());
     Ok(())
 }
 
@@ -143,7 +141,7 @@ fn gives<G: Grid>(
 #[test]
 fn models_with_holes_get_a_joined_one(rt: HostRuntime) -> Result<(), Fail> {
     let alloc = rt.alloc();
-    let square = canonical_of::<Square>(&rt, &cells![0, 0]);
+    let square = canonical_of::<Square>(&cells![0, 0])?;
     for (chosen, hole, border, clause) in [
         (
             [5, 7, 19, 23].as_slice(),
@@ -160,9 +158,9 @@ fn models_with_holes_get_a_joined_one(rt: HostRuntime) -> Result<(), Fail> {
     ] {
         assert!(rt; gives(alloc, &square, 2, chosen, &hole, &border, &clause)?);
     }
-    let heptomino = canonical_of::<Square>(&rt, &cells![0, 0; 1, 0; 2, 0; 0, 1; 2, 1; 0, 2; 1, 2]);
+    let heptomino = canonical_of::<Square>(&cells![0, 0; 1, 0; 2, 0; 0, 1; 2, 1; 0, 2; 1, 2])?;
     assert!(rt; gives(alloc, &heptomino, 1, &[], &cells![1, 1], &[], &[])?);
-    let ring = canonical_of::<Hex>(&rt, &cells![1, 0; 2, 0; 0, 1; 2, 1; 0, 2; 1, 2]);
+    let ring = canonical_of::<Hex>(&cells![1, 0; 2, 0; 0, 1; 2, 1; 0, 2; 1, 2])?;
     assert!(rt; gives(alloc, &ring, 1, &[], &cells![1, 1], &[], &[])?);
     Ok(())
 }
@@ -171,7 +169,7 @@ fn models_with_holes_get_a_joined_one(rt: HostRuntime) -> Result<(), Fail> {
 #[test]
 fn open_models_get_none(rt: HostRuntime) -> Result<(), Fail> {
     let alloc = rt.alloc();
-    let square = canonical_of::<Square>(&rt, &cells![0, 0]);
+    let square = canonical_of::<Square>(&cells![0, 0])?;
     for chosen in [[].as_slice(), &[1, 2, 3, 4, 5, 6, 7, 8], &[5, 7, 8, 19, 23]] {
         assert!(rt; cut_with_clause(alloc, &square, 2, chosen)?.is_none());
     }

@@ -1,9 +1,9 @@
 //! Classes of small covers.
-use crate::made::{cells, isos, shape_of, tiling_of};
+use super::made::tiling_of;
 use heesch_cert::{Classes, Member};
 use heesch_grid::{Cell, Grid, Iamond, Iso, Square};
-use heesch_io::NoMemory;
 use heesch_lattice::Triple;
+use heesch_made::{cells, isos, shape_of};
 use heesch_orbit::classes;
 use std::alloc::Global;
 use std::process::Abort;
@@ -16,10 +16,10 @@ fn classes_of<G: Grid>(
     cells: &[Cell],
     triple: Triple,
     places: &[Iso],
-) -> Result<Classes, NoMemory> {
-    let shape = shape_of::<G>(rt, cells);
+) -> Result<Classes, Fail> {
+    let shape = shape_of::<G>(cells)?;
     let tiling = tiling_of::<G>(rt, alloc, triple, places)?;
-    classes(alloc, &shape, &tiling)
+    Ok(classes(alloc, &shape, &tiling)?)
 }
 
 /// The tiles are in one class, by these symmetries.

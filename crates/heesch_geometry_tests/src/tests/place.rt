@@ -1,9 +1,8 @@
 //! How many variables the universes of small shapes have.
 ghost use Rattle.std.specs.Prelude.{◌≤◌};
 
-use crate::made::{canonical_of, cells};
 use heesch_grid::{Cell, Grid, Hex, Iamond, Iso, Square};
-use heesch_io::NoMemory;
+use heesch_made::{canonical_of, cells};
 use heesch_place::{Placement, Universe};
 use heesch_shape::Shape;
 use std::alloc::Global;
@@ -11,16 +10,11 @@ use std::process::Abort;
 use std::test::Fail;
 
 /// The universe of the canonical shape of these cells.
-fn universe_of<G: Grid>(
-    rt: &impl Abort,
-    alloc: Global,
-    cells: &[Cell],
-    level: u32,
-) -> Result<Universe<G>, NoMemory>
+fn universe_of<G: Grid>(alloc: Global, cells: &[Cell], level: u32) -> Result<Universe<G>, Fail>
     requires { (1 ≤ level) × (level ≤ 6) }
 {
-    let shape = canonical_of::<G>(rt, cells);
-    Universe::of(alloc, &shape, level)
+    let shape = canonical_of::<G>(cells)?;
+    Ok(Universe::of(alloc, &shape, level)?)
 }
 
 /// The universe has so many variables, and each is found by its level and placement.
@@ -30,10 +24,10 @@ fn assert_count<G: Grid>(
     cells: &[Cell],
     level: u32,
     count: u32,
-) -> Result<(), NoMemory>
+) -> Result<(), Fail>
     requires { (1 ≤ level) × (level ≤ 6) }
 {
-    let universe = universe_of::<G>(rt, alloc, cells, level)?;
+    let universe = universe_of::<G>(alloc, cells, level)?;
     assert_eq!(rt; universe.count(), count);
     for var in 1..universe.count() + 1 {
         let found = universe.number_of(universe.level_of(var), universe.placement_of(var));
@@ -58,7 +52,7 @@ fn universes_have_as_many_variables_as_the_rows(rt: HostRuntime) -> Result<(), F
 #[test]
 fn squares_around_a_square_are_numbered_in_order(rt: HostRuntime) -> Result<(), Fail> {
     let alloc = rt.alloc();
-    let universe = universe_of::<Square>(&rt, alloc, &cells![0, 0], 2)?;
+    let universe = universe_of::<Square>(alloc, &cells![0, 0], 2)?;
     assert_eq!(rt; universe.count(), 24);
     let first = cells![-1, -1; 0, -1; 1, -1; -1, 0; 1, 0; -1, 1; 0, 1; 1, 1];
     for (i, cell) in first.iter().enumerate() {

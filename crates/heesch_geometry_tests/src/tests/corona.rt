@@ -2,11 +2,12 @@
 ghost use Rattle.std.specs.Prelude.{All, IfOk};
 ghost use Rattle.heesch_corona.specs.Tiles.{IsInRange};
 
-use crate::made::{are_in_range, cells, isos, shape_of};
+use super::made::are_in_range;
 use heesch_cert::Layers;
 use heesch_corona::{CoronaAnswer, check_coronas};
 use heesch_grid::{Cell, Grid, Iso, Square};
 use heesch_io::{NoMemory, Seq};
+use heesch_made::{cells, isos, shape_of};
 use std::alloc::Global;
 use std::process::Abort;
 use std::test::Fail;
@@ -45,11 +46,11 @@ fn checked<G: Grid>(
     cells: &[Cell],
     layers: &[&[Iso]],
     hole_free: bool,
-) -> Result<CoronaAnswer, NoMemory> {
-    let shape = shape_of::<G>(rt, cells);
+) -> Result<CoronaAnswer, Fail> {
+    let shape = shape_of::<G>(cells)?;
     let layers = layers_of::<G>(rt, alloc, layers)?;
     assert!(rt; layers.layers.len() <= 6);
-    check_coronas(alloc, &shape, &layers, hole_free)
+    Ok(check_coronas(alloc, &shape, &layers, hole_free)?)
 }
 
 /// Whether this cell is the first uncovered one, at this level.
@@ -69,7 +70,7 @@ fn is_holed(answer: &CoronaAnswer, at: u32, hole: &[Cell]) -> bool {
 }
 
 /// The answer for these layers of a single square, where no holes are wanted.
-fn of_squares(rt: &impl Abort, alloc: Global, layers: &[&[Iso]]) -> Result<CoronaAnswer, NoMemory> {
+fn of_squares(rt: &impl Abort, alloc: Global, layers: &[&[Iso]]) -> Result<CoronaAnswer, Fail> {
     checked::<Square>(rt, alloc, &cells![0, 0], layers, true)
 }
 

@@ -1,9 +1,9 @@
 //! Draws and shapes worked outside of this program.
 ghost use Rattle.std.specs.Prelude.{◌≤◌};
 
-use crate::made::cells;
 use heesch_grid::{Cell, Grid, Hex, Iamond, Square};
 use heesch_grow::{Draws, grown};
+use heesch_made::cells;
 
 /// Whether the shape of n cells from the seed has these cells, and leaves a state from which this is drawn next.
 fn gives<G: Grid>(n: u32, seed: u64, cells: &[Cell], next: u32) -> bool

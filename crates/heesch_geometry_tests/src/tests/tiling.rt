@@ -1,7 +1,8 @@
 //! Covers and plain tilings of small polyforms.
-use crate::made::{cells, isos, shape_of, tiling_of};
+use super::made::tiling_of;
 use heesch_grid::{Cell, Iamond, Square};
 use heesch_lattice::Triple;
+use heesch_made::{cells, isos, shape_of};
 use heesch_tiling::{Cover, Plain, check_cover, plain};
 use std::test::Fail;
 
@@ -27,7 +28,7 @@ fn tetrominoes_by_translations(rt: HostRuntime) -> Result<(), Fail> {
         (cells![0, 0; 1, 0; 0, 1; 1, 1], 2, 2, 0),
         (cells![0, 0; 1, 0; 1, 1; 2, 1], 2, 2, 0),
     ] {
-        let shape = shape_of::<Square>(&rt, &tetromino);
+        let shape = shape_of::<Square>(&tetromino)?;
         assert_eq!(rt; plain(&shape), by_translation(p, q, s));
     }
     Ok(())
@@ -36,11 +37,11 @@ fn tetrominoes_by_translations(rt: HostRuntime) -> Result<(), Fail> {
 /// A pentomino and two polyiamonds tile by half-turns alone.
 #[test]
 fn polyforms_by_half_turns(rt: HostRuntime) -> Result<(), Fail> {
-    let cup = shape_of::<Square>(&rt, &cells![0, 0; 1, 0; 2, 0; 0, 1; 2, 1]);
+    let cup = shape_of::<Square>(&cells![0, 0; 1, 0; 2, 0; 0, 1; 2, 1])?;
     assert_eq!(rt; plain(&cup), by_half_turn(10, 1, 3, 5, 0));
-    let triangle = shape_of::<Iamond>(&rt, &cells![1, 1]);
+    let triangle = shape_of::<Iamond>(&cells![1, 1])?;
     assert_eq!(rt; plain(&triangle), by_half_turn(1, 1, 0, 0, 0));
-    let trapezium = shape_of::<Iamond>(&rt, &cells![1, 1; 4, 1; 2, 2]);
+    let trapezium = shape_of::<Iamond>(&cells![1, 1; 4, 1; 2, 2])?;
     assert_eq!(rt; plain(&trapezium), by_half_turn(3, 1, 0, 0, 0));
     Ok(())
 }
@@ -49,7 +50,7 @@ fn polyforms_by_half_turns(rt: HostRuntime) -> Result<(), Fail> {
 #[test]
 fn covers_by_dominoes(rt: HostRuntime) -> Result<(), Fail> {
     let alloc = rt.alloc();
-    let domino = shape_of::<Square>(&rt, &cells![0, 0; 1, 0]);
+    let domino = shape_of::<Square>(&cells![0, 0; 1, 0])?;
     let places = isos![0, 0, 0; 0, 1, 0];
     let doubled = |a, b| Cover::Doubled {
         cell: Cell { a, b },

@@ -8,7 +8,7 @@ use Rattle.heesch_grid.specs.Grids.{square}
 use Rattle.heesch_grid.specs.Pattern.{grid_of}
 use Rattle.heesch_grid.specs.Pairs.{within_of}
 use Rattle.heesch_grid.specs.Vectors.{IsWithin}
-use Rattle.heesch_geometry_tests.proofs.place.placements_hold_the_isometry_of_least_turn.Goals as goal
+use Rattle.heesch_geometry_tests.proofs.tests.place.placements_hold_the_isometry_of_least_turn.Goals as goal
 
 pub new-place-requires-clause-within : goal.new-place-requires-clause-within
 new-place-requires-clause-within g c =

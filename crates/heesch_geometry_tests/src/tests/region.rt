@@ -1,7 +1,7 @@
 //! Regions of each grid.
-use crate::made::are_near;
 use heesch_grid::{Cell, Grid, Hex, Iamond, Square};
 use heesch_io::NoMemory;
+use heesch_made::are_near;
 use heesch_region::Region;
 use std::alloc::Global;
 use std::process::Abort;
