@@ -1,6 +1,7 @@
 //! What the solver and propagation take on one formula. No clause bounds it.
 use heesch_cdcl::{Found, Solver};
 use heesch_cnf::{FlatFormula, Line, Lit, is_clause};
+use heesch_made::lit;
 use heesch_trail::Trail;
 use std::alloc::Global;
 use std::process::Abort;
@@ -70,10 +71,7 @@ fn formula_of_boards(rt: &impl Abort, alloc: Global) -> Result<FlatFormula, Fail
     for word in BOARDS.split_whitespace() {
         let number = word.parse::<i32>()?;
         if number != 0 {
-            clause.push(Lit {
-                var: number.unsigned_abs(),
-                positive: number > 0,
-            })?;
+            clause.push(lit(number))?;
             continue;
         }
         assert!(rt; formula.vars() == VARS && formula.len() < 1000);
