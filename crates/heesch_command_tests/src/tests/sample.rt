@@ -2,6 +2,7 @@
 use heesch_cert::Limits;
 use heesch_cnf::Version;
 use heesch_grid::GridName;
+use heesch_made::LIMITS;
 use heesch_pool::Open;
 use heesch_sample::sample;
 use std::test::Fail;
@@ -36,11 +37,8 @@ undecided size 0
 fn single_squares(rt: HostRuntime) -> Result<(), Fail> {
     let alloc = rt.alloc();
     let limits = Limits {
-        turns: 20_000,
-        levels: 3,
-        domain: 4,
-        size: 60_000_000,
         version: Version::Two,
+        ..LIMITS
     };
     let grid = GridName::Square;
     let text = sample(&rt, alloc, grid, 1, 3, 5, limits, 1, &Open)?;

@@ -3,17 +3,17 @@ use heesch_cert::Limits;
 use heesch_cnf::Version;
 use heesch_grid::GridName;
 use heesch_io::{IoStop, MemorySink};
+use heesch_made::LIMITS;
 use heesch_outers::write_outers_of_size;
 use heesch_pool::Open;
 use std::test::Fail;
 
 /// Limits under which the triangle's Heesch number stays open.
 const NARROW: Limits = Limits {
-    turns: 20_000,
     levels: 1,
     domain: 1,
-    size: 60_000_000,
     version: Version::Two,
+    ..LIMITS
 };
 
 const RECORD: &[u8] = b"shape 1,1
