@@ -1,12 +1,12 @@
 //! `heesch table` and `heesch sample`: tallies.
 ghost use Rattle.std.specs.Prelude.{◌≤◌};
 
-use crate::catalogues::FIVE_TETROMINOES;
 use crate::{first_other, written, written_over};
 use heesch_app::Status;
 use heesch_grid::Square;
 use heesch_grow::{Draws, grown};
 use heesch_io::{MemorySource, NoMemory};
+use heesch_made::{BRIEF_TETROMINOES, HOLED};
 use heesch_text::write_shape;
 use std::alloc::Global;
 use std::test::Fail;
@@ -16,23 +16,13 @@ const LIMITS: &str = "turns 20000 levels 3 domain 4 size 60000000";
 const UNDECIDED: &str =
     "undecided levels 0\nundecided holes 0\nundecided turns 0\nundecided size 0\n";
 
-const HOLED: &str = "heesch 1 square given turns 20000 levels 3 domain 4 size 60000000
-shape 0,0 1,0 2,0 0,1 2,1 0,2 1,2
-verdict heesch 0 nontiler 1
-coronas 0
-wall 1 refuted
-empty 9
-bare 1 same
-end 1
-";
-
 #[test]
 fn tallies_of_small_catalogues_are_those_worked_by_hand(rt: HostRuntime) -> Result<(), Fail> {
     let alloc = rt.alloc();
     for (line, input, counts) in [
         (
             "table",
-            FIVE_TETROMINOES,
+            BRIEF_TETROMINOES,
             "shapes 5\nholed 0\ntranslation 5\nhalfturn 0\nperiodic 0\nisohedral 5\n",
         ),
         (

@@ -1,6 +1,7 @@
 //! `heesch classify`: the catalogue of a size.
 use crate::{first_other, written};
 use heesch_app::Status;
+use heesch_made::BRIEF_TETROMINOES;
 use std::test::Fail;
 
 #[test]
@@ -35,22 +36,6 @@ fn single_triangles_have_the_entries_worked_by_hand(rt: HostRuntime) -> Result<(
     Ok(())
 }
 
-/// The brief catalogue of the five tetrominoes.
-pub(crate) const FIVE_TETROMINOES: &str =
-    "brief 2 square 4 turns 20000 levels 3 domain 4 size 60000000
-shape 0,0 1,0 2,0 3,0
-verdict tiles translation domain 1 classes 1
-shape 0,0 1,0 2,0 0,1
-verdict tiles translation domain 1 classes 1
-shape 0,0 1,0 2,0 1,1
-verdict tiles translation domain 1 classes 1
-shape 0,0 1,0 0,1 1,1
-verdict tiles translation domain 1 classes 1
-shape 0,0 1,0 1,1 2,1
-verdict tiles translation domain 1 classes 1
-end 5
-";
-
 const ONE_KITE: &str = "brief 2 kite 1 turns 20000 levels 3 domain 6 size 60000000
 shape 1,1
 verdict tiles periodic domain 6 classes 1
@@ -65,7 +50,7 @@ fn brief_texts_have_shapes_and_verdicts(rt: HostRuntime) -> Result<(), Fail> {
             "classify square 4 --brief",
             "",
             Status::Done,
-            FIVE_TETROMINOES,
+            BRIEF_TETROMINOES,
         ),
         (
             "classify kite 1 --domain 6 --brief",
