@@ -3,8 +3,4 @@
 #![tactic(auto)]
 
 #[cfg(test)]
-mod checks;
-#[cfg(test)]
-mod given;
-#[cfg(test)]
-mod hostile;
+mod tests;

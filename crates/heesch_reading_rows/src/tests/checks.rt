@@ -1,18 +1,10 @@
 //! `heesch check`: whether a catalogue is valid, else its first invalid part.
 use heesch_app::Status;
 use heesch_io::{MemorySource, NoMemory};
+use heesch_made::{HOLED, TRIANGLE, tetrominoes};
 use heesch_rows::{first_other, written, written_over};
 use std::alloc::Global;
 use std::test::Fail;
-
-pub(crate) const TRIANGLE: &str = "heesch 1 iamond 1 turns 20000 levels 3 domain 4 size 60000000
-shape 1,1
-verdict tiles halfturn domain 2 classes 1
-lattice 1 1 0
-tile 0 0 0 class 1 by 0 0 0
-tile 3 0 0 class 1 by 1 0 -1
-end 1
-";
 
 pub(crate) const CORONA: &str = "heesch 1 iamond 1 turns 20000 levels 1 domain 1 size 60000000
 shape 1,1
@@ -22,15 +14,10 @@ layer 0,0,-1 0,1,-1 1,0,-1 1,1,-1 1,2,-1 0,-1,0 0,1,0 1,0,0 1,1,0 0,-1,1 0,0,1 1
 end 1
 ";
 
-pub(crate) const HOLED: &str = "heesch 2 square given turns 20000 levels 3 domain 4 size 60000000
-shape 0,0 1,0 2,0 0,1 2,1 0,2 1,2
-verdict heesch 0 nontiler 1
-coronas 0
-wall 1 refuted
-empty 9
-bare 1 same
-end 1
-";
+/// The catalogue of the heptomino with a hole, of version 2.
+pub(crate) fn holed(alloc: Global) -> Result<String, NoMemory> {
+    Ok(HOLED.replacen(alloc, "heesch 1", "heesch 2", 1)?)
+}
 
 const OVER_SIZE: &str = "heesch 1 iamond 1 turns 20000 levels 1 domain 1 size 11
 shape 1,1
@@ -42,38 +29,18 @@ end 1
 
 const HEADER: &str = "heesch 1 square 4 turns 20000 levels 3 domain 4 size 60000000\n";
 
-/// The entries of the five tetrominoes.
-const ENTRIES: [&str; 5] = [
-    "shape 0,0 1,0 2,0 3,0\nverdict tiles translation domain 1 classes 1\nlattice 4 1 0\ntile 0 0 0 class 1 by 0 0 0\n",
-    "shape 0,0 1,0 2,0 0,1\nverdict tiles translation domain 1 classes 1\nlattice 4 1 1\ntile 0 0 0 class 1 by 0 0 0\n",
-    "shape 0,0 1,0 2,0 1,1\nverdict tiles translation domain 1 classes 1\nlattice 4 1 2\ntile 0 0 0 class 1 by 0 0 0\n",
-    "shape 0,0 1,0 0,1 1,1\nverdict tiles translation domain 1 classes 1\nlattice 2 2 0\ntile 0 0 0 class 1 by 0 0 0\n",
-    "shape 0,0 1,0 1,1 2,1\nverdict tiles translation domain 1 classes 1\nlattice 2 2 0\ntile 0 0 0 class 1 by 0 0 0\n",
-];
-
-/// The catalogue of the entries of these numbers, from 0.
-fn catalogue(alloc: Global, numbers: &[usize], end: &str) -> Result<String, NoMemory> {
-    let mut text = String::from_str(alloc, HEADER)?;
-    for number in numbers {
-        if let Some(entry) = ENTRIES.get(*number) {
-            text.push_str(entry)?;
-        }
-    }
-    text.push_str(end)?;
-    Ok(text)
-}
-
 #[test]
 fn valid_catalogues_are_valid(rt: HostRuntime) -> Result<(), Fail> {
     let alloc = rt.alloc();
-    let all = catalogue(alloc, &[0, 1, 2, 3, 4], "end 5\n")?;
+    let all = tetrominoes(alloc, HEADER, &[0, 1, 2, 3, 4], "end 5\n")?;
     let at_size = CORONA.replacen(alloc, "60000000", "12", 1)?;
+    let holed = holed(alloc)?;
     let rows = [
         ("check", TRIANGLE, Status::Done, "valid 1\n"),
         ("check", CORONA, Status::Done, "valid 1\n"),
         ("check", at_size.as_str(), Status::Done, "valid 1\n"),
         ("check", OVER_SIZE, Status::Done, "valid 1\n"),
-        ("check", HOLED, Status::Done, "valid 1\n"),
+        ("check", holed.as_str(), Status::Done, "valid 1\n"),
         ("check", all.as_str(), Status::Done, "valid 5\n"),
     ];
     assert_eq!(rt; first_other(&rt, alloc, &rows)?, None);
@@ -103,7 +70,7 @@ fn the_first_invalid_part_is_told(rt: HostRuntime) -> Result<(), Fail> {
         ([0, 1, 2, 3, 4].as_slice(), "en", "invalid entry 5\n"),
         ([0, 1].as_slice(), "shape ", "invalid entry 3\n"),
     ] {
-        let text = catalogue(alloc, numbers, end)?;
+        let text = tetrominoes(alloc, HEADER, numbers, end)?;
         let rows = [("check", text.as_str(), Status::Invalid, line)];
         assert_eq!(rt; first_other(&rt, alloc, &rows)?, None);
     }
