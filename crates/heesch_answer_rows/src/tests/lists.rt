@@ -1,5 +1,5 @@
 //! `heesch list`: what is written, and what is refused.
-use crate::FIVE_TETROMINOES;
+use super::FIVE_TETROMINOES;
 use heesch_app::Status;
 use heesch_rows::{first_other, written};
 use std::test::Fail;

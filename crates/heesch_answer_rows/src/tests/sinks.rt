@@ -1,5 +1,5 @@
 //! `heesch` over a sink that fails.
-use crate::FIVE_TETROMINOES;
+use super::FIVE_TETROMINOES;
 use heesch_app::Status;
 use heesch_io::MemorySink;
 use heesch_pool::Gate;
