@@ -1,0 +1,103 @@
+//! Searches that ended with holes forbidden.
+use super::{LEAST, TRIANGLE, cells, expect, isos};
+use heesch_cert::{Bare, Entry, Evidence, Layers, Limits, Phase, Verdict, Wall};
+use heesch_grid::Iamond;
+use heesch_io::Seq;
+use std::alloc::Global;
+use std::test::Fail;
+
+/// The limits under which the formula of one corona, of 12 literals, is too large.
+const TIGHT: Limits = Limits { size: 11, ..LEAST };
+
+/// The corona of the triangle, each tile by turn, da and db.
+const LAYER: [(u32, i32, i32); 12] = [
+    (0, 0, -1),
+    (0, 1, -1),
+    (1, 0, -1),
+    (1, 1, -1),
+    (1, 2, -1),
+    (0, -1, 0),
+    (0, 1, 0),
+    (1, 0, 0),
+    (1, 1, 0),
+    (0, -1, 1),
+    (0, 0, 1),
+    (1, 0, 1),
+];
+
+/// An entry of searches that ended with holes forbidden.
+fn searched(
+    alloc: Global,
+    verdict: Verdict,
+    layers: &[&[(u32, i32, i32)]],
+    wall: Wall,
+) -> Result<Entry, Fail> {
+    let mut all = Seq::new(alloc);
+    for layer in layers {
+        all.push(isos(alloc, *layer)?)?;
+    }
+    let free = Layers { layers: all };
+    Ok(Entry {
+        cells: cells(alloc, &TRIANGLE)?,
+        verdict,
+        evidence: Evidence::Search {
+            free,
+            wall,
+            bare: Bare::Absent,
+            wider: None,
+            triples: Seq::new(alloc),
+        },
+    })
+}
+
+/// One corona, under its limits and others.
+#[test]
+fn coronas(rt: HostRuntime) -> Result<(), Fail> {
+    let alloc = rt.alloc();
+    let levels = Verdict::Levels { h: 1 };
+    let entry = searched(alloc, levels, &[&LAYER], Wall::Absent)?;
+    for (limits, part) in [
+        (LEAST, 0),
+        (TIGHT, 0),
+        // The plain tiling is sought anew.
+        (Limits { domain: 2, ..LEAST }, 2),
+        (Limits { levels: 2, ..LEAST }, 2),
+    ] {
+        expect::<Iamond, _>(&rt, alloc, &entry, limits, part)?;
+    }
+    Ok(())
+}
+
+/// A tile that is missing, and a layer too many; the first two tiles in the other order, and one by a greater turn, and by none
+/// of the grid's.
+#[test]
+fn altered_coronas(rt: HostRuntime) -> Result<(), Fail> {
+    let alloc = rt.alloc();
+    let levels = Verdict::Levels { h: 1 };
+    let entry = searched(alloc, levels, &[&LAYER, &LAYER], Wall::Absent)?;
+    expect::<Iamond, _>(&rt, alloc, &entry, LEAST, 5)?;
+    let mut swapped = LAYER;
+    swapped.swap(0, 1);
+    let mut turned = LAYER;
+    turned[5] = (2, -1, 0);
+    let mut other_turn = LAYER;
+    other_turn[5] = (12, -1, 0);
+    for layer in [&LAYER[..11], &swapped, &turned, &other_turn] {
+        let entry = searched(alloc, levels, &[layer], Wall::Absent)?;
+        expect::<Iamond, _>(&rt, alloc, &entry, LEAST, 5)?;
+    }
+    Ok(())
+}
+
+/// No corona, where the formula is too large.
+#[test]
+fn formulas_too_large(rt: HostRuntime) -> Result<(), Fail> {
+    let alloc = rt.alloc();
+    let phase = Phase::Free;
+    let size = Verdict::Size { h: 0, phase, at: 1 };
+    let entry = searched(alloc, size, &[], Wall::Size)?;
+    expect::<Iamond, _>(&rt, alloc, &entry, TIGHT, 0)?;
+    expect::<Iamond, _>(&rt, alloc, &entry, LEAST, 6)?;
+    let entry = searched(alloc, size, &[], Wall::Absent)?;
+    expect::<Iamond, _>(&rt, alloc, &entry, TIGHT, 2)
+}
