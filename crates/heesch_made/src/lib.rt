@@ -2,17 +2,15 @@
 //! and worked texts.
 #![tactic(auto)]
 
-mod limits;
 mod literals;
 mod shapes;
 mod texts;
 
 pub use heesch_cert::Member;
 pub use heesch_grid::{Cell, Iso};
-pub use limits::LIMITS;
 pub use literals::{lit, lits};
 pub use shapes::{are_near, canonical_of, shape_of};
-pub use texts::{BRIEF_TETROMINOES, HOLED, TRIANGLE, tetrominoes, words_of};
+pub use texts::{BRIEF_TETROMINOES, HOLED, LIMITS, TRIANGLE, tetrominoes, words_of};
 
 /// The cells of these coordinates.
 #[macro_export]

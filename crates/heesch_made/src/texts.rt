@@ -1,4 +1,6 @@
 //! Words of a line, and worked texts.
+use heesch_cert::Limits;
+use heesch_cnf::Version;
 use heesch_io::NoMemory;
 use std::alloc::Global;
 
@@ -10,6 +12,15 @@ pub fn words_of(alloc: Global, line: &str) -> Result<Vec<String>, NoMemory> {
     }
     Ok(words)
 }
+
+/// The limits of the worked texts.
+pub const LIMITS: Limits = Limits {
+    turns: 20_000,
+    levels: 3,
+    domain: 4,
+    size: 60_000_000,
+    version: Version::One,
+};
 
 /// The catalogue of the single triangle.
 pub const TRIANGLE: &str = "heesch 1 iamond 1 turns 20000 levels 3 domain 4 size 60000000
