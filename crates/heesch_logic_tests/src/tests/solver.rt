@@ -3,7 +3,7 @@ ghost use Rattle.std.specs.Prelude.{◌≤◌};
 
 use super::made::{formula_of, judged};
 use heesch_cdcl::{Found, Solver, makes_false};
-use heesch_cnf::{Formula, Log, is_clause};
+use heesch_cnf::{Log, is_clause};
 use heesch_made::lits;
 use heesch_rup::LogAnswer;
 use std::alloc::Global;
@@ -22,16 +22,18 @@ const ALL_EIGHT: [&[i32]; 8] = [
     &[-1, -2, -3],
 ];
 
-/// What the solver finds of a formula within so many turns, and its log.
+/// What the solver finds of these clauses over so many variables within so many turns, and its log.
 fn solved(
     rt: &impl Abort,
     alloc: Global,
-    formula: Formula,
+    vars: u32,
+    clauses: &[&[i32]],
     turns: u32,
 ) -> Result<(Found, Log), Fail>
     requires some { 1 ≤ turns }
     requires few { turns ≤ 1000 }
 {
+    let formula = formula_of(rt, alloc, vars, clauses)?;
     assert!(rt; formula.clauses.len() < 1000);
     let mut solver = Solver::open(alloc, formula, turns)?;
     let found = solver.next()?;
@@ -41,8 +43,7 @@ fn solved(
 #[test]
 fn one_turn_is_spent(rt: HostRuntime) -> Result<(), Fail> {
     let alloc = rt.alloc();
-    let formula = formula_of(&rt, alloc, 3, &ALL_EIGHT)?;
-    let (found, log) = solved(&rt, alloc, formula, 1)?;
+    let (found, log) = solved(&rt, alloc, 3, &ALL_EIGHT, 1)?;
     assert!(rt; matches!(&found, Found::Spent));
     assert_eq!(rt; log.lines.len(), 1);
     let formula = formula_of(&rt, alloc, 3, &ALL_EIGHT)?;
@@ -54,8 +55,7 @@ fn one_turn_is_spent(rt: HostRuntime) -> Result<(), Fail> {
 #[test]
 fn eight_clauses_are_refuted(rt: HostRuntime) -> Result<(), Fail> {
     let alloc = rt.alloc();
-    let formula = formula_of(&rt, alloc, 3, &ALL_EIGHT)?;
-    let (found, log) = solved(&rt, alloc, formula, 27)?;
+    let (found, log) = solved(&rt, alloc, 3, &ALL_EIGHT, 27)?;
     assert!(rt; matches!(&found, Found::Refuted));
     let formula = formula_of(&rt, alloc, 3, &ALL_EIGHT)?;
     let answer = judged(&rt, alloc, &formula, &log)?;
@@ -90,8 +90,7 @@ fn a_given_clause_refutes(rt: HostRuntime) -> Result<(), Fail> {
 #[test]
 fn an_empty_clause_refutes_at_once(rt: HostRuntime) -> Result<(), Fail> {
     let alloc = rt.alloc();
-    let formula = formula_of(&rt, alloc, 1, &[&[1], &[], &[]])?;
-    let (found, log) = solved(&rt, alloc, formula, 1)?;
+    let (found, log) = solved(&rt, alloc, 1, &[&[1], &[], &[]], 1)?;
     assert!(rt; matches!(&found, Found::Refuted));
     assert_eq!(rt; log.lines.len(), 0);
     let Some(hints) = &log.last else {
