@@ -133,7 +133,12 @@ fn expect_final<R: Abort + Threads + Sync>(
     hint: u32,
     part: u32,
 ) -> Result<(), Fail> {
-    let entry = refuted(alloc, 1, learnt_and_cuts(alloc, hint)?, without_cuts(alloc)?)?;
+    let entry = refuted(
+        alloc,
+        1,
+        learnt_and_cuts(alloc, hint)?,
+        without_cuts(alloc)?,
+    )?;
     expect::<Square, _>(rt, alloc, &entry, LIMITS, part)
 }
 

@@ -93,7 +93,11 @@ fn an_altered_line_is_found(rt: HostRuntime) -> Result<(), Fail> {
     for (text, told, alterations) in [
         (SQUARE, HEADER, [("heesch 1", "brief 1")].as_slice()),
         (TRIANGLE, HEADER, &other_sizes),
-        (holed.as_str(), HEADER, &[("2 square given", "1 kite given")]),
+        (
+            holed.as_str(),
+            HEADER,
+            &[("2 square given", "1 kite given")],
+        ),
         (TRIANGLE, ENTRY, &other_shapes),
     ] {
         assert_eq!(rt; first_lost(&rt, alloc, text, told, alterations)?, None);
@@ -116,7 +120,10 @@ fn an_altered_tiling_is_found(rt: HostRuntime) -> Result<(), Fail> {
         ("tile 0 0 0", "tile 0 0  0"),
         ("by 0 0 0", "by 0 0 -0"),
     ];
-    assert_eq!(rt; first_lost(&rt, alloc, TRIANGLE, ENTRY, &alterations)?, None);
+    assert_eq!(rt;
+        first_lost(&rt, alloc, TRIANGLE, ENTRY, &alterations)?,
+        None
+    );
     let other_turn = [("tile 0 0 0", "tile 8 0 0")];
     assert_eq!(rt; first_lost(&rt, alloc, SQUARE, ENTRY, &other_turn)?, None);
     Ok(())
@@ -136,7 +143,10 @@ fn an_altered_refutation_is_found(rt: HostRuntime) -> Result<(), Fail> {
         ("bare 1 same\n", ""),
         ("nontiler 1", "nontiler 2"),
     ];
-    assert_eq!(rt; first_lost(&rt, alloc, &holed(alloc)?, ENTRY, &alterations)?, None);
+    assert_eq!(rt;
+        first_lost(&rt, alloc, &holed(alloc)?, ENTRY, &alterations)?,
+        None
+    );
     let missing_tile = [(" 1,0,1\n", "\n")];
     assert_eq!(rt; first_lost(&rt, alloc, CORONA, ENTRY, &missing_tile)?, None);
     Ok(())

@@ -10,11 +10,7 @@ use std::test::Fail;
 
 /// How many variables, clauses and literals the formula has.
 fn sizes(formula: &Formula) -> (u32, usize, u64) {
-    (
-        formula.vars,
-        formula.clauses.len(),
-        formula.literals(),
-    )
+    (formula.vars, formula.clauses.len(), formula.literals())
 }
 
 /// Whether the formula has a clause of just these literals at this place, from 0.
@@ -53,7 +49,10 @@ fn domino(rt: HostRuntime) -> Result<(), Fail> {
         (12, &[lit(-5), lit(25)]),
         (17, &[lit(-7), lit(26)]),
     ] {
-        assert!(rt; has_clause(&second.formula, place, literals), "clause {place}");
+        assert!(rt;
+            has_clause(&second.formula, place, literals),
+            "clause {place}"
+        );
     }
     let less = encode(rt.alloc(), &domino, 1, 169, Version::Two);
     assert_eq!(rt; less.err(), Some(EncodeStop::TooLarge));
@@ -61,11 +60,7 @@ fn domino(rt: HostRuntime) -> Result<(), Fail> {
 }
 
 /// How many variables, clauses and literals the formula of these cells has.
-fn counts<G: Grid>(
-    alloc: Global,
-    cells: &[Cell],
-    level: u32,
-) -> Result<(u32, usize, u64), Fail>
+fn counts<G: Grid>(alloc: Global, cells: &[Cell], level: u32) -> Result<(u32, usize, u64), Fail>
     requires { (1 ≤ level) × (level ≤ 6) }
 {
     let shape = canonical_of::<G>(cells)?;
