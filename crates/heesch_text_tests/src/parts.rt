@@ -1,7 +1,7 @@
 //! The shares of a small catalogue joined, and texts that aren't shares. The faults are worked by hand.
 ghost use Rattle.std.specs.Prelude.{◌<◌};
 
-use super::made::{source_of, text_of};
+use crate::made::{source_of, text_of};
 use heesch_io::{MemorySource, NoMemory, Seq};
 use heesch_made::tetrominoes;
 use heesch_parts::{InputStop, Span, joined, span};

@@ -1,5 +1,5 @@
 use Rattle.std.proofs.Common.{◌+◌, ◌≤◌, length}
-use Rattle.heesch_text_tests.proofs.tests.reader.feed_text.Given as goal
+use Rattle.heesch_text_tests.proofs.reader.feed_text.Given as goal
 
 abbrev pub invariant-loop-piece : goal.invariant-loop-piece
 invariant-loop-piece l =

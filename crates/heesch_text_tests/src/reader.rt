@@ -1,7 +1,7 @@
 //! Worked texts read in pieces, and texts that are none.
 ghost use Rattle.std.specs.Prelude.{◌+◌, ◌<◌, ◌≤◌, length, IfOk};
 
-use super::made::text_of;
+use crate::made::text_of;
 use heesch_io::Seq;
 use heesch_made::{HOLED, TRIANGLE};
 use heesch_reader::{Item, Part, Reader, Stop};

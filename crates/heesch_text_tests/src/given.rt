@@ -1,5 +1,5 @@
 //! List texts of which few bytes are read, with faults worked by hand.
-use super::made::{long_list, source_of};
+use crate::made::{long_list, source_of};
 use heesch_given::{GivenStop, shapes_given};
 use heesch_grid::Square;
 use heesch_io::{MemorySource, NoMemory};

@@ -1,5 +1,5 @@
 //! Lines and lists that are read, and ones that are refused.
-use super::made::long_list;
+use crate::made::long_list;
 use heesch_line::{LineFault, ListLine, ListStop, read_line, read_list};
 use std::alloc::Global;
 use std::test::Fail;

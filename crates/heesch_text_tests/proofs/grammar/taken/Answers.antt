@@ -3,7 +3,7 @@ use Rattle.heesch_text.specs.declared.line.Line.{Line}
 use Rattle.heesch_grammar.specs.Grammar.{steps}
 use Rattle.heesch_grammar.specs.Statements.{start}
 use Rattle.heesch_grammar.proofs.Running.{steps_push}
-use Rattle.heesch_text_tests.proofs.tests.grammar.taken.Goals as goal
+use Rattle.heesch_text_tests.proofs.grammar.taken.Goals as goal
 
 pub loop-line-preserved : goal.loop-line-preserved
 loop-line-preserved c =

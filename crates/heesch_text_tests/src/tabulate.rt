@@ -1,5 +1,5 @@
 //! Tallies of small catalogues, worked by hand.
-use super::made::source_of;
+use crate::made::source_of;
 use heesch_io::IoStop;
 use heesch_tabulate::{Tabulated, tabulate};
 use std::alloc::Global;

@@ -1,5 +1,5 @@
 use Rattle.heesch_reader.proofs.Following.{fed_room}
-use Rattle.heesch_text_tests.proofs.tests.reader.feed_piece.Goals as goal
+use Rattle.heesch_text_tests.proofs.reader.feed_piece.Goals as goal
 
 pub returns : goal.returns
 returns c =
