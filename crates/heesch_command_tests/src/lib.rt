@@ -2,4 +2,8 @@
 #![tactic(auto)]
 
 #[cfg(test)]
-mod tests;
+mod catalogue;
+#[cfg(test)]
+mod outers;
+#[cfg(test)]
+mod sample;

@@ -2,4 +2,14 @@
 #![tactic(auto)]
 
 #[cfg(test)]
-mod tests;
+mod claims;
+#[cfg(test)]
+mod effort;
+#[cfg(test)]
+mod exact;
+#[cfg(test)]
+mod io;
+#[cfg(test)]
+mod solver;
+#[cfg(test)]
+mod trail;

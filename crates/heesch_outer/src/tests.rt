@@ -31,21 +31,39 @@ const LEAST: Limits = Limits {
     version: Version::One,
 };
 
-/// The cells of these coordinates.
-macro_rules! cells {
-    ($($a:literal, $b:literal);*) => {
-        [$(Cell { a: $a, b: $b }),*]
-    };
-}
-
 /// The heptomino that encloses a cell.
-const ENCLOSING: [Cell; 7] = cells![0, 0; 1, 0; 2, 0; 0, 1; 2, 1; 0, 2; 1, 2];
+const ENCLOSING: [Cell; 7] = [
+    Cell { a: 0, b: 0 },
+    Cell { a: 1, b: 0 },
+    Cell { a: 2, b: 0 },
+    Cell { a: 0, b: 1 },
+    Cell { a: 2, b: 1 },
+    Cell { a: 0, b: 2 },
+    Cell { a: 1, b: 2 },
+];
 
 /// A heptomino that can be surrounded with holes alone.
-const CROSSING: [Cell; 7] = cells![1, 0; 0, 1; 1, 1; 2, 1; 3, 1; 1, 2; 1, 3];
+const CROSSING: [Cell; 7] = [
+    Cell { a: 1, b: 0 },
+    Cell { a: 0, b: 1 },
+    Cell { a: 1, b: 1 },
+    Cell { a: 2, b: 1 },
+    Cell { a: 3, b: 1 },
+    Cell { a: 1, b: 2 },
+    Cell { a: 1, b: 3 },
+];
 
 /// An octomino that can be surrounded once without holes.
-const HOOKED: [Cell; 8] = cells![0, 0; 1, 0; 2, 0; 2, 1; 3, 1; 2, 2; 1, 3; 2, 3];
+const HOOKED: [Cell; 8] = [
+    Cell { a: 0, b: 0 },
+    Cell { a: 1, b: 0 },
+    Cell { a: 2, b: 0 },
+    Cell { a: 2, b: 1 },
+    Cell { a: 3, b: 1 },
+    Cell { a: 2, b: 2 },
+    Cell { a: 1, b: 3 },
+    Cell { a: 2, b: 3 },
+];
 
 /// No layers.
 fn no_layers(alloc: Global) -> Layers
@@ -263,7 +281,7 @@ fn unknown_number(rt: HostRuntime) -> Result<(), Fail> {
         phase: Phase::Free,
         at: 1,
     };
-    let cells = cells![1, 1];
+    let cells = [Cell { a: 1, b: 1 }];
     let entry = search_entry(
         alloc,
         &cells,
@@ -309,7 +327,7 @@ fn square_that_tiles(rt: HostRuntime) -> Result<(), Fail> {
         members: seq(alloc, &[member])?,
     };
     let entry = Entry {
-        cells: seq(alloc, &cells![0, 0])?,
+        cells: seq(alloc, &[Cell { a: 0, b: 0 }])?,
         verdict: Verdict::Tiles {
             kind: Kind::Translation,
             domain: 1,

@@ -3,4 +3,8 @@
 #![tactic(auto)]
 
 #[cfg(test)]
-mod tests;
+mod checks;
+#[cfg(test)]
+mod given;
+#[cfg(test)]
+mod hostile;

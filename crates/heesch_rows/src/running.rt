@@ -1,13 +1,21 @@
 //! Runs of the program over a source and a sink in memory.
 use heesch_app::{Status, run};
 use heesch_io::{MemorySink, MemorySource, NoMemory};
-use heesch_made::words_of;
 use heesch_pool::{Gate, Open};
 use std::alloc::Global;
 use std::thread::Threads;
 
 /// A run: its words, what the source gives, how it has to end, and what the sink has to hold then.
 pub type Row<'a> = (&'a str, &'a str, Status, &'a str);
+
+/// The words of a line.
+fn words_of(alloc: Global, line: &str) -> Result<Vec<String>, NoMemory> {
+    let mut words = Vec::new(alloc);
+    for word in line.split_whitespace() {
+        words.push(String::from_str(alloc, word)?)?;
+    }
+    Ok(words)
+}
 
 /// How a run of these words ended, and what the sink holds after it. The source is empty.
 pub fn run_into<T: Threads + Sync>(

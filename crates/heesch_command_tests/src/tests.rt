@@ -1,4 +1,0 @@
-//! A module for each crate that is tried.
-mod catalogue;
-mod outers;
-mod sample;
