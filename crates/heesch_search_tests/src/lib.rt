@@ -2,12 +2,4 @@
 #![tactic(auto)]
 
 #[cfg(test)]
-mod encode;
-#[cfg(test)]
-mod levels;
-#[cfg(test)]
-mod made;
-#[cfg(test)]
-mod torus;
-#[cfg(test)]
-mod verdict;
+mod tests;

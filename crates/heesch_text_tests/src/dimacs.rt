@@ -1,26 +1,10 @@
 //! Clause texts and model texts worked by hand.
-use heesch_cnf::{FlatFormula, Formula, Lit};
+use heesch_cnf::{FlatFormula, Formula, is_clause};
 use heesch_dimacs::{ModelStop, first_false, read_model, write_cnf, write_flat_cnf};
 use heesch_io::{NoMemory, Seq};
+use heesch_made::lits;
 use std::alloc::Global;
 use std::test::Fail;
-
-/// The literal of a number, negative where the number is.
-fn literal(number: i32) -> Lit {
-    Lit {
-        var: number.unsigned_abs(),
-        positive: number > 0,
-    }
-}
-
-/// The literals of numbers.
-fn literals(alloc: Global, numbers: &[i32]) -> Result<Seq<Lit>, NoMemory> {
-    let mut literals = Seq::new(alloc);
-    for number in numbers {
-        literals.push(literal(*number))?;
-    }
-    Ok(literals)
-}
 
 /// x1 or not x3; the empty clause; not x2.
 fn formula(alloc: Global) -> Result<Formula, Fail> {
@@ -29,11 +13,8 @@ fn formula(alloc: Global) -> Result<Formula, Fail> {
         clauses: Seq::new(alloc),
     };
     for clause in [[1, -3].as_slice(), [].as_slice(), [-2].as_slice()] {
-        let clause = literals(alloc, clause)?;
-        if heesch_cnf::is_clause(3, clause.as_slice())
-            && formula.vars == 3
-            && formula.clauses.len() < 3
-        {
+        let clause = lits(alloc, clause)?;
+        if is_clause(3, clause.as_slice()) && formula.vars == 3 && formula.clauses.len() < 3 {
             formula.add(clause)?;
         }
     }

@@ -1,5 +1,5 @@
 //! List texts of which few bytes are read, with faults worked by hand.
-use crate::made::long_list;
+use crate::made::{long_list, source_of};
 use heesch_given::{GivenStop, shapes_given};
 use heesch_grid::Square;
 use heesch_io::{MemorySource, NoMemory};
@@ -24,10 +24,7 @@ struct Told {
 
 /// Reads two texts, one behind the other, seven bytes a call and at most 64.
 fn read(alloc: Global, front: &str, back: &str) -> Result<Told, NoMemory> {
-    let mut bytes = Vec::new(alloc);
-    bytes.extend_from_slice(front.as_bytes())?;
-    bytes.extend_from_slice(back.as_bytes())?;
-    let mut source = MemorySource::new(bytes, 7, Vec::new(alloc));
+    let mut source = source_of(alloc, front, back, 7)?;
     let shapes = shapes_given::<Square, MemorySource, 64>(alloc, &mut source);
     Ok(Told {
         shapes: shapes.map(|shapes| shapes.len()),
@@ -78,8 +75,7 @@ fn the_first_fault_is_told(rt: HostRuntime) -> Result<(), Fail> {
 
 #[test]
 fn more_cells_than_a_shape_has(rt: HostRuntime) -> Result<(), Fail> {
-    let bytes = ROW.as_bytes().to_vec(rt.alloc())?;
-    let mut source = MemorySource::new(bytes, 4096, Vec::new(rt.alloc()));
+    let mut source = source_of(rt.alloc(), ROW, "", 4096)?;
     let shapes = shapes_given::<Square, MemorySource, 154>(rt.alloc(), &mut source);
     let stop = GivenStop::Fault { line: 1, number: 2 };
     assert_eq!(rt; shapes.err(), Some(stop));

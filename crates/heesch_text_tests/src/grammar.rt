@@ -2,11 +2,11 @@
 ghost use Rattle.std.specs.Prelude.{IfOk, IfSome};
 ghost use Rattle.heesch_grammar.specs.Entries.{AreEntryLines};
 
-use crate::made::cells;
 use heesch_cert::{Kind, Verdict};
 use heesch_grammar::{Place, Spot, brief_of, entry_of};
 use heesch_io::NoMemory;
 use heesch_line::read_line;
+use heesch_made::cells;
 use heesch_text::{Line, write_entry};
 use std::alloc::Global;
 use std::collections::VecDeque;

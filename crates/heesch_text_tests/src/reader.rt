@@ -1,21 +1,12 @@
 //! Worked texts read in pieces, and texts that are none.
 ghost use Rattle.std.specs.Prelude.{◌+◌, ◌<◌, ◌≤◌, length, IfOk};
 
-use crate::made::{HOLED, TRIANGLE, text_of};
+use crate::made::text_of;
 use heesch_io::Seq;
+use heesch_made::{HOLED, TRIANGLE};
 use heesch_reader::{Item, Part, Reader, Stop};
 use std::alloc::Global;
 use std::test::Fail;
-
-/// The catalogue of the heptomino with a hole, without its last line.
-const HOLED_CUT: &str = "heesch 1 square given turns 20000 levels 3 domain 4 size 60000000
-shape 0,0 1,0 2,0 0,1 2,1 0,2 1,2
-verdict heesch 0 nontiler 1
-coronas 0
-wall 1 refuted
-empty 9
-bare 1 same
-";
 
 const HEADER: &str = "heesch 1 iamond 1 turns 20000 levels 3 domain 4 size 60000000\n";
 
@@ -89,6 +80,7 @@ fn worked_texts_are_read_in_any_pieces(rt: HostRuntime) -> Result<(), Fail> {
 
 #[test]
 fn the_first_faulty_line_is_named(rt: HostRuntime) -> Result<(), Fail> {
+    let holed_cut = HOLED.replacen(rt.alloc(), "end 1\n", "", 1)?;
     let cases = [
         ("", "", 1, Part::Header),
         (
@@ -109,7 +101,7 @@ fn the_first_faulty_line_is_named(rt: HostRuntime) -> Result<(), Fail> {
         (TRIANGLE, "end 1\n", 8, Part::End),
         (TRIANGLE, "e", 8, Part::End),
         (HOLED, "shape 1,1\n", 9, Part::End),
-        (HOLED_CUT, "end 1", 8, Part::End),
+        (holed_cut.as_str(), "end 1", 8, Part::End),
     ];
     for (front, back, line, part) in cases {
         let mut items = Seq::new(rt.alloc());

@@ -66,32 +66,23 @@ fn a_catalogue_is_read_in_pieces(rt: HostRuntime) -> Result<(), Fail> {
 #[test]
 fn what_is_whole_before_a_fault_is_appended(rt: HostRuntime) -> Result<(), Fail> {
     let alloc = rt.alloc();
-    let mut items = Seq::new(alloc);
-    let stop = StreamStop::NotText {
-        line: 5,
-        part: Part::Entry,
-    };
-    assert_eq!(rt; read(alloc, CUT, &[], &mut items)?, Err(stop));
-    assert_eq!(rt; items.len(), 2);
-    let mut items = Seq::new(alloc);
-    let stop = StreamStop::NotText {
-        line: 4,
-        part: Part::End,
-    };
-    assert_eq!(rt; read(alloc, FAULTY, &[], &mut items)?, Err(stop));
-    assert_eq!(rt; items.len(), 2);
+    for (text, line, part, whole) in [
+        ("", 1, Part::Header, 0),
+        (CUT, 5, Part::Entry, 2),
+        (FAULTY, 4, Part::End, 2),
+    ] {
+        let mut items = Seq::new(alloc);
+        let stop = StreamStop::NotText { line, part };
+        assert_eq!(rt; read(alloc, text, &[], &mut items)?, Err(stop), "{text}");
+        assert_eq!(rt; items.len(), whole, "{text}");
+    }
     Ok(())
 }
 
 #[test]
-fn nothing_is_no_catalogue_and_a_failing_source_is_told(rt: HostRuntime) -> Result<(), Fail> {
+fn a_failing_source_is_told(rt: HostRuntime) -> Result<(), Fail> {
     let alloc = rt.alloc();
     let mut items = Seq::new(alloc);
-    let stop = StreamStop::NotText {
-        line: 1,
-        part: Part::Header,
-    };
-    assert_eq!(rt; read(alloc, "", &[], &mut items)?, Err(stop));
     assert_eq!(rt;
         read(alloc, BRIEF, &[3], &mut items)?,
         Err(StreamStop::Failed)

@@ -1,10 +1,10 @@
 //! Tallies worked by hand.
 ghost use Rattle.std.specs.Prelude.{◌≤◌, length};
 
-use crate::made::cells;
 use heesch_cert::{Kind, Phase, Verdict};
 use heesch_grid::Square;
 use heesch_io::NoMemory;
+use heesch_made::cells;
 use heesch_shape::Shape;
 use heesch_table::Tally;
 use std::alloc::Global;

@@ -1,5 +1,6 @@
 //! Tallies of small catalogues, worked by hand.
-use heesch_io::{IoStop, MemorySource};
+use crate::made::source_of;
+use heesch_io::IoStop;
 use heesch_tabulate::{Tabulated, tabulate};
 use std::alloc::Global;
 use std::test::Fail;
@@ -43,13 +44,7 @@ verdict none
 
 /// What is answered of two texts, one behind the other, read seven bytes at a time.
 fn answer(alloc: Global, front: &str, back: &str) -> Result<Tabulated, IoStop> {
-    let mut bytes = Vec::new(alloc);
-    if bytes.extend_from_slice(front.as_bytes()).is_err()
-        || bytes.extend_from_slice(back.as_bytes()).is_err()
-    {
-        return Err(IoStop::NoMemory);
-    }
-    let mut source = MemorySource::new(bytes, 7, Vec::new(alloc));
+    let mut source = source_of(alloc, front, back, 7)?;
     tabulate(alloc, &mut source)
 }
 

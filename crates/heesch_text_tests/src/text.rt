@@ -1,24 +1,14 @@
 //! Texts worked by hand.
-use crate::made::{HOLED, TRIANGLE, cells, isos};
 use heesch_cert::{
-    Bare, Classes, Entry, Evidence, Header, Kind, Layers, Limits, Member, Proof, Subject, Tiling,
-    Verdict, Wall,
+    Bare, Classes, Entry, Evidence, Header, Kind, Layers, Proof, Subject, Tiling, Verdict, Wall,
 };
-use heesch_cnf::Version;
 use heesch_grid::GridName;
 use heesch_io::{NoMemory, Seq};
 use heesch_lattice::Triple;
+use heesch_made::{HOLED, LIMITS, TRIANGLE, cells, isos, members};
 use heesch_text::{write_brief, write_coronas, write_end, write_entry, write_header};
 use std::alloc::Global;
 use std::test::Fail;
-
-const LIMITS: Limits = Limits {
-    turns: 20_000,
-    levels: 3,
-    domain: 4,
-    size: 60_000_000,
-    version: Version::One,
-};
 
 /// The single triangle, tiled by half-turns.
 fn triangle(alloc: Global) -> Result<Entry, NoMemory> {
@@ -26,20 +16,9 @@ fn triangle(alloc: Global) -> Result<Entry, NoMemory> {
         triple: Triple { p: 1, q: 1, s: 0 },
         places: Seq::from_vec(isos![0, 0, 0; 3, 0, 0].to_vec(alloc)?),
     };
-    let [first, second] = isos![0, 0, 0; 1, 0, -1];
-    let members = [
-        Member {
-            class: 1,
-            by: first,
-        },
-        Member {
-            class: 1,
-            by: second,
-        },
-    ];
     let classes = Classes {
         count: 1,
-        members: Seq::from_vec(members.to_vec(alloc)?),
+        members: Seq::from_vec(members![1, 0, 0, 0; 1, 1, 0, -1].to_vec(alloc)?),
     };
     Ok(Entry {
         cells: Seq::from_vec(cells![1, 1].to_vec(alloc)?),

@@ -2,17 +2,9 @@
 use heesch_cert::{Limits, Subject};
 use heesch_cnf::Version;
 use heesch_grid::GridName;
+use heesch_made::{LIMITS, words_of};
 use heesch_words::{Request, Usage, parse};
-use std::alloc::{AllocError, Global};
 use std::test::Fail;
-
-fn words_of(alloc: Global, line: &str) -> Result<Vec<String>, AllocError> {
-    let mut words = Vec::new(alloc);
-    for word in line.split_whitespace() {
-        words.push(String::from_str(alloc, word)?)?;
-    }
-    Ok(words)
-}
 
 #[test]
 fn lists_are_asked_for(rt: HostRuntime) -> Result<(), Fail> {
@@ -37,51 +29,50 @@ fn lists_are_asked_for(rt: HostRuntime) -> Result<(), Fail> {
 #[test]
 fn classifications_are_asked_for(rt: HostRuntime) -> Result<(), Fail> {
     let alloc = rt.alloc();
-    for (line, n, [turns, levels, domain, size, workers], version, brief) in [
-        (
-            "classify iamond 18",
-            18,
-            [20_000, 3, 4, 60_000_000, 1],
-            Version::Two,
-            false,
-        ),
-        (
-            "classify iamond 1 --brief --version 2",
-            1,
-            [20_000, 3, 4, 60_000_000, 1],
-            Version::Two,
-            true,
-        ),
+    let version = Version::Two;
+    let usual = Limits { version, ..LIMITS };
+    let least = Limits {
+        levels: 1,
+        domain: 1,
+        ..LIMITS
+    };
+    let other = Limits {
+        turns: 50,
+        levels: 6,
+        domain: 12,
+        size: 12,
+        version,
+    };
+    let longest = Limits {
+        turns: 1_000_000,
+        ..usual
+    };
+    for (line, n, limits, workers, brief) in [
+        ("classify iamond 18", 18, usual, 1, false),
+        ("classify iamond 1 --brief --version 2", 1, usual, 1, true),
         (
             "classify iamond 15 --domain 1 --version 1 --levels 1",
             15,
-            [20_000, 1, 1, 60_000_000, 1],
-            Version::One,
+            least,
+            1,
             false,
         ),
         (
             "classify iamond 1 --size 12 --brief --turns 50 --levels 6 --workers 4 --domain 12",
             1,
-            [50, 6, 12, 12, 4],
-            Version::Two,
+            other,
+            4,
             true,
         ),
         (
             "classify iamond 16 --turns 1000000 --size 60000000",
             16,
-            [1_000_000, 3, 4, 60_000_000, 1],
-            Version::Two,
+            longest,
+            1,
             false,
         ),
     ] {
         let words = words_of(alloc, line)?;
-        let limits = Limits {
-            turns,
-            levels,
-            domain,
-            size,
-            version,
-        };
         let request = Request::Classify {
             grid: GridName::Iamond,
             subject: Subject::Size { n },
@@ -101,8 +92,7 @@ fn other_forms_are_asked_for(rt: HostRuntime) -> Result<(), Fail> {
         turns: 200,
         levels: 1,
         domain: 2,
-        size: 60_000_000,
-        version: Version::One,
+        ..LIMITS
     };
     let grid = GridName::Square;
     let sample = |n, count, seed, workers| Request::Sample {

@@ -5,10 +5,10 @@ ghost use Rattle.heesch_grid.specs.Cells.{has};
 ghost use Rattle.heesch_grid.specs.Vectors.{IsWithin};
 ghost use Rattle.heesch_torus.specs.Domain.{HasDomain};
 
-use crate::made::{cells, isos, shape_of};
 use heesch_grid::{Grid, Hex, Iamond, Square};
 use heesch_io::NoMemory;
 use heesch_lattice::Triple;
+use heesch_made::{cells, isos, shape_of};
 use heesch_shape::Shape;
 use heesch_torus::{CoverAnswer, TorusAnswer, find_cover, search, torus_formula};
 use std::alloc::Global;
@@ -44,44 +44,32 @@ fn counts<G: Grid>(
     Ok((formula.vars(), formula.len(), literals))
 }
 
-/// The answer for one turn.
-fn answer<G: Grid>(
+/// The answers by a formula for one turn, and by masks for 100 nodes.
+fn answers<G: Grid>(
     alloc: Global,
     shape: &Shape<G>,
     triple: Triple,
-) -> Result<Option<TorusAnswer>, NoMemory>
+) -> Result<Option<(TorusAnswer, CoverAnswer)>, NoMemory>
     requires { (c : Cell) → has shape.now c ≡ true → IsWithin 100000 c }
 {
     if !is_searched(shape, triple) {
         return Ok(None);
     }
-    Ok(Some(search(alloc, shape, triple, 1)?))
-}
-
-/// The answer by masks for 100 nodes.
-fn answer_by_masks<G: Grid>(
-    alloc: Global,
-    shape: &Shape<G>,
-    triple: Triple,
-) -> Result<Option<CoverAnswer>, NoMemory>
-    requires { (c : Cell) → has shape.now c ≡ true → IsWithin 100000 c }
-{
-    if !is_searched(shape, triple) {
-        return Ok(None);
-    }
-    Ok(Some(find_cover(alloc, shape, triple, 100)?))
+    let by_formula = search(alloc, shape, triple, 1)?;
+    let by_masks = find_cover(alloc, shape, triple, 100)?;
+    Ok(Some((by_formula, by_masks)))
 }
 
 #[test]
 fn formulas_of_small_shapes(rt: HostRuntime) -> Result<(), Fail> {
     let alloc = rt.alloc();
-    let bent = shape_of::<Square>(&rt, &cells![0, 0; 1, 0; 0, 1]);
+    let bent = shape_of::<Square>(&cells![0, 0; 1, 0; 0, 1])?;
     let triple = Triple { p: 3, q: 2, s: 1 };
     assert_eq!(rt; counts(alloc, &bent, triple)?, (18, 150, 342));
-    let worm = shape_of::<Hex>(&rt, &cells![0, 0; 1, 0; 2, 0; 0, 1]);
+    let worm = shape_of::<Hex>(&cells![0, 0; 1, 0; 2, 0; 0, 1])?;
     let triple = Triple { p: 4, q: 2, s: 1 };
     assert_eq!(rt; counts(alloc, &worm, triple)?, (48, 1112, 2400));
-    let trapezium = shape_of::<Iamond>(&rt, &cells![1, 1; 4, 1; 2, 2]);
+    let trapezium = shape_of::<Iamond>(&cells![1, 1; 4, 1; 2, 2])?;
     let triple = Triple { p: 3, q: 2, s: 0 };
     assert_eq!(rt; counts(alloc, &trapezium, triple)?, (36, 330, 744));
     Ok(())
@@ -90,31 +78,36 @@ fn formulas_of_small_shapes(rt: HostRuntime) -> Result<(), Fail> {
 #[test]
 fn three_squares_round_a_corner_have_no_cover(rt: HostRuntime) -> Result<(), Fail> {
     let alloc = rt.alloc();
-    let bent = shape_of::<Square>(&rt, &cells![0, 0; 1, 0; 0, 1]);
+    let bent = shape_of::<Square>(&cells![0, 0; 1, 0; 0, 1])?;
     let triple = Triple { p: 1, q: 3, s: 0 };
-    let Some(TorusAnswer::None { log }) = answer(alloc, &bent, triple)? else {
+    let Some((by_formula, by_masks)) = answers(alloc, &bent, triple)? else {
+        panic!(rt; "not searched");
+    };
+    let TorusAnswer::None { log } = by_formula else {
         panic!(rt; "not refuted");
     };
     assert_eq!(rt; log.lines.len(), 0);
     let last = log.last.map(|hints| hints.into_vec());
     assert_eq!(rt; last, Some(vec![in alloc; 1]?));
-    let by_masks = answer_by_masks(alloc, &bent, triple)?;
-    assert!(rt; matches!(by_masks, Some(CoverAnswer::None)));
+    assert!(rt; matches!(by_masks, CoverAnswer::None));
     Ok(())
 }
 
 #[test]
 fn one_square_tiles_by_two_places(rt: HostRuntime) -> Result<(), Fail> {
     let alloc = rt.alloc();
-    let square = shape_of::<Square>(&rt, &cells![0, 0]);
+    let square = shape_of::<Square>(&cells![0, 0])?;
     let triple = Triple { p: 2, q: 1, s: 0 };
     let places = isos![0, 0, 0; 0, 1, 0];
-    let Some(TorusAnswer::Tiles { tiling }) = answer(alloc, &square, triple)? else {
+    let Some((by_formula, by_masks)) = answers(alloc, &square, triple)? else {
+        panic!(rt; "not searched");
+    };
+    let TorusAnswer::Tiles { tiling } = by_formula else {
         panic!(rt; "no cover");
     };
     assert_eq!(rt; tiling.triple, triple);
     assert_eq!(rt; tiling.places.as_slice(), places.as_slice());
-    let Some(CoverAnswer::Tiles { tiling }) = answer_by_masks(alloc, &square, triple)? else {
+    let CoverAnswer::Tiles { tiling } = by_masks else {
         panic!(rt; "no cover by masks");
     };
     assert_eq!(rt; tiling.places.as_slice(), places.as_slice());

@@ -1,15 +1,16 @@
 //! Entries worked by hand.
-use crate::made::{AROUND, HOLED, LEAST, LIMITS, canonical_of, cells, isos, members};
+use super::made::{AROUND, HOLED, LEAST};
 use heesch_cert::{Bare, Evidence, Kind, Limits, Phase, Verdict, Wall};
 use heesch_grid::{Iamond, Square};
 use heesch_lattice::Triple;
+use heesch_made::{LIMITS, canonical_of, cells, isos, members};
 use heesch_verdict::classify;
 use std::test::Fail;
 
 /// The triangle tiles by translations and half-turns, in one class.
 #[test]
 fn the_triangle_tiles(rt: HostRuntime) -> Result<(), Fail> {
-    let shape = canonical_of::<Iamond>(&rt, &cells![1, 1]);
+    let shape = canonical_of::<Iamond>(&cells![1, 1])?;
     let entry = classify(rt.alloc(), &shape, LIMITS)?;
     let kind = Kind::HalfTurn;
     let verdict = Verdict::Tiles {
@@ -36,7 +37,7 @@ fn the_triangle_tiles(rt: HostRuntime) -> Result<(), Fail> {
 /// Where its half-turns aren't admitted, one corona of it is found, at 12 literals and not at 11.
 #[test]
 fn the_triangle_is_undecided(rt: HostRuntime) -> Result<(), Fail> {
-    let shape = canonical_of::<Iamond>(&rt, &cells![1, 1]);
+    let shape = canonical_of::<Iamond>(&cells![1, 1])?;
     let entry = classify(rt.alloc(), &shape, Limits { size: 12, ..LEAST })?;
     assert_eq!(rt; entry.verdict, Verdict::Levels { h: 1 });
     match &entry.evidence {
@@ -63,7 +64,7 @@ fn the_triangle_is_undecided(rt: HostRuntime) -> Result<(), Fail> {
 /// No placement covers the hole of the holed heptomino: its ninth cell around refutes at once.
 #[test]
 fn the_holed_heptomino_has_no_corona(rt: HostRuntime) -> Result<(), Fail> {
-    let shape = canonical_of::<Square>(&rt, &HOLED);
+    let shape = canonical_of::<Square>(&HOLED)?;
     let limits = Limits {
         domain: 1,
         ..LIMITS

@@ -1,0 +1,23 @@
+//! Limits and polyforms that several modules try.
+use heesch_cert::Limits;
+use heesch_grid::{Cell, Iso};
+use heesch_made::{LIMITS, cells, isos};
+
+/// The limits under which nothing but one corona is sought.
+pub(crate) const LEAST: Limits = Limits {
+    levels: 1,
+    domain: 1,
+    ..LIMITS
+};
+
+/// The heptomino with a hole.
+pub(crate) const HOLED: [Cell; 7] = cells![0, 0; 1, 0; 2, 0; 0, 1; 2, 1; 0, 2; 1, 2];
+
+/// A heptomino that can be surrounded with holes alone.
+pub(crate) const CROSSING: [Cell; 7] = cells![1, 0; 0, 1; 1, 1; 2, 1; 3, 1; 1, 2; 1, 3];
+
+/// The twelve triangles that touch the one at (1, 1).
+pub(crate) const AROUND: [Iso; 12] = isos![
+    0, 0, -1; 0, 1, -1; 1, 0, -1; 1, 1, -1; 1, 2, -1; 0, -1, 0;
+    0, 1, 0; 1, 0, 0; 1, 1, 0; 0, -1, 1; 0, 0, 1; 1, 0, 1
+];
