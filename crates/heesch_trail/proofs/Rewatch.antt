@@ -16,10 +16,11 @@ use Rattle.heesch_trail.proofs.Levels.{Continues-none}
 use Rattle.heesch_trail.proofs.Enlisted.{Names-kept}
 use Rattle.heesch_trail.proofs.Guards.{Code-fits, Code-same, Var-fits}
 
--- lists that grow, while the pairs stay
-pub GoesOn-lists : (trail : State) (old new : Watching) → IsTrail trail → AreWhole trail.vars trail.clauses old → new.pairs ≡ old.pairs → length new.lists ≡ length old.lists → AreKept old.lists new.lists →
+-- the pairs stay, and the lists of both literals of each name its clause still
+pub GoesOn-still : (trail : State) (old new : Watching) → IsTrail trail → AreWhole trail.vars trail.clauses old → new.pairs ≡ old.pairs → length new.lists ≡ length old.lists →
+    ((k : ℕ) (p : Pair) → pair_of old.pairs k ≡ Some p → Names (list_of old.lists p.one) k × Names (list_of old.lists p.other) k → Names (list_of new.lists p.one) k × Names (list_of new.lists p.other) k) →
     ((l : Lit) (e : Entry) → Contains (list_of new.lists l) e → IsSound trail.clauses l e) → GoesOn trail old trail new
-GoesOn-lists trail old new valid whole pairs room kept sound = record {
+GoesOn-still trail old new valid whole pairs room still sound = record {
   valid = valid;
   steps = Continues-none trail;
   moved = λ k. inl (ap (λ ps. pair_of ps k) pairs);
@@ -28,11 +29,19 @@ GoesOn-lists trail old new valid whole pairs room kept sound = record {
     places = let places = whole.places in omega (arith, places, ap length pairs);
     within = λ k p is. whole.within k p (ap (λ ps. pair_of ps k) (sym pairs) ∙ is);
     watched = λ k p is.
-        let w = whole.watched k p (ap (λ ps. pair_of ps k) (sym pairs) ∙ is) in
-        record { has_one = w.has_one; has_other = w.has_other; differ = w.differ; one_lists = Names-kept old.lists new.lists p.one k kept w.one_lists; other_lists = Names-kept old.lists new.lists p.other k kept w.other_lists };
+        let before = ap (λ ps. pair_of ps k) (sym pairs) ∙ is in
+        let w = whole.watched k p before in
+        let names = still k p before (w.one_lists, w.other_lists) in
+        record { has_one = w.has_one; has_other = w.has_other; differ = w.differ; one_lists = names.0; other_lists = names.1 };
     sound = sound;
   };
 }
+
+-- lists that grow, while the pairs stay
+pub GoesOn-lists : (trail : State) (old new : Watching) → IsTrail trail → AreWhole trail.vars trail.clauses old → new.pairs ≡ old.pairs → length new.lists ≡ length old.lists → AreKept old.lists new.lists →
+    ((l : Lit) (e : Entry) → Contains (list_of new.lists l) e → IsSound trail.clauses l e) → GoesOn trail old trail new
+GoesOn-lists trail old new valid whole pairs room kept sound =
+    GoesOn-still trail old new valid whole pairs room (λ k p is names. (Names-kept old.lists new.lists p.one k kept names.0, Names-kept old.lists new.lists p.other k kept names.1)) sound
 
 -- nothing moved
 pub GoesOn-same : (trail : State) (old new : Watching) → IsTrail trail → AreWhole trail.vars trail.clauses old → new ≡ old → GoesOn trail old trail new
