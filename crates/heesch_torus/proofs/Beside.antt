@@ -1,5 +1,5 @@
 -- Exact covers by masks that share no bit with a first one, and choices of masks beside it.
-use Rattle.std.proofs.Common.{◌≡◌, refl, sym, ap, subst, ◌∙◌, ℕ, zero, suc, ◌+◌, ◌-◌, ◌<◌, ◌≤◌, ◌^◌, min, List, [], ◌∷◌, map, filter, length, Bool, true, false, cond, eqb, nat_cmp, ◌⊎◌, inl, inr, arith, All, Contains, eqb-true, eq-eqb, IsPermutation, IsSorted}
+use Rattle.std.proofs.Common.{◌≡◌, refl, sym, ap, subst, ◌∙◌, ℕ, zero, suc, ◌+◌, ◌-◌, ◌<◌, ◌≤◌, ◌^◌, min, List, [], ◌∷◌, map, filter, length, Bool, true, eqb, nat_cmp, ◌⊎◌, inl, inr, arith, All, Contains, eqb-true, eq-eqb, IsPermutation, IsSorted}
 use Rattle.std.specs.Prelude.{◌==◌, Some, slice_index}
 use Rattle.std.specs.List.{count_by, list_any, range_with_len, dedup, slice_get}
 use Rattle.std.specs.List.Sorted.{IsStrictlyIncreasing}

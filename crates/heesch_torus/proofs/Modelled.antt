@@ -17,7 +17,7 @@ use Rattle.heesch_grid.specs.Lattice.{Triple, IsTriple, IsReduced}
 use Rattle.heesch_grid.specs.Polyform.{IsPolyform}
 use Rattle.heesch_grid.specs.Tiling.{IsPeriodicCover}
 use Rattle.heesch_grid.specs.TorusFormula.{IsReducedFrom, GivesResidues, IsWithinTriple, IsIsometryOf, torus_clauses}
-use Rattle.heesch_grid.specs.Pairs.{has-true, same_cell-true, same_cell-is}
+use Rattle.heesch_grid.specs.Pairs.{has-true, same_cell-true}
 use Rattle.heesch_grid.proofs.ListFacts.{member_cases, member_here, member_there, no_member, All-from_members, filter_member, member_filter, rising_filter}
 use Rattle.heesch_grid.proofs.CellFacts.{has-false, meet-is}
 use Rattle.heesch_grid.proofs.ClauseFacts.{reason, entries_rising}

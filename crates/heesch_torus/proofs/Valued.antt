@@ -1,5 +1,5 @@
 -- The variables whose masks are among exact ones are a periodic cover.
-use Rattle.std.proofs.Common.{◌≡◌, refl, sym, ap, subst, ◌∙◌, ℕ, suc, ◌+◌, ◌-◌, ◌<◌, ◌≤◌, List, [], ◌∷◌, ◌++◌, filter, length, get_or, eqb, Bool, true, false, cond, inl, inr, arith, Contains, true≢false, eqb-true, eq-eqb}
+use Rattle.std.proofs.Common.{◌≡◌, refl, sym, ap, subst, ◌∙◌, ℕ, ◌+◌, ◌-◌, ◌<◌, ◌≤◌, List, [], ◌∷◌, ◌++◌, filter, length, get_or, eqb, Bool, true, false, cond, inl, inr, arith, Contains, true≢false, eqb-true, eq-eqb}
 use Rattle.std.specs.Prelude.{◌↔◌, ◌==◌, Some, nat_lt, slice_index_or}
 use Rattle.std.specs.List.{enumerate_from, list_any, slice_get}
 use Rattle.std.proofs.Math.Seq.{get_or-append_seam}
@@ -12,10 +12,10 @@ use Rattle.std.proofs.lemmas.Option.{slice_get_within, get_or_from_slice_get}
 use Rattle.heesch_grid.specs.declared.Cell.{Cell}
 use Rattle.heesch_grid.specs.declared.isometries.Iso.{Iso}
 use Rattle.heesch_grid.specs.Listing.{IsRising}
-use Rattle.heesch_grid.specs.Cells.{same_cell, cell_before, cells_before, has}
+use Rattle.heesch_grid.specs.Cells.{cell_before, cells_before, has}
 use Rattle.heesch_grid.specs.Geometry.{Geometry, IsGrid, IsIsometry, image}
 use Rattle.heesch_grid.specs.Lattice.{Triple, IsTriple, IsReduced}
-use Rattle.heesch_grid.specs.Pairs.{has-true, same_cell-refl}
+use Rattle.heesch_grid.specs.Pairs.{has-true}
 use Rattle.heesch_grid.specs.Polyform.{IsPolyform}
 use Rattle.heesch_grid.specs.Tiling.{IsPeriodicCover}
 use Rattle.heesch_grid.specs.TorusFormula.{IsReducedFrom, GivesResidues}

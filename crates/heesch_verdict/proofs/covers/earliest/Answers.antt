@@ -1,4 +1,4 @@
-use Rattle.std.proofs.Common.{take, subst, All}
+use Rattle.std.proofs.Common.{subst, All}
 use Rattle.std.proofs.lemmas.List.{take_all}
 use Rattle.heesch_torus.specs.Answer.{IsTorusAnswer}
 use Rattle.heesch_verdict.specs.Earliest.{IsPassedOver}
