@@ -14,7 +14,7 @@ use Rattle.heesch_grid.specs.Lattice.{Triple, IsTripleOfDomain, triple_before}
 use Rattle.heesch_grid.specs.Pairs.{Cell-eta, or-left, or-right}
 use Rattle.heesch_grid.proofs.ListFacts.{member_here, member_cases, no_member}
 use Rattle.heesch_lattice.specs.Listed.{IsTripleOfArea, AreTriples}
-use Rattle.heesch_lattice.proofs.Listing.{exact_quotient}
+pub use Rattle.heesch_lattice.proofs.Listing.{exact_quotient}
 use Rattle.heesch_tiling.specs.Counting.{spot}
 use Rattle.heesch_tiling.specs.Search.{IsShift, IsTurnedShift, CoversTurned, CoversAlone, IsHalfTurn, IsFirstTranslation, IsFirstShift, IsFirstHalfTurn, IsSearch, NoTranslation, NoHalfTurn, NoTilingByTranslation, NoTilingByHalfTurn, IsFirstByTranslation, IsFirstByHalfTurn}
 use Rattle.heesch_grid.specs.Tiling.{TilesByHalfTurn}

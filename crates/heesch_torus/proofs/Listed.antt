@@ -11,7 +11,7 @@ use Rattle.heesch_grid.specs.Pairs.{or-left, or-right}
 use Rattle.heesch_grid.proofs.ListFacts.{member_here, member_there, All-from_members}
 use Rattle.heesch_lattice.specs.Listed.{AreTriples, IsTripleOfArea}
 use Rattle.heesch_cert.specs.TrueEntry.{area_before}
-use Rattle.heesch_lattice.proofs.Listing.{exact_quotient}
+use Rattle.heesch_tiling.proofs.Searching.{exact_quotient}
 use Rattle.heesch_tiling.specs.Search.{IsAreaOf, NoAreaOf}
 use Rattle.heesch_torus.specs.Domains.{AreUpTo, IsTripleUpTo}
 

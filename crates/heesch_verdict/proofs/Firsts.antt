@@ -15,7 +15,7 @@ use Rattle.heesch_cert.specs.declared.limits.Limits.{Limits}
 use Rattle.heesch_cert.specs.declared.tiling.Tiling.{Tiling}
 use Rattle.heesch_cert.specs.Reduced.{IsReducedPlace}
 use Rattle.heesch_cert.specs.TrueEntry.{area_before}
-use Rattle.heesch_lattice.proofs.Listing.{exact_quotient}
+use Rattle.heesch_tiling.proofs.Searching.{exact_quotient}
 use Rattle.heesch_torus.specs.declared.answer.TorusAnswer.{TorusAnswer}
 use Rattle.heesch_torus.specs.declared.answer.TorusAnswer.TheVariants.{Tiles, None, Spent}
 use Rattle.heesch_torus.specs.Answer.{IsChosenCover, IsTorusAnswer}
