@@ -3,7 +3,7 @@ use Rattle.std.proofs.Common.{◌≡◌, refl, sym, ap, subst, ◌∙◌, ℕ, s
 use Rattle.std.specs.Prelude.{ℤ, pos, negsuc, ◌≤ℤ◌, ◌<ℤ◌, IsTrue, nat_lt, int_lt, length, ◌⊎◌}
 use Rattle.std.specs.Ordering.{int_eq}
 use Rattle.std.proofs.lemmas.Int.{ints}
-use Rattle.std.proofs.lemmas.Bool.{and_parts, and_from, or_cases}
+use Rattle.std.proofs.lemmas.Bool.{and_parts, and_from, or_cases, cases_order}
 use Rattle.std.proofs.lemmas.Nat.{div-mul-add}
 use Rattle.std.proofs.lemmas.List.Elements.{All-contains}
 use Rattle.std.proofs.Math.Nat.{mul-le-mul_left, mul-le-mul_right}
@@ -14,7 +14,6 @@ use Rattle.heesch_grid.specs.Lattice.{Triple, IsTripleOfDomain, triple_before}
 use Rattle.heesch_grid.specs.Pairs.{Cell-eta, or-left, or-right}
 use Rattle.heesch_grid.proofs.ListFacts.{member_here, member_cases, no_member}
 use Rattle.heesch_lattice.specs.Listed.{IsTripleOfArea, AreTriples}
-pub use Rattle.heesch_lattice.proofs.Listing.{exact_quotient}
 use Rattle.heesch_tiling.specs.Counting.{spot}
 use Rattle.heesch_tiling.specs.Search.{IsShift, IsTurnedShift, CoversTurned, CoversAlone, IsHalfTurn, IsFirstTranslation, IsFirstShift, IsFirstHalfTurn, IsSearch, NoTranslation, NoHalfTurn, NoTilingByTranslation, NoTilingByHalfTurn, IsFirstByTranslation, IsFirstByHalfTurn}
 use Rattle.heesch_grid.specs.Tiling.{TilesByHalfTurn}
@@ -128,6 +127,16 @@ module _ (g : Geometry) (xs : List Cell) (area : ℕ) where
   }
 
 -- ---- areas
+pub exact_quotient : (p x y : ℕ) → 1 ≤ p → p * x ≡ p * y → x ≡ y
+exact_quotient p x y some e =
+    elim (cases_order x y) [
+      | inl h ↦ h
+      | inr o ↦ elim o [
+        | inl l ↦ let k : p * suc x ≤ p * y = mul-le-mul_left p l in absurd (omega (arith, k, e))
+        | inr l ↦ let k : p * suc y ≤ p * x = mul-le-mul_left p l in absurd (omega (arith, k, e))
+      ]
+    ]
+
 module _ (g : Geometry) (law : IsGrid g) (xs : List Cell) (m area : ℕ) (is : g.per * area ≡ length xs * m) where
   to_area : (t : Triple) → IsTripleOfDomain g (length xs) m t → IsTripleOfArea area t
   to_area t d = record { is_triple = d.is_triple; product = exact_quotient g.per (t.p * t.q) area law.per_range.0 (d.area ∙ sym is) }

@@ -191,8 +191,8 @@ fn visit_first(
     ensures found { IfOk result (IsVisit assigned.new watches.new index) }
 {
     let _ = assigned.vars();
-    watches.note_visit();
     let watched = watches.pair(index as usize);
+    watches.note_visit();
     if let Some(pair) = &watched
         && !assigned.is_false(pair.one)
         && !assigned.is_false(pair.other)
