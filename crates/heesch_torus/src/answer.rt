@@ -51,8 +51,7 @@ pub fn search<G: Grid>(
     requires few { turns ≤ 1000000 }
     ensures { IfOk result (IsTorusAnswer G.geometry shape.now triple turns) }
 {
-    let FormulaWithVariables { variables, formula } =
-        formula_with_variables(alloc, shape, triple)?;
+    let FormulaWithVariables { variables, formula } = formula_with_variables(alloc, shape, triple)?;
     let outcome = solve(alloc, formula, turns)?;
     match outcome {
         Outcome::Model { values } => {

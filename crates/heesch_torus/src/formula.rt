@@ -48,7 +48,13 @@ fn formula_of<G: Grid>(
     let mut formula = FlatFormula::new(alloc, variables.len() as u32);
     add_covering_clauses::<G>(alloc, &mut formula, triple, lists.as_slice())?;
     let mut marks = vec![in alloc; 0; variables.len() + 1]?;
-    add_pair_clauses::<G>(&mut formula, &mut marks, triple, variables, lists.as_slice())?;
+    add_pair_clauses::<G>(
+        &mut formula,
+        &mut marks,
+        triple,
+        variables,
+        lists.as_slice(),
+    )?;
     Ok(formula)
 }
 

@@ -11,11 +11,11 @@ ghost use Rattle.heesch_torus.specs.Marks.{Marks, set_numbered};
 ghost use Rattle.heesch_torus.specs.Variables.{sets_of, AreReducedSets};
 
 use crate::found::Variable;
-use crate::window::number_of;
 use heesch_cnf::{FlatFormula, Lit};
 use heesch_grid::Grid;
 use heesch_io::{NoMemory, Seq};
 use heesch_lattice::Triple;
+use heesch_tiling::number_of;
 
 /// Marks the listed variables with a number.
 fn mark(marks: &mut [u32], variables: &[u32], number: u32)

@@ -172,7 +172,6 @@ Watched-read t new w watching head fresh read marks parts go few stay =
     let visited = parts.visited in
     Watched-goes_on t new w watching head fresh head read marks parts go (omega (arith, more, visited)) few (stay head parts.visited parts.seen)
 
-
 -- the assignments up to a level of those up to a higher one
 pub up_to-up_to : (j k : ℕ) (steps : List Step) → j ≤ k → up_to j (up_to k steps) ≡ up_to j steps
 up_to-up_to j k [] le = refl
