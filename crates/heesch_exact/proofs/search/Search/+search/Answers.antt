@@ -1,4 +1,4 @@
-use Rattle.std.proofs.Common.{◌≡◌, ◌+◌, ◌-◌, ◌*◌, ◌≤◌, ◌<◌, ◌^◌, ◌++◌, ◌∷◌, [], refl, sym, ap, ◌∙◌, subst, drop, take, filter, get_or, vec_len, All, length, arith}
+use Rattle.std.proofs.Common.{◌+◌, ◌-◌, ◌*◌, ◌≤◌, ◌^◌, ◌++◌, ◌∷◌, [], refl, sym, ap, ◌∙◌, subst, drop, take, filter, get_or, vec_len, All, length, arith}
 use Rattle.heesch_exact.specs.Branches.{AreCandidates, IsEnding, IsTried, times, without, is_apart}
 use Rattle.std.proofs.lemmas.List.{length-drop}
 use Rattle.heesch_exact.proofs.Nodes.{no_cover, no_cover_without, times_at_most}
