@@ -147,3 +147,9 @@ Ready-more old new more before after vars clauses covers marks ready = record {
   clear = subst (λ (m : Marks). AreClear new.vars m.seen.items m.here.items m.touched.items m.pending) (sym marks)
       (subst (λ v. AreClear v before.marks.seen.items before.marks.here.items before.marks.touched.items before.marks.pending) (sym vars) ready.clear);
 }
+
+-- and after one clause more, back at a level
+pub Ready-added : (trail added back : State) (clause : List Lit) (level : ℕ) (before after : Workspace) → added ≡ record trail { clauses = trail.clauses ++ clause ∷ [] } → back ≡ record added { steps = up_to level added.steps } →
+    after.decisions.covers ≡ before.decisions.covers → after.marks ≡ before.marks → IsReady trail before → IsReady back after
+Ready-added trail added back clause level before after add go covers marks ready =
+    Ready-more trail back (clause ∷ []) before after (ap (λ (x : State). x.vars) go ∙ ap (λ (x : State). x.vars) add) (ap (λ (x : State). x.clauses) go ∙ ap (λ (x : State). x.clauses) add) covers marks ready

@@ -56,16 +56,23 @@ read_here trail p n seen here mid mid_here pending more hints clause valid r goi
     are.seen_here n (marks.kept n m) (subst (λ v. level_in trail.steps v ≡ Some (level_of trail.steps)) r.var
     (ap (option_map (λ (x : Step). x.level)) r.at.fact ∙ ap Some (top_level trail p r.step seen here pending hints valid r.at going le)))
 
+-- the marks without the variable that was read, and the hints with its reason
+taken_out : (P : List Bool → List ℕ → Type 0) (trail : State) (p v n : ℕ) (mid after after_here : List Bool) (less : ℕ) (hints more : List ℕ) → (r : IsRead trail p v) → v < length mid → after ≡ set mid v false → more ≡ hints ++ n ∷ [] →
+    AreMarks trail.vars (level_of trail.steps) trail.steps after after_here less →
+    (r.step.lit.var < length mid → AreMarks trail.vars (level_of trail.steps) trail.steps (set mid r.step.lit.var false) after_here less → P (set mid r.step.lit.var false) (n ∷ reverse hints)) → P after (reverse more)
+taken_out P trail p v n mid after after_here less hints more r room write push are next =
+    let written : after ≡ set mid r.step.lit.var false = write ∙ ap (λ w. set mid w false) (sym r.var) in
+    let turned : reverse more ≡ n ∷ reverse hints = ap reverse push ∙ reverse-append hints (n ∷ []) in
+    subst (λ hs. P after hs) (sym turned)
+    (subst (λ ps. P ps (n ∷ reverse hints)) (sym written)
+    (next (subst (λ w. w < length mid) (sym r.var) room) (subst (λ ps. AreMarks trail.vars (level_of trail.steps) trail.steps ps after_here less) written are)))
+
 pub Resolving-read : (trail : State) (p n reason : ℕ) (seen here mid after after_here : List Bool) (pending less : ℕ) (hints more : List ℕ) → (r : IsRead trail p n) → IsResolving trail (p + 1) seen here pending (reverse hints) → r.step.reason ≡ Some reason →
     MarksClause seen mid (numbered trail.clauses reason) → n < length mid → after ≡ set mid n false → more ≡ hints ++ reason ∷ [] → AreMarks trail.vars (level_of trail.steps) trail.steps after after_here less →
     IsResolving trail p after after_here less (reverse more)
 Resolving-read trail p n reason seen here mid after after_here pending less hints more r going is marks room write push are =
-    let written : after ≡ set mid r.step.lit.var false = write ∙ ap (λ v. set mid v false) (sym r.var) in
-    let turned : reverse more ≡ reason ∷ reverse hints = ap reverse push ∙ reverse-append hints (reason ∷ []) in
-    subst (λ hs. IsResolving trail p after after_here less hs) (sym turned)
-    (subst (λ ps. IsResolving trail p ps after_here less (reason ∷ reverse hints)) (sym written)
-    (Resolving-resolve trail p reason r.step seen here mid after_here pending less (reverse hints) r.at going is marks (subst (λ v. v < length mid) (sym r.var) room)
-    (subst (λ ps. AreMarks trail.vars (level_of trail.steps) trail.steps ps after_here less) written are)))
+    taken_out (λ ps hs. IsResolving trail p ps after_here less hs) trail p n reason mid after after_here less hints more r room write push are
+    (λ inside now. Resolving-resolve trail p reason r.step seen here mid after_here pending less (reverse hints) r.at going is marks inside now)
 
 -- a variable that is marked, and not as one of the present level, isn't of it
 not_here : (vars level : ℕ) (steps : List Step) (seen here : List Bool) (pending v : ℕ) → AreMarks vars level steps seen here pending → marked seen v ≡ true → marked here v ≡ false → level_in steps v ≡ Some level → ⊥
@@ -111,22 +118,22 @@ here_stays trail p n s seen here mid mid_here pending more valid at is are new m
         ]
 
 -- the same, as it is read
+pub here_kept : (trail : State) (p v n : ℕ) (seen here mid mid_here : List Bool) (pending more : ℕ) → IsTrail trail → (r : IsRead trail p v) → r.step.reason ≡ Some n → AreMarks trail.vars (level_of trail.steps) trail.steps seen here pending →
+    AreMarks trail.vars (level_of trail.steps) trail.steps mid mid_here more → MarksClause seen mid (numbered trail.clauses n) → marked seen v ≡ true → marked here v ≡ false → mid_here ≡ here
+here_kept trail p v n seen here mid mid_here pending more valid r is are new marks m off =
+    here_stays trail p n r.step seen here mid mid_here pending more valid r.at is are new marks (ap (marked seen) r.var ∙ m) (ap (marked here) r.var ∙ off)
+
 pub pending_stays : (trail : State) (p v n : ℕ) (seen here mid mid_here : List Bool) (pending more : ℕ) → IsTrail trail → (r : IsRead trail p v) → r.step.reason ≡ Some n → AreMarks trail.vars (level_of trail.steps) trail.steps seen here pending →
     AreMarks trail.vars (level_of trail.steps) trail.steps mid mid_here more → MarksClause seen mid (numbered trail.clauses n) → marked seen v ≡ true → marked here v ≡ false → more ≡ pending
 pending_stays trail p v n seen here mid mid_here pending more valid r is are new marks m off =
-    let same = here_stays trail p n r.step seen here mid mid_here pending more valid r.at is are new marks (ap (marked seen) r.var ∙ m) (ap (marked here) r.var ∙ off) in
-    new.counted ∙ ap (count_by (λ b. b)) same ∙ sym are.counted
+    new.counted ∙ ap (count_by (λ b. b)) (here_kept trail p v n seen here mid mid_here pending more valid r is are new marks m off) ∙ sym are.counted
 
 pub Derived-read : (trail : State) (p v n : ℕ) (seen here mid after after_here : List Bool) (pending less : ℕ) (hints more : List ℕ) → (r : IsRead trail p v) → IsDerived trail (p + 1) seen here pending (reverse hints) → r.step.reason ≡ Some n →
     MarksClause seen mid (numbered trail.clauses n) → v < length mid → after ≡ set mid v false → more ≡ hints ++ n ∷ [] → AreMarks trail.vars (level_of trail.steps) trail.steps after after_here less →
     IsDerived trail p after after_here less (reverse more)
 Derived-read trail p v n seen here mid after after_here pending less hints more r going is marks room write push are =
-    let written : after ≡ set mid r.step.lit.var false = write ∙ ap (λ w. set mid w false) (sym r.var) in
-    let turned : reverse more ≡ n ∷ reverse hints = ap reverse push ∙ reverse-append hints (n ∷ []) in
-    subst (λ hs. IsDerived trail p after after_here less hs) (sym turned)
-    (subst (λ ps. IsDerived trail p ps after_here less (n ∷ reverse hints)) (sym written)
-    (Derived-resolve trail p n r.step seen here mid after_here pending less (reverse hints) r.at going is marks (subst (λ w. w < length mid) (sym r.var) room)
-    (subst (λ ps. AreMarks trail.vars (level_of trail.steps) trail.steps ps after_here less) written are)))
+    taken_out (λ ps hs. IsDerived trail p ps after_here less hs) trail p v n mid after after_here less hints more r room write push are
+    (λ inside now. Derived-resolve trail p n r.step seen here mid after_here pending less (reverse hints) r.at going is marks inside now)
 
 number_of : (trail : State) (s : Step) (before : List Step) → StepHolds trail.vars trail.clauses before s → MatchOption s.reason (Unit {0}) (IsNumber trail.clauses)
 number_of trail s before holds = by_number s.reason holds.reason

@@ -96,7 +96,7 @@ fn shorten_at(
     hints.push(reason).map_err(|_| NoMemory)?;
     let level = trail.level();
     marks.mark(trail, level, trail.clause(reason))?;
-    marks.leave_out(trail, level, var);
+    marks.unmark(trail, level, var);
     Ok(true)
 }
 

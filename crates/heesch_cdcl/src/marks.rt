@@ -92,35 +92,24 @@ impl Marks {
         Ok(())
     }
 
-    /// A variable of the level is marked no more.
+    /// A variable is marked no more.
     pub fn unmark(&mut self, trail: &Trail, level: u32, var: u32)
-        requires is_marked { marked self.old.here.items var ≡ true }
         requires range { var ≤ trail.now.vars }
         requires marks { AreMarks trail.now.vars level trail.now.steps self.old.seen.items self.old.here.items self.old.pending }
         requires listed { AreListed trail.now.vars self.old.seen.items self.old.here.items self.old.touched.items }
         ensures marks { AreMarks trail.now.vars level trail.now.steps self.new.seen.items self.new.here.items self.new.pending }
         ensures listed { AreListed trail.now.vars self.new.seen.items self.new.here.items self.new.touched.items }
         ensures seen { self.new.seen.items ≡ slice_set self.old.seen.items var false }
-        ensures less { self.new.pending + 1 ≡ self.old.pending }
+        ensures less { marked self.old.here.items var ≡ true → self.new.pending + 1 ≡ self.old.pending }
+        ensures same { marked self.old.here.items var ≡ false → self.new.pending ≡ self.old.pending }
     {
         let place = var as usize;
         self.seen[place] = false;
+        if !self.here[place] {
+            return;
+        }
         self.here[place] = false;
         self.pending -= 1;
-    }
-
-    /// A variable of a lower level is marked no more.
-    pub fn leave_out(&mut self, trail: &Trail, level: u32, var: u32)
-        requires below { marked self.old.here.items var ≡ false }
-        requires range { var ≤ trail.now.vars }
-        requires marks { AreMarks trail.now.vars level trail.now.steps self.old.seen.items self.old.here.items self.old.pending }
-        requires listed { AreListed trail.now.vars self.old.seen.items self.old.here.items self.old.touched.items }
-        ensures marks { AreMarks trail.now.vars level trail.now.steps self.new.seen.items self.new.here.items self.new.pending }
-        ensures listed { AreListed trail.now.vars self.new.seen.items self.new.here.items self.new.touched.items }
-        ensures seen { self.new.seen.items ≡ slice_set self.old.seen.items var false }
-        ensures same { self.new.pending ≡ self.old.pending }
-    {
-        self.seen[var as usize] = false;
     }
 
     /// Whether a variable is marked, and of a lower level.

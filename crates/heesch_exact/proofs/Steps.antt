@@ -3,7 +3,7 @@ use Rattle.std.proofs.Common.{◌≡◌, refl, sym, ap, ◌∙◌, subst, ℕ, �
 use Rattle.std.specs.Int.{bit_at}
 use lib.Bits.{bit_and}
 use Rattle.std.proofs.lemmas.Nat.Bits.{bit_at-lt, shr_and_one}
-use Rattle.std.proofs.lemmas.List.{append-nil, length-append, length_push, drop_at, take_at, take_rest}
+use Rattle.std.proofs.lemmas.List.{append-nil, length-append, length-drop, length_push, drop_at, take_all, take_at, take_rest}
 use Rattle.std.proofs.lemmas.List.Sums.{sum_by_more, sum_by_more_le}
 use Rattle.std.proofs.lemmas.List.Elements.{All-more}
 use Rattle.heesch_exact.specs.declared.search.Ending.{Ending}
@@ -135,3 +135,42 @@ none_from_counts masks items now from one point same counted none =
   where
     last : (b n : ℕ) → b ≡ min 1 n → b ≡ 0 → n ≡ 0
     last b n e z = omega arith
+
+-- ---- a candidate that has the point is taken, and those that are apart from it stand behind the others
+
+pub record IsTaken (masks : List ℕ) (left point : ℕ) (old new : List ℕ) (from k to number : ℕ) : Type 0 where
+  pub at : IsCandidateAt masks left (drop from old) (k - from) number
+  pub has : bit_at (slice_index masks number) point ≡ 1
+  pub end : to ≡ length old
+  pub longer : length new ≡ length old + length (filter (is_apart masks (slice_index masks number)) (drop from old))
+  pub added : drop to new ≡ filter (is_apart masks (slice_index masks number)) (drop from old)
+  pub kept : take to new ≡ old
+
+pub taken : (masks : List ℕ) (left point : ℕ) (old now new : List ℕ) (from k to number : ℕ) → IsCandidateAt masks left (drop from old) (k - from) number → (bit_and (slice_index masks number / 2 ^ point) 1 ≡ 0 → ⊥) →
+    now ≡ old → new ≡ now ++ filter (is_apart masks (slice_index masks number)) (drop from now) → to ≡ length old → IsTaken masks left point old new from k to number
+taken masks left point old now new from k to number at not same pushed long =
+    let test : ℕ → Bool = is_apart masks (slice_index masks number) in
+    record {
+      at = at;
+      has = has_from_test (slice_index masks number) point not;
+      end = long;
+      longer = pushed_length test old now new from to same pushed long;
+      added = behind test old now new from to same pushed long;
+      kept = before test old now new from to same pushed long;
+    }
+
+module _ (masks : List ℕ) (left point : ℕ) (old new : List ℕ) (from k to number : ℕ) (x : IsTaken masks left point old new from k to number) where
+  -- how the search behind it ended
+  pub taken_end : (first mid last : List ℕ) (nodes : ℕ) (ending : Ending) → mid ≡ first ++ (number ∷ []) → IsEnding masks (without left (slice_index masks number)) (drop to new) mid last nodes ending →
+      IsEnding masks (without left (slice_index masks number)) (filter (is_apart masks (slice_index masks number)) (drop from old)) (first ++ (number ∷ [])) last nodes ending
+  taken_end first mid last nodes ending pushed h =
+      ending_inside masks (without left (slice_index masks number)) (drop to new) (filter (is_apart masks (slice_index masks number)) (drop from old)) mid (first ++ (number ∷ [])) last nodes ending x.added pushed h
+
+  -- and how many nodes it took
+  pub taken_few : (n now after : ℕ) → n ≡ length new → now ≤ after + 2 ^ (n - to) → now ≤ after + 2 ^ length (filter (is_apart masks (slice_index masks number)) (drop from old))
+  taken_few n now after long h =
+      budget_inside (n - to) (length (filter (is_apart masks (slice_index masks number)) (drop from old))) now after (let more = x.longer in let end = x.end in omega (arith, more, end, long)) h
+
+-- all candidates were tried
+pub all_tried : (old : List ℕ) (from k : ℕ) → length old ≤ k → take (k - from) (drop from old) ≡ drop from old
+all_tried old from k le = let shorter = length-drop from old in take_all (k - from) (drop from old) (omega (arith, shorter, le))

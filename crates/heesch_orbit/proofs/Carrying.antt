@@ -1,5 +1,5 @@
 -- Tiles that an isometry carries to moved tiles, by the step between the shape under two turns.
-use Rattle.std.proofs.Common.{◌≡◌, refl, sym, ap, ◌∙◌, ℕ, List, map, ℤ, pos, neg_ℤ, ◌+ℤ◌, ◌-ℤ◌, ◌*ℤ◌, arith}
+use Rattle.std.proofs.Common.{◌≡◌, ◌↔◌, refl, sym, ap, subst, ◌∙◌, ℕ, ◌<◌, Bool, true, false, true≢false, List, map, ℤ, pos, neg_ℤ, ◌+ℤ◌, ◌-ℤ◌, ◌*ℤ◌, arith}
 use Rattle.std.proofs.lemmas.Int.{ints}
 use Rattle.heesch_grid.specs.declared.Cell.{Cell}
 use Rattle.heesch_grid.specs.declared.isometries.Iso.{Iso}
@@ -11,7 +11,7 @@ use Rattle.heesch_grid.specs.Symmetry.{CarriesToTranslate}
 use Rattle.heesch_grid.specs.Vectors.{plus}
 use Rattle.heesch_grid.proofs.IsometryFacts.{moved_twice, moved_none}
 use Rattle.heesch_orbit.specs.Steps.{IsVector, IsStep, turn_alone, turn_and_shift}
-use Rattle.heesch_orbit.specs.Symmetries.{Takes, excess}
+use Rattle.heesch_orbit.specs.Symmetries.{Takes, excess, CarriesPlaces, KeepsLattice, shift, first_vector, second_vector}
 use Rattle.heesch_orbit.proofs.Sets.{set_of, same_through, same_map, map_twice, map_same, followed, followed_is}
 
 module _ (g : Geometry) (law : IsGrid g) (shape : List Cell) where
@@ -120,3 +120,77 @@ one_isometry m n by other w v to turn m_is w_is there here =
   where
     same : (m n x y t w v : ℤ) → n ≡ m → v ≡ w → n +ℤ x -ℤ pos 0 -ℤ t ≡ v → m +ℤ y -ℤ w -ℤ t ≡ pos 0 → x ≡ y
     same m n x y t w v e f h k = omega (arith, ints)
+
+-- ---- what the code decides
+
+module _ (g : Geometry) (law : IsGrid g) (shape : List Cell) (from to : Iso) (p : IsIsometry g from) where
+  -- with no step between the shape under the two turns no tile is carried
+  pub no_step_carries : (t : Triple) (by : Iso) → IsIsometry g by → (k : ℕ) → k ≡ g.compose from.turn by.turn → ((x : Cell) → IsStep g shape k to.turn x → ⊥) → (false ≡ true) ↔ CarriesToTranslate g t by (image g from shape) (image g to shape)
+  no_step_carries t by q k k_is none = ((λ e. absurd (true≢false (sym e))), (λ r. absurd (never r)))
+    where
+      none_at : (x : Cell) → IsStep g shape (g.compose from.turn by.turn) to.turn x → ⊥
+      none_at = subst (λ (n : ℕ). (x : Cell) → IsStep g shape n to.turn x → ⊥) k_is none
+
+      never : CarriesToTranslate g t by (image g from shape) (image g to shape) → ⊥
+      never r =
+          let v : Cell = cell (r.i *ℤ pos t.p +ℤ r.j *ℤ pos t.s) (r.j *ℤ pos t.q) in
+          none_at (excess (g.turn by.turn (cell from.da from.db)) by v to) (step_of_carried g law shape from to by v p q r.same)
+
+  -- with the one step the vector that is left over decides
+  pub step_carries : (t : Triple) (by : Iso) → IsIsometry g by → (k : ℕ) → k ≡ g.compose from.turn by.turn → (m w left : Cell) → m ≡ g.turn by.turn (cell from.da from.db) → IsStep g shape k to.turn w → ((x : Cell) → IsStep g shape k to.turn x → x ≡ w) → left ≡ excess m by w to →
+      (is_vector : Bool) → (is_vector ≡ true) ↔ IsVector t left → (is_vector ≡ true) ↔ CarriesToTranslate g t by (image g from shape) (image g to shape)
+  step_carries t by q k k_is m w left m_is step only left_is is_vector test =
+      let step_at : IsStep g shape (g.compose from.turn by.turn) to.turn w = subst (λ (n : ℕ). IsStep g shape n to.turn w) k_is step in
+      let only_at : (x : Cell) → IsStep g shape (g.compose from.turn by.turn) to.turn x → x ≡ w = subst (λ (n : ℕ). (x : Cell) → IsStep g shape n to.turn x → x ≡ w) k_is only in (
+        (λ e. vector_carries g law shape t from to by m w left p q m_is step_at left_is (test.0 e)),
+        (λ r. test.1 (carries_vector g law shape t from to by m w left p q m_is only_at left_is r)),
+      )
+
+  -- so for the isometries of one turn that take the tile exactly
+  module _ (k : ℕ) (below : k < g.turns) (j : ℕ) (j_is : j ≡ g.compose from.turn k) where
+    turned_below : (by : Iso) → by.turn ≡ k → IsIsometry g by
+    turned_below by turn = subst (λ (n : ℕ). n < g.turns) (sym turn) below
+
+    turned_as : (by : Iso) → by.turn ≡ k → j ≡ g.compose from.turn by.turn
+    turned_as by turn = j_is ∙ ap (g.compose from.turn) (sym turn)
+
+    pub no_step_takes : ((x : Cell) → IsStep g shape j to.turn x → ⊥) → (by : Iso) → by.turn ≡ k → Takes g shape from to by → ⊥
+    no_step_takes none by turn h =
+        let none_at : (x : Cell) → IsStep g shape (g.compose from.turn by.turn) to.turn x → ⊥ = subst (λ (n : ℕ). (x : Cell) → IsStep g shape n to.turn x → ⊥) (turned_as by turn) none in
+        none_at (excess (g.turn by.turn (cell from.da from.db)) by (cell (pos 0) (pos 0)) to) (takes_step g law shape from to by p (turned_below by turn) h)
+
+    module _ (m w : Cell) (m_is : m ≡ g.turn k (cell from.da from.db)) (by : Iso) (turn : by.turn ≡ k) (exact : excess m by w to ≡ cell (pos 0) (pos 0)) where
+      pub stepping_takes : IsStep g shape j to.turn w → Takes g shape from to by
+      stepping_takes step =
+          step_takes g law shape from to by m w p (turned_below by turn) (m_is ∙ ap (λ (n : ℕ). g.turn n (cell from.da from.db)) (sym turn)) (subst (λ (n : ℕ). IsStep g shape n to.turn w) (turned_as by turn) step) exact
+
+      pub stepping_only : ((x : Cell) → IsStep g shape j to.turn x → x ≡ w) → (other : Iso) → other.turn ≡ k → Takes g shape from to other → other ≡ by
+      stepping_only only other same h =
+          let n : Cell = g.turn other.turn (cell from.da from.db) in
+          let n_is : n ≡ m = ap (λ (i : ℕ). g.turn i (cell from.da from.db)) same ∙ sym m_is in
+          let only_at : (x : Cell) → IsStep g shape (g.compose from.turn other.turn) to.turn x → x ≡ w = subst (λ (i : ℕ). (x : Cell) → IsStep g shape i to.turn x → x ≡ w) (turned_as other same) only in
+          let v : Cell = excess n other (cell (pos 0) (pos 0)) to in
+          let v_is : v ≡ w = only_at v (takes_step g law shape from to other p (turned_below other same) h) in
+          one_isometry m n by other w v to (same ∙ sym turn) n_is v_is (λ i. v) exact
+
+-- the vectors of the lattice, as they were turned
+module _ (g : Geometry) (shape : List Cell) (t : Triple) (places : List Iso) (k : ℕ) where
+  turned_as_is : (by : Iso) (read v : Cell) → by ≡ shift (g.turn k read) → read ≡ v → by ≡ shift (g.turn k v)
+  turned_as_is by read v is read_is = is ∙ ap (λ (z : Cell). shift (g.turn k z)) read_is
+
+  module _ (first : Iso) (a : Cell) (first_is : first ≡ shift (g.turn k a)) (a_is : a ≡ first_vector t) where
+    -- where the first carries the tiles, the second decides
+    pub second_decides : CarriesPlaces g shape t places first → (second : Iso) (b : Cell) → second ≡ shift (g.turn k b) → b ≡ second_vector t → (carries : Bool) → (carries ≡ true) ↔ CarriesPlaces g shape t places second → (carries ≡ true) ↔ KeepsLattice g shape t places k
+    second_decides h second b second_is b_is carries test =
+        let P : Iso → Type 0 = CarriesPlaces g shape t places in
+        let is = turned_as_is second b (second_vector t) second_is b_is in (
+          (λ e. record { first = subst P (turned_as_is first a (first_vector t) first_is a_is) h; second = subst P is (test.0 e) }),
+          (λ kept. test.1 (subst P (sym is) kept.second)),
+        )
+
+    -- and where it doesn't, the lattice isn't kept
+    pub first_decides : (carries : Bool) → carries ≡ false → (carries ≡ true) ↔ CarriesPlaces g shape t places first → (carries ≡ true) ↔ KeepsLattice g shape t places k
+    first_decides carries off test = (
+      (λ e. absurd (true≢false (sym e ∙ off))),
+      (λ kept. test.1 (subst (CarriesPlaces g shape t places) (sym (turned_as_is first a (first_vector t) first_is a_is)) kept.first)),
+    )

@@ -1,6 +1,7 @@
 -- Classes found tile by tile are the classes.
-use Rattle.std.proofs.Common.{◌≡◌, refl, sym, ap, subst, ◌∙◌, ℕ, zero, suc, ◌+◌, ◌<◌, ◌≤◌, List, [], ◌∷◌, ◌++◌, length, max, take, Some, inl, inr, arith, length-append}
+use Rattle.std.proofs.Common.{◌≡◌, refl, sym, ap, subst, ◌∙◌, ℕ, zero, suc, ◌+◌, ◌<◌, ◌≤◌, List, [], ◌∷◌, ◌++◌, length, max, take, Some, Result, inl, inr, arith, length-append}
 use Rattle.std.specs.List.{slice_get}
+use Rattle.std.specs.Result.{OnOk}
 use Rattle.std.proofs.Math.Seq.{take-append_seam}
 use Rattle.std.proofs.lemmas.Bool.{cases_lt}
 use Rattle.std.proofs.lemmas.List.{take-append-le}
@@ -18,6 +19,7 @@ use Rattle.heesch_orbit.specs.Found.{IsMember, IsNew, AreFound}
 use Rattle.heesch_orbit.specs.Symmetries.{IsLeastTaking}
 use Rattle.heesch_orbit.proofs.Deciding.{classes_take_exactly, classes_go_both_ways}
 use Rattle.heesch_orbit.proofs.Lists.{get_last, one_value, get_cases, get_still}
+use Rattle.heesch_orbit.proofs.Options.{on_ok}
 use Rattle.heesch_orbit.proofs.Sets.{set_of, map_same, still}
 
 same_length : {X Y : Type 0} (xs : List X) (x : X) (ys : List Y) (y : Y) → length xs ≡ length ys → length (xs ++ x ∷ []) ≡ length (ys ++ y ∷ [])
@@ -234,6 +236,28 @@ module _ (g : Geometry) (law : IsGrid g) (shape : List Cell) (t : Triple) (tripl
           some_tile (y ∷ ys) (suc k) l = some_tile ys k (omega arith)
 
 -- the first so many elements are all
+
+-- ---- one tile more, where it could be pushed
+module _ (g : Geometry) (law : IsGrid g) (shape : List Cell) (t : Triple) (triple : IsTriple t) (places : List Iso) (representatives read : List Iso) (read_is : read ≡ representatives) (to : Iso) (x : Member) (old new : List Member) where
+  pub known_pushed : {X E : Type 0} → IsMember g shape t places read to x → (r : Result X E) → OnOk r (new ≡ old ++ x ∷ []) → OnOk r ((tiles : List Iso) → AreFound g shape t places tiles representatives old → AreFound g shape t places (tiles ++ to ∷ []) representatives new)
+  known_pushed m r pushed =
+      on_ok (new ≡ old ++ x ∷ []) ((tiles : List Iso) → AreFound g shape t places tiles representatives old → AreFound g shape t places (tiles ++ to ∷ []) representatives new)
+      (λ e tiles a. subst (λ (ms : List Member). AreFound g shape t places (tiles ++ to ∷ []) representatives ms) (sym e) (known_found g law shape t triple places tiles representatives old to x a (subst (λ (rs : List Iso). IsMember g shape t places rs to x) read_is m)))
+      r pushed
+
+  pub new_pushed : {X E : Type 0} → IsNew g shape t places read to → (count : ℕ) → count ≡ length representatives + 1 → x ≡ record { class = count; by = no_move } → (more : List Iso) → more ≡ representatives ++ to ∷ [] → (r : Result X E) → OnOk r (new ≡ old ++ x ∷ []) →
+      OnOk r ((tiles : List Iso) → AreFound g shape t places tiles representatives old → AreFound g shape t places (tiles ++ to ∷ []) more new)
+  new_pushed none count long is more more_is r pushed =
+      on_ok (new ≡ old ++ x ∷ []) ((tiles : List Iso) → AreFound g shape t places tiles representatives old → AreFound g shape t places (tiles ++ to ∷ []) more new)
+      (λ e tiles a. subst (λ (ms : List Member). AreFound g shape t places (tiles ++ to ∷ []) more ms) (sym e) (subst (λ (rs : List Iso). AreFound g shape t places (tiles ++ to ∷ []) rs (old ++ x ∷ [])) (sym more_is) (found tiles a)))
+      r pushed
+    where
+      numbered : ℕ → Member
+      numbered k = record { class = k; by = no_move }
+
+      found : (tiles : List Iso) → AreFound g shape t places tiles representatives old → AreFound g shape t places (tiles ++ to ∷ []) (representatives ++ to ∷ []) (old ++ x ∷ [])
+      found tiles a = new_found g law shape t triple places tiles representatives old to x a (subst (λ (rs : List Iso). IsNew g shape t places rs to) read_is none) (is ∙ ap numbered long)
+
 pub take_all : (n : ℕ) (xs : List Iso) → length xs ≤ n → take n xs ≡ xs
 take_all zero [] l = refl
 take_all (suc n) [] l = refl

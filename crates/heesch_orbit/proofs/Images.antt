@@ -1,5 +1,5 @@
 -- A shape under all turns, and the translations between its images.
-use Rattle.std.proofs.Common.{◌≡◌, refl, sym, ap, subst, ◌∙◌, ℕ, ◌+◌, ◌*◌, ◌<◌, ◌≤◌, true, List, [], ◌∷◌, ◌++◌, map, length, get_or, ℤ, pos, ◌+ℤ◌, ◌*ℤ◌, inl, inr, arith, Contains, All, length-append}
+use Rattle.std.proofs.Common.{◌≡◌, refl, sym, ap, subst, ◌∙◌, ℕ, ◌+◌, ◌*◌, ◌<◌, true, List, [], ◌∷◌, ◌++◌, map, length, get_or, ℤ, pos, ◌+ℤ◌, ◌*ℤ◌, inl, inr, arith, Contains, All, length-append}
 use Rattle.std.proofs.Math.ListN.{get_or-append}
 use Rattle.std.proofs.Math.Seq.{get_or-append_seam}
 use Rattle.std.proofs.lemmas.Bool.{cases_lt}
@@ -19,7 +19,7 @@ use Rattle.heesch_grid.proofs.ListFacts.{same_rising, All-from_members}
 use Rattle.heesch_grid.proofs.SymmetryFacts.{translations_are_determined}
 use Rattle.heesch_grid.proofs.WindowFacts.{map_member}
 use Rattle.heesch_orbit.specs.Steps.{IsStep, IsStepBetween, turn_alone, turn_and_shift}
-use Rattle.heesch_orbit.specs.Turned.{first_of, AreImages}
+use Rattle.heesch_orbit.specs.Turned.{first_of, AreImages, AreTurned}
 use Rattle.heesch_orbit.proofs.Sets.{set_of, same_back, same_through, same_map, map_twice, map_same, still}
 
 -- a cell list has the cells of its set
@@ -104,3 +104,34 @@ pub one_step : (g : Geometry) → IsGrid g → (shape : List Cell) (a b : ℕ) (
 one_step g law shape a b w v some p q =
     let e : turn_and_shift a w ≡ turn_and_shift a v = translations_are_determined g shape (turn_and_shift a w) (turn_and_shift a v) law some refl (same_through (image g (turn_and_shift a w) shape) (image g (turn_alone b) shape) (image g (turn_and_shift a v) shape) p (same_back (image g (turn_and_shift a v) shape) (image g (turn_alone b) shape) q)) in
     Cell-eta w v (ap (λ (i : Iso). i.da) e) (ap (λ (i : Iso). i.db) e)
+
+-- ---- the images under all turns
+
+-- where the shape was turned by each turn, its first image is the shape
+pub all_turned : (g : Geometry) → IsGrid g → (shape : List Cell) → IsRising cell_before shape → (turn : ℕ) (images : List (List Cell)) → turn ≡ g.turns → AreImages g shape turn images → AreTurned g (first_of images) images × (first_of images ≡ shape)
+all_turned g law shape rising turn images is a =
+    let all : AreTurned g shape images = subst (λ (k : ℕ). AreImages g shape k images) is a in
+    let first = first_is_shape g law shape g.turns images rising law.turns_range.0 all in
+    (subst (λ xs. AreImages g xs g.turns images) (sym first) all, first)
+
+-- the list of a turn
+listed_at : (g : Geometry) (shape : List Cell) (images : List (List Cell)) → AreTurned g shape images → (k : ℕ) → k < g.turns → (cells : List Cell) → cells ≡ get_or images k cells → IsCellListOf (image g (turn_alone k) shape) cells
+listed_at g shape images a k less cells is = subst (λ ys. IsCellListOf (image g (turn_alone k) shape) ys) (sym is) (a.each k cells less)
+
+pub listed_near : (g : Geometry) → IsGrid g → (shape : List Cell) (images : List (List Cell)) → AreTurned g shape images → (k : ℕ) → k < g.turns → (cells : List Cell) → cells ≡ get_or images k cells → (c : Cell) → has cells c ≡ true → IsWithin 200000 c
+listed_near g law shape images a k less cells is = image_near g law k shape cells less a.near (listed_at g shape images a k less cells is)
+
+-- a step between the lists of two turns is one between the turns of the shape, and there is one
+module _ (g : Geometry) (law : IsGrid g) (shape : List Cell) (images : List (List Cell)) (a : AreTurned g shape images) (from to : ℕ) (is_from : from < g.turns) (is_to : to < g.turns) (xs ys : List Cell) (first : xs ≡ get_or images from xs) (second : ys ≡ get_or images to ys)
+    (seen : List Cell) (view : shape ≡ seen) where
+  inside : (w : Cell) → IsStepBetween g xs ys w → IsStep g shape from to w
+  inside w h = to_step g law shape xs ys from to w (listed_at g shape images a from is_from xs first) (listed_at g shape images a to is_to ys second) h
+
+  pub listed_to : (w : Cell) → IsStepBetween g xs ys w → IsStep g seen from to w
+  listed_to w h = subst (λ (zs : List Cell). IsStep g zs from to w) view (inside w h)
+
+  pub listed_from : (w : Cell) → IsStep g seen from to w → IsStepBetween g xs ys w
+  listed_from w h = from_step g law shape xs ys from to w (listed_at g shape images a from is_from xs first) (listed_at g shape images a to is_to ys second) (subst (λ (zs : List Cell). IsStep g zs from to w) (sym view) h)
+
+  pub listed_only : (v : Cell) → IsStepBetween g xs ys v → (w : Cell) → IsStep g seen from to w → w ≡ v
+  listed_only v h w k = one_step g law shape from to w v a.some (subst (λ (zs : List Cell). IsStep g zs from to w) (sym view) k) (inside v h)

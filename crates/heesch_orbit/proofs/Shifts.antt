@@ -8,6 +8,7 @@ use Rattle.heesch_grid.specs.Listing.{IsRising}
 use Rattle.heesch_grid.specs.Cells.{cell_before, has, same_cell, SameCells}
 use Rattle.heesch_grid.specs.Geometry.{Geometry, moved}
 use Rattle.heesch_grid.specs.Pairs.{Cell-eta, or-left, same_cell-refl}
+use Rattle.heesch_grid.specs.Polyform.{IsPolyform}
 use Rattle.heesch_grid.specs.Vectors.{AreUnitsOf, IsWithin, plus, times}
 use Rattle.heesch_grid.proofs.CellFacts.{cell_before-irreflexive, cell_before-asymmetric}
 use Rattle.heesch_grid.proofs.ListFacts.{same_rising, All-from_members}
@@ -64,3 +65,11 @@ in_units g unit w v e h = record { in_a = ap (λ u. u *ℤ w.a) e ∙ ap (λ z. 
 
 pub of_units : (g : Geometry) (unit : ℤ) (w v : Cell) → unit ≡ pos g.unit → AreUnitsOf unit w v → times g.unit w ≡ v
 of_units g unit w v e h = Cell-eta (times g.unit w) v (ap (λ u. u *ℤ w.a) (sym e) ∙ h.in_a) (ap (λ u. u *ℤ w.b) (sym e) ∙ h.in_b)
+
+-- a step between two shapes, as their lists were read
+module _ (g : Geometry) (xs ys cells others : List Cell) (cells_are : cells ≡ xs) (others_are : others ≡ ys) (p : IsPolyform g xs) (q : IsPolyform g ys) (d v : Cell) (first : plus v (get_or cells 0 d) ≡ get_or others 0 d) (w : Cell) (h : IsStepBetween g xs ys w) where
+  pub step_read : times g.unit w ≡ v
+  step_read = step_first g w v xs ys d d p.is_set.rising q.is_set.rising p.some q.some (ap (λ (zs : List Cell). plus v (get_or zs 0 d)) (sym cells_are) ∙ first ∙ ap (λ (zs : List Cell). get_or zs 0 d) others_are) h
+
+  pub lists_read : map (plus v) cells ≡ others
+  lists_read = ap (map (plus v)) cells_are ∙ ap (λ (s : Cell). map (plus s) xs) (sym step_read) ∙ step_lists g w xs ys p.is_set.rising q.is_set.rising h ∙ sym others_are

@@ -64,17 +64,17 @@ some_length : (xs : List Cell) (c : Cell) → Contains xs c → 1 ≤ length xs
 some_length [] c m = absurd (no_member c m)
 some_length (x ∷ xs) c m = omega arith
 
-times_some : (xs : List Cell) (c : Cell) → Contains xs c → 1 ≤ times_in xs c
+pub times_some : (xs : List Cell) (c : Cell) → Contains xs c → 1 ≤ times_in xs c
 times_some xs c m = some_length (filter (same_cell c) xs) c (member_filter (same_cell c) xs c m (same_cell-is c c refl))
 
-times_more : (x : Cell) (xs : List Cell) (c : Cell) → times_in xs c ≤ times_in (x ∷ xs) c
+pub times_more : (x : Cell) (xs : List Cell) (c : Cell) → times_in xs c ≤ times_in (x ∷ xs) c
 times_more x xs c = more (same_cell c x)
   where
     more : (b : Bool) → times_in xs c ≤ length (cond b (x ∷ filter (same_cell c) xs) (filter (same_cell c) xs))
     more true = omega arith
     more false = omega arith
 
-times_first : (x : Cell) (xs : List Cell) → times_in (x ∷ xs) x ≡ suc (times_in xs x)
+pub times_first : (x : Cell) (xs : List Cell) → times_in (x ∷ xs) x ≡ suc (times_in xs x)
 times_first x xs = ap (λ b. length (cond b (x ∷ filter (same_cell x) xs) (filter (same_cell x) xs))) (same_cell-is x x refl)
 
 distinct_by_times : (xs : List Cell) → ((c : Cell) → Contains xs c → times_in xs c ≤ 1) → Distinct xs

@@ -1,7 +1,7 @@
 -- Counts by the numbers of cells: one more cell, one more list of cells, and what full counts say.
 use Rattle.std.proofs.Common.{◌≡◌, ◌↔◌, refl, sym, ap, subst, ◌∙◌, ℕ, suc, ◌+◌, ◌<◌, ◌≤◌, List, [], ◌∷◌, ◌++◌, map, filter, length, take, drop, get_or, Bool, true, false, cond, inl, inr, arith, All}
 use Rattle.std.specs.Prelude.{ℤ, ◌*◌, ◌≢◌, slice_index, slice_set}
-use Rattle.std.proofs.lemmas.Bool.{cases_Bool, cases_order}
+use Rattle.std.proofs.lemmas.Bool.{cases_Bool, cases_order, true≢false}
 use Rattle.std.proofs.lemmas.List.{length-take-le, length-set, get_or-set_same, get_or-set_other, take_more, take-append-drop}
 use Rattle.std.proofs.lemmas.List.Elements.{All-cons}
 use Rattle.heesch_grid.specs.declared.Cell.{Cell}
@@ -12,9 +12,9 @@ use Rattle.heesch_grid.specs.Geometry.{Geometry, IsGrid, IsIsometry, apply, imag
 use Rattle.heesch_grid.specs.Polyform.{IsPolyform}
 use Rattle.heesch_grid.specs.Lattice.{Triple, IsTriple, IsReduced}
 use Rattle.heesch_grid.specs.Tiling.{IsPeriodicCover, no_move, half_turned}
-use Rattle.heesch_tiling.specs.Counting.{residue, tile_residues, residues, times_in, in_window, AreCounts, AddsCounts, HasRepeat, IsFull}
-use Rattle.heesch_tiling.proofs.Steps.{map_append, map_length, append_none}
-use Rattle.heesch_tiling.proofs.Spots.{one_number, window_reduced, same_test, none_reduced}
+use Rattle.heesch_tiling.specs.Counting.{residue, tile_residues, residues, times_in, window_size, in_window, AreCounts, AddsCounts, HasRepeat, IsFull}
+use Rattle.heesch_tiling.proofs.Steps.{map_append, map_length, append_none, residues_more}
+use Rattle.heesch_tiling.proofs.Spots.{one_number, wide_some, window_reduced, same_test, none_reduced}
 use Rattle.heesch_tiling.proofs.Covers.{covers_once}
 use Rattle.heesch_tiling.proofs.Verdicts.{exact, never_amiss}
 
@@ -108,6 +108,19 @@ module _ (g : Geometry) (t : Triple) where
       let before = adds.each k below in
       record { at = k; below = below; reduced = red; twice = omega (arith, more, one, begun, before, some) }
 
+-- one cell of a tile more
+pub adds_next : (g : Geometry) → IsGrid g → (t : Triple) → IsTriple t → (by : Iso) (cells : List Cell) (i : ℕ) (d : Cell) → i < length cells → (old now : List ℕ) → length old ≡ window_size g t → AddsCounts g t (tile_residues g (take i cells) t by) old now →
+    (k : ℕ) → in_window g t k ≡ residue g t (apply g by (get_or cells i d)) → k < window_size g t → (v : ℕ) → v ≡ slice_index now k + 1 → AddsCounts g t (tile_residues g (take (i + 1) cells) t by) old (slice_set now k v)
+adds_next g law t triple by cells i d less old now all adds k is below v more =
+    subst (λ (xs : List Cell). AddsCounts g t xs old (slice_set now k v)) (sym (tile_more g t by cells i d less))
+    (adds_one g t (wide_some g law t triple) (tile_residues g (take i cells) t by) old now adds k (residue g t (apply g by (get_or cells i d))) v (subst (λ n. k < n) (sym all) below) is more)
+
+-- one tile more
+pub counts_next : (g : Geometry) (t : Triple) (cells : List Cell) (places : List Iso) (i : ℕ) (d : Iso) → i < length places → (old new : List ℕ) → AreCounts g t (residues g cells t (take i places)) old → AddsCounts g t (tile_residues g cells t (get_or places i d)) old new →
+    AreCounts g t (residues g cells t (take (i + 1) places)) new
+counts_next g t cells places i d less old new are adds =
+    subst (λ (xs : List Cell). AreCounts g t xs new) (sym (residues_more g cells t places i d less)) (then_counts g t (residues g cells t (take i places)) (tile_residues g cells t (get_or places i d)) old new are adds)
+
 -- ---- full counts
 module _ (g : Geometry) (law : IsGrid g) (shape : List Cell) (form : IsPolyform g shape) (t : Triple) (triple : IsTriple t) (places : List Iso) (isometries : All (IsIsometry g) places) where
   pub full_covers : (counts : List ℕ) → AreCounts g t (residues g shape t places) counts → IsFull g t counts ↔ IsPeriodicCover g shape t places
@@ -127,6 +140,13 @@ pub two_tiles : (g : Geometry) (shape : List Cell) (t : Triple) (a b : Iso) → 
 two_tiles g shape t a b =
     map_append (residue g t) (image g a shape) (image g b shape ++ []) ∙ ap (λ xs. tile_residues g shape t a ++ xs) (ap (map (residue g t)) (append_none (image g b shape)))
 
+-- a test of full counts, and one that no cover passes
+decides : (b : Bool) (P Q : Type 0) → (b ≡ true) ↔ P → P ↔ Q → (b ≡ true) ↔ Q
+decides b P Q test same = ((λ e. same.0 (test.0 e)), (λ q. test.1 (same.1 q)))
+
+never_decides : (b : Bool) (Q : Type 0) → b ≡ false → ¬ Q → (b ≡ true) ↔ Q
+never_decides b Q off never = ((λ e. absurd (true≢false (sym e ∙ off))), (λ q. absurd (never q)))
+
 -- ---- the shape alone, and the shape with its image under a half-turn
 All-none : (P : Iso → Type 0) → All P []
 All-none P k d l = absurd (omega arith)
@@ -135,7 +155,7 @@ module _ (g : Geometry) (law : IsGrid g) (shape : List Cell) (form : IsPolyform 
   unmoved : All (IsIsometry g) (no_move ∷ [])
   unmoved = All-cons (IsIsometry g) no_move [] law.turns_range.0 (All-none (IsIsometry g))
 
-  pub alone : (marks : List ℕ) → AreCounts g t (tile_residues g shape t no_move) marks → IsFull g t marks ↔ IsPeriodicCover g shape t (no_move ∷ [])
+  alone : (marks : List ℕ) → AreCounts g t (tile_residues g shape t no_move) marks → IsFull g t marks ↔ IsPeriodicCover g shape t (no_move ∷ [])
   alone marks are = full_covers g law shape form t triple (no_move ∷ []) unmoved marks (subst (λ (xs : List Cell). AreCounts g t xs marks) (sym (one_tile g shape t no_move)) are)
 
   -- the count of a cell that the shape has twice
@@ -145,11 +165,19 @@ module _ (g : Geometry) (law : IsGrid g) (shape : List Cell) (form : IsPolyform 
       let twice = r.twice in
       omega (arith, zero_count, twice)
 
-  pub alone_never : (old : List ℕ) → AreCounts g t [] old → HasRepeat g t (tile_residues g shape t no_move) old → ¬ IsPeriodicCover g shape t (no_move ∷ [])
+  -- what is full of its marks is a cover
+  pub alone_decides : (old marks : List ℕ) → AreCounts g t [] old → AddsCounts g t (tile_residues g shape t no_move) old marks → (b : Bool) → (b ≡ true) ↔ IsFull g t marks → (b ≡ true) ↔ IsPeriodicCover g shape t (no_move ∷ [])
+  alone_decides old marks none adds b test = decides b (IsFull g t marks) (IsPeriodicCover g shape t (no_move ∷ [])) test (alone marks (then_counts g t [] (tile_residues g shape t no_move) old marks none adds))
+
+  alone_never : (old : List ℕ) → AreCounts g t [] old → HasRepeat g t (tile_residues g shape t no_move) old → ¬ IsPeriodicCover g shape t (no_move ∷ [])
   alone_never old none r =
       let same = ap (λ xs. times_in xs (in_window g t r.at)) (one_tile g shape t no_move) in
       let two = repeat_count old none r in
       repeat_never g law shape form t triple (no_move ∷ []) unmoved (in_window g t r.at) r.reduced (omega (arith, same, two))
+
+  -- what has a repeat is none
+  pub alone_fails : (old : List ℕ) → AreCounts g t [] old → HasRepeat g t (tile_residues g shape t no_move) old → (b : Bool) → b ≡ false → (b ≡ true) ↔ IsPeriodicCover g shape t (no_move ∷ [])
+  alone_fails old none r b off = never_decides b (IsPeriodicCover g shape t (no_move ∷ [])) off (alone_never old none r)
 
   module _ (a b : ℤ) where
     turned : All (IsIsometry g) (no_move ∷ half_turned g a b ∷ [])
@@ -158,12 +186,12 @@ module _ (g : Geometry) (law : IsGrid g) (shape : List Cell) (form : IsPolyform 
     times_of_two : (c : Cell) → times_in (residues g shape t (no_move ∷ half_turned g a b ∷ [])) c ≡ times_in (tile_residues g shape t no_move) c + times_in (tile_residues g shape t (half_turned g a b)) c
     times_of_two c = ap (λ xs. times_in xs c) (two_tiles g shape t no_move (half_turned g a b)) ∙ times_append (tile_residues g shape t no_move) (tile_residues g shape t (half_turned g a b)) c
 
-    pub both : (base marks : List ℕ) → AreCounts g t (tile_residues g shape t no_move) base → AddsCounts g t (tile_residues g shape t (half_turned g a b)) base marks → IsFull g t marks ↔ IsPeriodicCover g shape t (no_move ∷ half_turned g a b ∷ [])
+    both : (base marks : List ℕ) → AreCounts g t (tile_residues g shape t no_move) base → AddsCounts g t (tile_residues g shape t (half_turned g a b)) base marks → IsFull g t marks ↔ IsPeriodicCover g shape t (no_move ∷ half_turned g a b ∷ [])
     both base marks are adds =
         full_covers g law shape form t triple (no_move ∷ half_turned g a b ∷ []) turned marks
         (subst (λ (xs : List Cell). AreCounts g t xs marks) (sym (two_tiles g shape t no_move (half_turned g a b))) (then_counts g t (tile_residues g shape t no_move) (tile_residues g shape t (half_turned g a b)) base marks are adds))
 
-    pub both_never : (base : List ℕ) → AreCounts g t (tile_residues g shape t no_move) base → HasRepeat g t (tile_residues g shape t (half_turned g a b)) base → ¬ IsPeriodicCover g shape t (no_move ∷ half_turned g a b ∷ [])
+    both_never : (base : List ℕ) → AreCounts g t (tile_residues g shape t no_move) base → HasRepeat g t (tile_residues g shape t (half_turned g a b)) base → ¬ IsPeriodicCover g shape t (no_move ∷ half_turned g a b ∷ [])
     both_never base are r =
         let before = are.each r.at (subst (λ n. r.at < n) are.all r.below) in
         let sum = times_of_two (in_window g t r.at) in
@@ -175,3 +203,18 @@ module _ (g : Geometry) (law : IsGrid g) (shape : List Cell) (form : IsPolyform 
         let two = repeat_count old none r in
         let sum = times_of_two (in_window g t r.at) in
         repeat_never g law shape form t triple (no_move ∷ half_turned g a b ∷ []) turned (in_window g t r.at) r.reduced (omega (arith, two, sum))
+
+    module _ (base copied : List ℕ) (same : copied ≡ base) (are : AreCounts g t (tile_residues g shape t no_move) base) (by : Iso) (is : by ≡ half_turned g a b) where
+      copied_are : AreCounts g t (tile_residues g shape t no_move) copied
+      copied_are = subst (λ (ns : List ℕ). AreCounts g t (tile_residues g shape t no_move) ns) (sym same) are
+
+      -- what is full of the marks of both is a cover
+      pub both_decides : (marks : List ℕ) → AddsCounts g t (tile_residues g shape t by) copied marks → (test : Bool) → (test ≡ true) ↔ IsFull g t marks → (test ≡ true) ↔ IsPeriodicCover g shape t (no_move ∷ half_turned g a b ∷ [])
+      both_decides marks adds test full =
+          decides test (IsFull g t marks) (IsPeriodicCover g shape t (no_move ∷ half_turned g a b ∷ [])) full
+          (both copied marks copied_are (subst (λ (x : Iso). AddsCounts g t (tile_residues g shape t x) copied marks) is adds))
+
+      -- what has a repeat is none
+      pub both_fails : HasRepeat g t (tile_residues g shape t by) copied → (test : Bool) → test ≡ false → (test ≡ true) ↔ IsPeriodicCover g shape t (no_move ∷ half_turned g a b ∷ [])
+      both_fails r test off =
+          never_decides test (IsPeriodicCover g shape t (no_move ∷ half_turned g a b ∷ [])) off (both_never copied copied_are (subst (λ (x : Iso). HasRepeat g t (tile_residues g shape t x) copied) is r))

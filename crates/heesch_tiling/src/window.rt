@@ -41,8 +41,8 @@ fn number(wide: u32, c: Cell) -> usize
     c.b as usize * wide as usize + c.a as usize
 }
 
-/// How many pairs have a reduced unit.
-pub(crate) fn window_size<G: Grid>(triple: Triple) -> usize
+/// How many pairs have a reduced unit. It takes no memory.
+pub fn window_size<G: Grid>(triple: Triple) -> usize
     ensures triple { IsSmallTriple triple }
     ensures is { result ≡ window_size G.geometry triple }
     ensures few { result ≤ 36 * (triple.p * triple.q) }
@@ -50,8 +50,8 @@ pub(crate) fn window_size<G: Grid>(triple: Triple) -> usize
     side::<G>(triple.p) as usize * side::<G>(triple.q) as usize
 }
 
-/// The k-th pair with a reduced unit, in cell order.
-pub(crate) fn pair_at<G: Grid>(triple: Triple, k: usize) -> Cell
+/// The k-th pair with a reduced unit, in cell order. It takes no memory.
+pub fn pair_at<G: Grid>(triple: Triple, k: usize) -> Cell
     requires { k ≤ 1000000 }
     ensures is { result ≡ in_window G.geometry triple k }
     ensures within { IsWithin 1000000 result }
@@ -59,11 +59,20 @@ pub(crate) fn pair_at<G: Grid>(triple: Triple, k: usize) -> Cell
     spot(side::<G>(triple.p), k as u32)
 }
 
-/// The reduced cell of the image of c.
-fn residue_of<G: Grid>(triple: Triple, by: Iso, c: Cell) -> Cell
+/// The number of a reduced cell among these pairs, from 0. It takes no memory.
+pub fn number_of<G: Grid>(triple: Triple, c: Cell) -> usize
+    requires triple { IsTriple triple }
+    requires reduced { IsReduced G.geometry triple c }
+    ensures is { in_window G.geometry triple result ≡ c }
+    ensures below { result < window_size G.geometry triple }
+{
+    number(side::<G>(triple.p), c)
+}
+
+/// The reduced cell of the image of c. Condition: c is a cell and lies within 100,000 of 0. It takes no memory.
+pub fn residue_of<G: Grid>(triple: Triple, by: Iso, c: Cell) -> Cell
     requires range { IsInRange G.geometry by }
-    requires cell { IsCell G.geometry c }
-    requires within { IsWithin 100000 c }
+    requires near { IsCell G.geometry c × IsWithin 100000 c }
     ensures triple { IsTriple triple }
     ensures is { result ≡ residue G.geometry triple (apply G.geometry by c) }
     ensures reduced { IsReduced G.geometry triple result }
@@ -74,12 +83,11 @@ fn residue_of<G: Grid>(triple: Triple, by: Iso, c: Cell) -> Cell
 /// The number of the reduced cell of the image of c.
 pub(crate) fn residue_number<G: Grid>(triple: Triple, by: Iso, c: Cell) -> usize
     requires range { IsInRange G.geometry by }
-    requires cell { IsCell G.geometry c }
-    requires within { IsWithin 100000 c }
+    requires near { IsCell G.geometry c × IsWithin 100000 c }
     ensures triple { IsTriple triple }
     ensures is { in_window G.geometry triple result ≡ residue G.geometry triple (apply G.geometry by c) }
     ensures below { result < window_size G.geometry triple }
     ensures reduced { IsReduced G.geometry triple (in_window G.geometry triple result) }
 {
-    number(side::<G>(triple.p), residue_of::<G>(triple, by, c))
+    number_of::<G>(triple, residue_of::<G>(triple, by, c))
 }

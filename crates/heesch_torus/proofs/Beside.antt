@@ -1,5 +1,5 @@
 -- Exact covers by masks that share no bit with a first one, and choices of masks beside it.
-use Rattle.std.proofs.Common.{◌≡◌, refl, sym, ap, subst, ◌∙◌, ℕ, zero, suc, ◌+◌, ◌-◌, ◌<◌, ◌≤◌, ◌^◌, min, List, [], ◌∷◌, map, filter, length, Bool, true, false, cond, eqb, nat_cmp, ◌⊎◌, inl, inr, arith, All, Contains, eqb-true, eq-eqb, IsPermutation, IsSorted}
+use Rattle.std.proofs.Common.{◌≡◌, refl, sym, ap, subst, ◌∙◌, ℕ, zero, suc, ◌+◌, ◌-◌, ◌<◌, ◌≤◌, ◌^◌, min, List, [], ◌∷◌, map, filter, length, Bool, true, eqb, nat_cmp, ◌⊎◌, inl, inr, arith, All, Contains, eqb-true, eq-eqb, IsPermutation, IsSorted}
 use Rattle.std.specs.Prelude.{◌==◌, Some, slice_index}
 use Rattle.std.specs.List.{count_by, list_any, range_with_len, dedup, slice_get}
 use Rattle.std.specs.List.Sorted.{IsStrictlyIncreasing}
@@ -7,10 +7,10 @@ use Rattle.std.specs.Int.{bit_at, bit_not, w64}
 use Rattle.std.specs.Int.Bits.{bit_and}
 use Rattle.std.proofs.Math.Nat.{pow-le-pow_right}
 use Rattle.std.proofs.lemmas.Nat.Bits.{bit_at_and, bit_at_not, bit_at-zero, bit_at-lt, bit_at_above, same_from_bits}
-use Rattle.std.proofs.lemmas.Bool.{cases_order}
+use Rattle.std.proofs.lemmas.Bool.{cases_lt, cases_order}
 use Rattle.std.proofs.lemmas.List.FromFn.{length-range_with_len, get_or-range_with_len}
 use Rattle.std.proofs.lemmas.List.Kept.{Contains-dedup_nat, Contains-from_dedup, IsStrictlyIncreasing-filter}
-use Rattle.std.proofs.lemmas.List.Sums.{length-filter}
+use Rattle.std.proofs.lemmas.List.Sums.{count_by-le-length, length-filter}
 use Rattle.std.proofs.lemmas.List.Elements.{All-contains}
 use Rattle.std.proofs.lemmas.List.Sorted.{length_permutation, Contains-permutation, IsPermutation-sym}
 use Rattle.std.proofs.lemmas.Map.Keys.{IsStrictlyIncreasing-dedup}
@@ -25,12 +25,7 @@ use Rattle.heesch_torus.proofs.Numbering.{in_range_below}
 -- ---- bits
 
 pub bit_cases : (n i : ℕ) → (bit_at n i ≡ 0) ⊎ (bit_at n i ≡ 1)
-bit_cases n i = go (bit_at n i) (bit_at-lt n i)
-  where
-    go : (m : ℕ) → m < 2 → (m ≡ 0) ⊎ (m ≡ 1)
-    go zero l = inl refl
-    go (suc zero) l = inr refl
-    go (suc (suc m)) l = absurd (omega arith)
+bit_cases n i = let below = bit_at-lt n i in elim (cases_lt (bit_at n i) 1) [ inl l ↦ inl (omega (arith, l)) | inr m ↦ inr (omega (arith, m, below)) ]
 
 pub with_bit_filter : (k : ℕ) (ms : List ℕ) → length (filter (λ m. bit_at m k == 1) ms) ≡ with_bit k ms
 with_bit_filter k ms = length-filter (λ m. bit_at m k == 1) ms
@@ -68,12 +63,7 @@ beside_sorted masks first sorted left p s e shorter fewer =
     })
 
 pub filter_shorter : {X : Type 0} (p : X → Bool) (xs : List X) → length (filter p xs) ≤ length xs
-filter_shorter p [] = omega arith
-filter_shorter p (x ∷ xs) = one (p x) (filter_shorter p xs)
-  where
-    one : (b : Bool) → length (filter p xs) ≤ length xs → length (cond b (x ∷ filter p xs) (filter p xs)) ≤ suc (length xs)
-    one true h = omega arith
-    one false h = omega arith
+filter_shorter p xs = subst (λ n. n ≤ length xs) (sym (length-filter p xs)) (count_by-le-length p xs)
 
 -- ---- choices of numbers, and of masks
 

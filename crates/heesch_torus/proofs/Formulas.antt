@@ -1,5 +1,5 @@
 -- The torus formula over variables, and how many units a triple has.
-use Rattle.std.proofs.Common.{◌≡◌, sym, subst, ◌∙◌, ℕ, ◌*◌, ◌^◌, ◌≤◌, List, length, arith}
+use Rattle.std.proofs.Common.{◌≡◌, sym, ap, subst, ◌∙◌, ℕ, ◌*◌, ◌^◌, ◌≤◌, List, length, arith}
 use Rattle.std.proofs.Math.Nat.{mul-le-mul_right}
 use Rattle.std.proofs.lemmas.List.{length-map}
 use Rattle.std.proofs.lemmas.List.Elements.{All-contains}
@@ -20,7 +20,9 @@ use Rattle.heesch_cert.specs.Literals.{literals}
 use Rattle.heesch_cert.specs.Proofs.{RefutesTorus}
 use Rattle.heesch_cert.proofs.Bridge.{satisfied_log, log_satisfied}
 use Rattle.heesch_cert.proofs.TorusSound.{refuted_torus_means_no_cover}
+use Rattle.heesch_tiling.proofs.Spots.{window_small}
 use Rattle.heesch_torus.specs.Answer.{IsRefutation, IsSpentSearch}
+use Rattle.heesch_torus.specs.Covering.{AreCovering}
 use Rattle.heesch_torus.specs.Domain.{HasDomain}
 use Rattle.heesch_torus.specs.Formula.{reduced_cells, IsFormulaOf, HasModelWhereCover}
 use Rattle.heesch_torus.specs.Variables.{TorusVariable, sets_of, AreVariables, IsReducedSet, AreReducedSets}
@@ -36,6 +38,14 @@ units_few per u n m some e few tiles =
 -- a triple of a domain of at most 12 tiles of at most 32 cells has at most 384 units
 pub domain_small : (g : Geometry) → IsGrid g → (n : ℕ) (t : Triple) → n ≤ 32 → HasDomain g n t → t.p * t.q ≤ 384
 domain_small g law n t few d = units_few g.per (t.p * t.q) n d.tiles law.per_range.0 d.of_domain.area few d.few
+
+-- such a triple has a list for each of at most 13,824 pairs
+pub lists_few : (g : Geometry) → IsGrid g → (t : Triple) → t.p * t.q ≤ 384 → (sets : List (List Cell)) (lists : List (List ℕ)) → AreCovering g t sets lists → (slice : List (List ℕ)) → slice ≡ lists → length slice ≤ 13824
+lists_few g law t small sets lists are slice same =
+    let few = window_small g.unit t.p t.q law.unit_range.1 in
+    let all = are.all in
+    let long = ap length same in
+    omega (arith, few, all, long, small)
 
 -- residue sets are reduced and rise
 pub reduced_sets : (g : Geometry) (shape : List Cell) (t : Triple) (vars : List TorusVariable) → AreVariables g shape t vars → AreReducedSets g t (sets_of vars)

@@ -11,6 +11,7 @@ pub mod Modelled
 pub mod Solving
 pub mod Beside
 pub mod Masking
+pub mod Shifted
 pub mod Filled
 pub mod Listed
 pub mod Valued

@@ -17,12 +17,13 @@ use Rattle.heesch_grid.specs.Lattice.{Triple, IsTriple, IsReduced}
 use Rattle.heesch_grid.specs.Polyform.{IsPolyform}
 use Rattle.heesch_grid.specs.Tiling.{IsPeriodicCover}
 use Rattle.heesch_grid.specs.TorusFormula.{IsReducedFrom, GivesResidues, IsWithinTriple, IsIsometryOf, torus_clauses}
-use Rattle.heesch_grid.specs.Pairs.{has-true, same_cell-true, same_cell-is}
+use Rattle.heesch_grid.specs.Pairs.{has-true, same_cell-true}
 use Rattle.heesch_grid.proofs.ListFacts.{member_cases, member_here, member_there, no_member, All-from_members, filter_member, member_filter, rising_filter}
 use Rattle.heesch_grid.proofs.CellFacts.{has-false, meet-is}
 use Rattle.heesch_grid.proofs.ClauseFacts.{reason, entries_rising}
 use Rattle.heesch_grid.proofs.WindowFacts.{map_member, member_map, member_flat_map}
 use Rattle.heesch_tiling.specs.Counting.{residue, tile_cells, tile_residues, residues, times_in}
+use Rattle.heesch_tiling.proofs.Areas.{times_some}
 use Rattle.heesch_tiling.proofs.Covers.{covers}
 use Rattle.heesch_tiling.proofs.Tallies.{times_append}
 use Rattle.heesch_cnf.specs.Clauses.{assignment_of}
@@ -44,22 +45,6 @@ abbrev pub Numbered : Type 0
 Numbered = ℕ × TorusVariable
 
 -- ---- how often a residue set's cell stands among the residues of its tile
-
-pub times_some : (xs : List Cell) (c : Cell) → Contains xs c → 1 ≤ times_in xs c
-times_some [] c m = absurd (no_member c m)
-times_some (x ∷ xs) c m =
-    elim (member_cases x xs c m) [
-      | inl e ↦ hit (same_cell c x) (same_cell-is c x (sym e))
-      | inr h ↦ more (same_cell c x) (times_some xs c h)
-    ]
-  where
-    hit : (b : Bool) → b ≡ true → 1 ≤ length (cond b (x ∷ filter (same_cell c) xs) (filter (same_cell c) xs))
-    hit true e = omega arith
-    hit false e = absurd (true≢false (sym e))
-
-    more : (b : Bool) → 1 ≤ times_in xs c → 1 ≤ length (cond b (x ∷ filter (same_cell c) xs) (filter (same_cell c) xs))
-    more true h = omega arith
-    more false h = h
 
 pub times_member : (xs : List Cell) (c : Cell) → 1 ≤ times_in xs c → Contains xs c
 times_member [] c l = absurd (omega arith)

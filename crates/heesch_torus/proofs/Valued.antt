@@ -1,5 +1,5 @@
 -- The variables whose masks are among exact ones are a periodic cover.
-use Rattle.std.proofs.Common.{◌≡◌, refl, sym, ap, subst, ◌∙◌, ℕ, suc, ◌+◌, ◌-◌, ◌<◌, ◌≤◌, List, [], ◌∷◌, ◌++◌, filter, length, get_or, eqb, Bool, true, false, cond, inl, inr, arith, Contains, true≢false, eqb-true, eq-eqb}
+use Rattle.std.proofs.Common.{◌≡◌, refl, sym, ap, subst, ◌∙◌, ℕ, ◌+◌, ◌-◌, ◌<◌, ◌≤◌, List, [], ◌∷◌, ◌++◌, filter, length, get_or, eqb, Bool, true, false, cond, inl, inr, arith, Contains, true≢false, eqb-true, eq-eqb}
 use Rattle.std.specs.Prelude.{◌↔◌, ◌==◌, Some, nat_lt, slice_index_or}
 use Rattle.std.specs.List.{enumerate_from, list_any, slice_get}
 use Rattle.std.proofs.Math.Seq.{get_or-append_seam}
@@ -12,10 +12,10 @@ use Rattle.std.proofs.lemmas.Option.{slice_get_within, get_or_from_slice_get}
 use Rattle.heesch_grid.specs.declared.Cell.{Cell}
 use Rattle.heesch_grid.specs.declared.isometries.Iso.{Iso}
 use Rattle.heesch_grid.specs.Listing.{IsRising}
-use Rattle.heesch_grid.specs.Cells.{same_cell, cell_before, cells_before, has}
+use Rattle.heesch_grid.specs.Cells.{cell_before, cells_before, has}
 use Rattle.heesch_grid.specs.Geometry.{Geometry, IsGrid, IsIsometry, image}
 use Rattle.heesch_grid.specs.Lattice.{Triple, IsTriple, IsReduced}
-use Rattle.heesch_grid.specs.Pairs.{has-true, same_cell-refl}
+use Rattle.heesch_grid.specs.Pairs.{has-true}
 use Rattle.heesch_grid.specs.Polyform.{IsPolyform}
 use Rattle.heesch_grid.specs.Tiling.{IsPeriodicCover}
 use Rattle.heesch_grid.specs.TorusFormula.{IsReducedFrom, GivesResidues}
@@ -26,7 +26,7 @@ use Rattle.heesch_grid.proofs.SortFacts.{sorted, sorted_list, sorted_has, has_so
 use Rattle.heesch_grid.proofs.GrowthOfLists.{NoRepeat, sorted_length, not_has}
 use Rattle.heesch_tiling.specs.Counting.{tile_residues, times_in}
 use Rattle.heesch_grid.proofs.WindowFacts.{map_member, member_map}
-use Rattle.heesch_tiling.proofs.Areas.{fills}
+use Rattle.heesch_tiling.proofs.Areas.{fills, times_first, times_more, times_some}
 use Rattle.heesch_tiling.proofs.Distinct.{OnePasses, one_passes}
 use Rattle.heesch_torus.specs.Answer.{IsChosenCover, AreChosenPlaces}
 use Rattle.heesch_torus.specs.Chosen.{chosen, chosen_places}
@@ -37,7 +37,7 @@ use Rattle.heesch_torus.specs.Variables.{TorusVariable, sets_of, HasIsometry, Ar
 use Rattle.heesch_torus.proofs.Beside.{index_of, bit_cases, with_bit_filter}
 use Rattle.heesch_torus.proofs.Images.{from_tile, in_tile, tile_count}
 use Rattle.heesch_torus.proofs.Masking.{one_mask, double_unmasked}
-use Rattle.heesch_torus.proofs.Modelled.{Numbered, TwoOf, two_of, of_variable, member_some, times_some, tile_times, with_cell, once_covers, are_chosen}
+use Rattle.heesch_torus.proofs.Modelled.{Numbered, TwoOf, two_of, of_variable, member_some, tile_times, with_cell, once_covers, are_chosen}
 use Rattle.heesch_torus.proofs.Numbering.{reduced_listed}
 
 -- ---- a list in which no cell stands twice
@@ -45,22 +45,9 @@ use Rattle.heesch_torus.proofs.Numbering.{reduced_listed}
 no_repeat : (xs : List Cell) → ((c : Cell) → Contains xs c → times_in xs c ≤ 1) → NoRepeat xs
 no_repeat [] few = tt
 no_repeat (x ∷ xs) few = (
-  not_has xs x (λ m. let some = times_some xs x m in let one = few x (member_here x xs) in let more = first x xs in absurd (omega arith)),
-  no_repeat xs (λ c m. let most = few c (member_there x xs c m) in let more = not_less x xs c in omega arith),
+  not_has xs x (λ m. let some = times_some xs x m in let one = few x (member_here x xs) in let more = times_first x xs in absurd (omega arith)),
+  no_repeat xs (λ c m. let most = few c (member_there x xs c m) in let more = times_more x xs c in omega arith),
 )
-  where
-    first : (x : Cell) (xs : List Cell) → times_in (x ∷ xs) x ≡ 1 + times_in xs x
-    first x xs = ap (λ b. length (cond b (x ∷ filter (same_cell x) xs) (filter (same_cell x) xs))) (same_cell-refl x) ∙ sym (one_plus (length (filter (same_cell x) xs)))
-      where
-        one_plus : (n : ℕ) → 1 + n ≡ suc n
-        one_plus n = omega arith
-
-    not_less : (x : Cell) (xs : List Cell) (c : Cell) → times_in xs c ≤ times_in (x ∷ xs) c
-    not_less x xs c = one (same_cell c x)
-      where
-        one : (b : Bool) → times_in xs c ≤ length (cond b (x ∷ filter (same_cell c) xs) (filter (same_cell c) xs))
-        one true = omega arith
-        one false = omega arith
 
 module _ (g : Geometry) (law : IsGrid g) (shape : List Cell) (form : IsPolyform g shape) (t : Triple) (triple : IsTriple t) where
   abbrev points : List Cell

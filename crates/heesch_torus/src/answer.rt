@@ -6,10 +6,9 @@ ghost use Rattle.heesch_grid.specs.Vectors.{IsWithin};
 ghost use Rattle.heesch_torus.specs.Domain.{HasDomain};
 ghost use Rattle.heesch_torus.specs.Answer.{IsTorusAnswer};
 
-use crate::formula::formula_of;
+use crate::formula::{FormulaWithVariables, formula_with_variables};
 use crate::outcome::{Outcome, solve};
 use crate::places::chosen_places;
-use crate::variables::variables_of;
 use heesch_cert::Tiling;
 use heesch_cnf::Log;
 use heesch_grid::Grid;
@@ -52,8 +51,7 @@ pub fn search<G: Grid>(
     requires few { turns ≤ 1000000 }
     ensures { IfOk result (IsTorusAnswer G.geometry shape.now triple turns) }
 {
-    let variables = variables_of::<G>(alloc, shape.cells(), triple)?;
-    let formula = formula_of::<G>(alloc, triple, variables.as_slice())?;
+    let FormulaWithVariables { variables, formula } = formula_with_variables(alloc, shape, triple)?;
     let outcome = solve(alloc, formula, turns)?;
     match outcome {
         Outcome::Model { values } => {

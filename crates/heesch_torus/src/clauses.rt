@@ -4,11 +4,11 @@ ghost use Rattle.heesch_cert.specs.Literals.{literals};
 ghost use Rattle.heesch_torus.specs.Covering.{AreNumbers, cell_lists};
 ghost use Rattle.heesch_torus.specs.Formula.{AddsClauses};
 
-use crate::window::pair_at;
 use heesch_cnf::{FlatFormula, Lit};
 use heesch_grid::Grid;
 use heesch_io::{NoMemory, Seq};
 use heesch_lattice::Triple;
+use heesch_tiling::pair_at;
 use std::alloc::Global;
 
 /// Makes the clause of these variables, in place of what the list had.

@@ -6,10 +6,10 @@ ghost use Rattle.heesch_torus.specs.Variables.{sets_of, AreReducedSets, IsReduce
 ghost use Rattle.heesch_torus.specs.Covering.{AreCovering, AddsNumber};
 
 use crate::found::Variable;
-use crate::window::{number_of, window_size};
 use heesch_grid::{Cell, Grid};
 use heesch_io::{NoMemory, Seq};
 use heesch_lattice::Triple;
+use heesch_tiling::{number_of, window_size};
 use std::alloc::Global;
 
 /// Adds a number to the k-th list.

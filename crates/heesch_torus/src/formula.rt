@@ -3,12 +3,13 @@ ghost use Rattle.std.specs.Prelude.{◌≡◌, ◌≤◌, ◌*◌, true, length,
 ghost use Rattle.heesch_grid.specs.declared.Cell.{Cell};
 ghost use Rattle.heesch_grid.specs.Cells.{has};
 ghost use Rattle.heesch_grid.specs.Lattice.{IsTriple};
+ghost use Rattle.heesch_grid.specs.Polyform.{IsPolyform};
 ghost use Rattle.heesch_grid.specs.TorusFormula.{torus_clauses};
 ghost use Rattle.heesch_grid.specs.Vectors.{IsWithin};
 ghost use Rattle.heesch_cert.specs.Literals.{literals};
 ghost use Rattle.heesch_torus.specs.Domain.{HasDomain};
 ghost use Rattle.heesch_torus.specs.Formula.{reduced_cells, IsFormulaOf, HasModelWhereCover};
-ghost use Rattle.heesch_torus.specs.Variables.{sets_of, AreReducedSets};
+ghost use Rattle.heesch_torus.specs.Variables.{sets_of, AreReducedSets, AreVariables};
 
 use crate::clauses::add_covering_clauses;
 use crate::covering::covering_lists;
@@ -22,8 +23,15 @@ use heesch_lattice::Triple;
 use heesch_shape::Shape;
 use std::alloc::Global;
 
+/// A torus formula, and the variables that it is over.
+#[derive(Drop)]
+pub(crate) struct FormulaWithVariables {
+    pub(crate) variables: Vec<Variable>,
+    pub(crate) formula: FlatFormula,
+}
+
 /// The formula over these variables.
-pub(crate) fn formula_of<G: Grid>(
+fn formula_of<G: Grid>(
     alloc: Global,
     triple: Triple,
     variables: &[Variable],
@@ -39,8 +47,34 @@ pub(crate) fn formula_of<G: Grid>(
     let lists = covering_lists::<G>(alloc, triple, variables)?;
     let mut formula = FlatFormula::new(alloc, variables.len() as u32);
     add_covering_clauses::<G>(alloc, &mut formula, triple, lists.as_slice())?;
-    add_pair_clauses::<G>(alloc, &mut formula, triple, variables, lists.as_slice())?;
+    let mut marks = vec![in alloc; 0; variables.len() + 1]?;
+    add_pair_clauses::<G>(
+        &mut formula,
+        &mut marks,
+        triple,
+        variables,
+        lists.as_slice(),
+    )?;
     Ok(formula)
+}
+
+/// The torus formula of a shape and a triple, and its variables.
+pub(crate) fn formula_with_variables<G: Grid>(
+    alloc: Global,
+    shape: &Shape<G>,
+    triple: Triple,
+) -> Result<FormulaWithVariables, NoMemory>
+    requires near { (c : Cell) → has shape.now c ≡ true → IsWithin 100000 c }
+    requires domain { HasDomain G.geometry (length shape.now) triple }
+    ensures form { IfOk result (λ f. IsPolyform G.geometry shape.now) }
+    ensures variables { IfOk result (λ f. AreVariables G.geometry shape.now triple f.variables.items) }
+    ensures vars { IfOk result (λ f. f.formula.vars ≡ length f.variables.items) }
+    ensures clauses { IfOk result (λ f. f.formula.clauses ≡ torus_clauses literals (reduced_cells G.geometry triple) (sets_of f.variables.items)) }
+    ensures few { IfOk result (λ f. length f.formula.clauses ≤ 30000000) }
+{
+    let variables = variables_of::<G>(alloc, shape.cells(), triple)?;
+    let formula = formula_of::<G>(alloc, triple, variables.as_slice())?;
+    Ok(FormulaWithVariables { variables, formula })
 }
 
 /// The torus formula of a shape and a triple. Its variables are the residue sets: the sets of
@@ -64,6 +98,6 @@ pub fn torus_formula<G: Grid>(
     ensures is { IfOk result (λ f. IsFormulaOf G.geometry shape.now triple f.vars f.clauses) }
     ensures model { IfOk result (λ f. HasModelWhereCover G.geometry shape.now triple f.clauses) }
 {
-    let variables = variables_of::<G>(alloc, shape.cells(), triple)?;
-    formula_of::<G>(alloc, triple, variables.as_slice())
+    let made = formula_with_variables(alloc, shape, triple)?;
+    Ok(made.formula)
 }

@@ -16,7 +16,6 @@ mod places;
 mod points;
 mod residues;
 mod variables;
-mod window;
 
 pub use answer::{TorusAnswer, search};
 pub use cover::{CoverAnswer, find_cover};

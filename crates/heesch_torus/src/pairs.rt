@@ -11,12 +11,11 @@ ghost use Rattle.heesch_torus.specs.Marks.{Marks, set_numbered};
 ghost use Rattle.heesch_torus.specs.Variables.{sets_of, AreReducedSets};
 
 use crate::found::Variable;
-use crate::window::number_of;
 use heesch_cnf::{FlatFormula, Lit};
 use heesch_grid::Grid;
 use heesch_io::{NoMemory, Seq};
 use heesch_lattice::Triple;
-use std::alloc::Global;
+use heesch_tiling::number_of;
 
 /// Marks the listed variables with a number.
 fn mark(marks: &mut [u32], variables: &[u32], number: u32)
@@ -86,8 +85,9 @@ fn add_marked(formula: &mut FlatFormula, marks: &[u32], number: u32) -> Result<(
     Ok(())
 }
 
-/// Adds the clauses of all pairs, where no variable is marked yet.
-fn add_all_marked<G: Grid>(
+/// Adds the clause of each pair of variables that share a cell, by the first and then the second. No variable is marked
+/// yet.
+pub(crate) fn add_pair_clauses<G: Grid>(
     formula: &mut FlatFormula,
     marks: &mut [u32],
     triple: Triple,
@@ -109,25 +109,4 @@ fn add_all_marked<G: Grid>(
         add_marked(formula, marks, at as u32 + 1)?;
     }
     Ok(())
-}
-
-/// Adds the clause of each pair of variables that share a cell, by the first and then the second.
-pub(crate) fn add_pair_clauses<G: Grid>(
-    alloc: Global,
-    formula: &mut FlatFormula,
-    triple: Triple,
-    variables: &[Variable],
-    lists: &[Seq<u32>],
-) -> Result<(), NoMemory>
-    requires few { length variables.now ≤ 4608 }
-    requires triple { IsTriple triple }
-    requires sets { AreReducedSets G.geometry triple (sets_of variables.now) }
-    requires covering { AreCovering G.geometry triple (sets_of variables.now) lists.now }
-    requires vars { formula.old.vars ≡ length variables.now }
-    requires room { length formula.old.clauses ≤ 2000000 }
-    ensures adds { OnOk result (AddsClauses (exclusion_clauses literals meet (sets_of variables.now)) formula.old.vars formula.old.clauses formula.new.vars formula.new.clauses) }
-    ensures few { OnOk result (length formula.new.clauses ≤ length formula.old.clauses + 4608 * 4608) }
-{
-    let mut marks = vec![in alloc; 0; variables.len() + 1]?;
-    add_all_marked::<G>(formula, &mut marks, triple, variables, lists)
 }

@@ -9,11 +9,10 @@ ghost use Rattle.heesch_tiling.specs.Counting.{residue, IsInRange};
 ghost use Rattle.heesch_torus.specs.Formula.{reduced_cells};
 ghost use Rattle.heesch_torus.specs.Masks.{ArePoints};
 
-use crate::residues::residue_of;
-use crate::window::{number_of, pair_at, window_size};
 use heesch_grid::{Cell, Grid, Iso};
 use heesch_io::NoMemory;
 use heesch_lattice::Triple;
+use heesch_tiling::{number_of, pair_at, residue_of, window_size};
 use std::alloc::Global;
 
 /// The numbers of the cells of the window among its cells, and how many these are.

@@ -1,32 +1,23 @@
 //! The residue set of an image.
-ghost use Rattle.std.specs.Prelude.{◌≡◌, ◌≢◌, ◌<◌, ◌≤◌, ◌+◌, ℕ, List, true, false, length, slice_index_or, IfSome, IfNone};
+ghost use Rattle.std.specs.Prelude.{◌≡◌, ◌≢◌, ◌<◌, ◌≤◌, ◌+◌, ℕ, List, true, false, length, slice_index_or, IfSome, IfNone, IsPermutation, IsSorted};
 ghost use Rattle.heesch_grid.specs.declared.Cell.{Cell};
-ghost use Rattle.heesch_grid.specs.Cells.{has};
-ghost use Rattle.heesch_grid.specs.Geometry.{IsCell, apply};
+ghost use Rattle.heesch_grid.specs.Cells.{cell_cmp, has};
+ghost use Rattle.heesch_grid.specs.Geometry.{IsCell};
 ghost use Rattle.heesch_grid.specs.Lattice.{IsTriple, IsReduced};
 ghost use Rattle.heesch_grid.specs.Polyform.{IsPolyform};
 ghost use Rattle.heesch_grid.specs.TorusFormula.{GivesResidues};
 ghost use Rattle.heesch_grid.specs.Vectors.{IsWithin};
-ghost use Rattle.heesch_tiling.specs.Counting.{residue, tile_residues, IsInRange};
+ghost use Rattle.heesch_tiling.specs.Counting.{tile_residues, IsInRange};
 ghost use Rattle.heesch_torus.specs.Repeats.{HasRepeat, HasNoRepeat};
 
 use arrayvec::ArrayVec;
 use heesch_grid::{Cell, Grid, Iso};
 use heesch_lattice::Triple;
 use heesch_shape::CELLS_MAX;
+use heesch_tiling::residue_of;
 
 /// A residue set, in cell order.
 pub(crate) type Residues = ArrayVec<Cell, CELLS_MAX>;
-
-/// The reduced cell of the image of c.
-pub(crate) fn residue_of<G: Grid>(triple: Triple, by: Iso, c: Cell) -> Cell
-    requires range { IsInRange G.geometry by }
-    requires cell { IsCell G.geometry c }
-    requires within { IsWithin 100000 c }
-    ensures { result ≡ residue G.geometry triple (apply G.geometry by c) }
-{
-    triple.reduce::<G>(by.apply::<G>(c))
-}
 
 /// The reduced cells of the images of the cells, in the order of the cells.
 fn reduced_image<G: Grid>(cells: &[Cell], triple: Triple, by: Iso) -> Residues
@@ -39,6 +30,19 @@ fn reduced_image<G: Grid>(cells: &[Cell], triple: Triple, by: Iso) -> Residues
     for c in cells {
         residues.push(residue_of::<G>(triple, by, *c));
     }
+    residues
+}
+
+/// The same cells in cell order.
+fn sorted_image<G: Grid>(cells: &[Cell], triple: Triple, by: Iso) -> Residues
+    requires few { length cells.now ≤ 32 }
+    requires range { IsInRange G.geometry by }
+    requires cells { (c : Cell) → has cells.now c ≡ true → IsCell G.geometry c × IsWithin 100000 c }
+    ensures permutation { IsPermutation (tile_residues G.geometry cells.now triple by) result.items }
+    ensures sorted { IsSorted cell_cmp result.items }
+{
+    let mut residues = reduced_image::<G>(cells, triple, by);
+    residues.sort_unstable();
     residues
 }
 
@@ -65,8 +69,7 @@ pub(crate) fn residues_of<G: Grid>(cells: &[Cell], triple: Triple, by: Iso) -> O
     ensures found { IfSome result (λ r. GivesResidues G.geometry cells.now triple r.items by) }
     ensures none { IfNone result ((r : List Cell) → ¬ GivesResidues G.geometry cells.now triple r by) }
 {
-    let mut residues = reduced_image::<G>(cells, triple, by);
-    residues.sort_unstable();
+    let residues = sorted_image::<G>(cells, triple, by);
     if has_repeat(residues.as_slice()) {
         return None;
     }

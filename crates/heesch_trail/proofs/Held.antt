@@ -6,12 +6,12 @@ use Rattle.std.proofs.lemmas.List.Elements.{All-push}
 use Rattle.std.proofs.lemmas.Bool.Decides.{Decides-eqb}
 use Rattle.heesch_cnf.specs.declared.literal.Lit.{Lit}
 use Rattle.heesch_cnf.specs.Literals.{lit_value, signed, opposite, making}
-use Rattle.heesch_cnf.specs.Clauses.{IsClause}
+use Rattle.heesch_cnf.specs.Clauses.{AreClauses, IsClause}
 use Rattle.heesch_cnf.specs.Flat.{code_of}
 use Rattle.heesch_trail.specs.declared.step.Step.{Step}
 use Rattle.heesch_trail.specs.declared.truth.Truth.{Truth}
 use Rattle.heesch_trail.specs.declared.truth.Truth.TheVariants.{Open, Yes, No}
-use Rattle.heesch_trail.specs.State.{StepHolds, StepsHold, made_by, values_of, fact_of, level_of}
+use Rattle.heesch_trail.specs.State.{State, StepHolds, StepsHold, made_by, values_of, fact_of, level_of}
 use Rattle.heesch_trail.specs.Inner.{IsInner, value_in, is_open, reason_in, step_of, steps_of}
 use Rattle.heesch_trail.proofs.Inner.{StepsHold-push, StepHolds-add, level_from-last}
 use Rattle.heesch_trail.proofs.Undo.{StepHolds-last, StepsHold-pop}
@@ -55,7 +55,7 @@ steps-push levels reasons made s b none low high reason =
     ∙ ap (λ x. steps_of levels reasons made ++ x ∷ []) here
 
 -- the assignment of a variable
-pub fact-held : (levels reasons : List ℕ) (made : List Lit) (v : ℕ) →
+fact-held : (levels reasons : List ℕ) (made : List Lit) (v : ℕ) →
     fact_of (steps_of levels reasons made) v ≡ option_map (λ b. step_of levels reasons (record { var = v; positive = b })) (making made v)
 fact-held levels reasons [] v = refl
 fact-held levels reasons (l ∷ ls) v = by_test (eqb l.var v) (Decides-eqb l.var v) (fact-held levels reasons ls v)
@@ -64,10 +64,21 @@ fact-held levels reasons (l ∷ ls) v = by_test (eqb l.var v) (Decides-eqb l.var
     by_test true d rest = ap (λ n. Some (step_of levels reasons (record { var = n; positive = l.positive }))) (d.0 refl)
     by_test false d rest = rest
 
-pub fact-value : (levels reasons : List ℕ) (made : List Lit) (v : ℕ) →
+fact-value : (levels reasons : List ℕ) (made : List Lit) (v : ℕ) →
     fact_of (steps_of levels reasons made) v ≡ option_map (λ b. step_of levels reasons (record { var = v; positive = b })) (values_of (steps_of levels reasons made) v)
 fact-value levels reasons made v =
     fact-held levels reasons made v ∙ ap (λ ls. option_map (λ b. step_of levels reasons (record { var = v; positive = b })) (making ls v)) (sym (made_by-steps levels reasons made))
+
+-- the assignment of a variable whose value was read
+pub fact-read : (levels reasons : List ℕ) (made : List Lit) (steps : List Step) → steps_of levels reasons made ≡ steps → (v : ℕ) (value : Option Bool) → value ≡ values_of steps v → fact_of steps v ≡ option_map (λ b. step_of levels reasons (record { var = v; positive = b })) value
+fact-read levels reasons made steps view v value is =
+    subst (λ ss. fact_of ss v ≡ option_map (λ b. step_of levels reasons (record { var = v; positive = b })) (values_of ss v)) view (fact-value levels reasons made v)
+    ∙ ap (option_map (λ b. step_of levels reasons (record { var = v; positive = b }))) (sym is)
+
+-- a clause that was read
+pub form-read : (vars : ℕ) (clauses : List (List Lit)) (seen : State) → vars ≡ seen.vars → clauses ≡ seen.clauses → AreClauses vars clauses → (index : ℕ) → index < length seen.clauses → (clause : List Lit) → clause ≡ get_or clauses index [] → IsClause seen.vars clause
+form-read vars clauses seen same_vars same_clauses forms index lt clause is =
+    subst (λ v. IsClause v clause) same_vars (subst (IsClause vars) (sym is) (forms index [] (subst (λ cs. index < length cs) (sym same_clauses) lt)))
 
 -- the level of the last literal
 pub level-held : (levels reasons : List ℕ) (made : List Lit) (l : Lit) → 0 < length made → l ≡ get_or made (length made - 1) l → get_or levels l.var 0 ≡ level_of (steps_of levels reasons made)

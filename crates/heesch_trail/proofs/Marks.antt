@@ -12,11 +12,11 @@ use Rattle.heesch_trail.specs.declared.step.Step.{Step}
 use Rattle.heesch_trail.specs.State.{State, IsTrail, StepsHold, values_of, level_of, up_to, decision}
 use Rattle.heesch_trail.specs.Watches.{Watching, pair_of, index_of, IsWatch, IsSound, IsNotFalse, AreNotFalse, MayWatch, IsNext}
 use Rattle.heesch_trail.specs.declared.entry.Entry.{Entry}
-use Rattle.heesch_trail.specs.Seen.{IsGuarded, AreGuarded, IsSeen, AreSeen, GoesOn, IsWatched}
+use Rattle.heesch_trail.specs.Seen.{IsGuarded, AreGuarded, IsSeen, AreSeen, GoesOn, StaySeen, IsWatched}
 use Rattle.heesch_trail.proofs.Inner.{with_value, level_from-push}
 use Rattle.heesch_trail.proofs.Undo.{up_to-all, up_to-drop, levels-below_whole, held-replicate}
 use Rattle.heesch_trail.proofs.Levels.{Continues-level}
-use Rattle.heesch_trail.proofs.Visits.{values-push, same_clauses}
+use Rattle.heesch_trail.proofs.Visits.{values-push, same_clauses, more_steps}
 use Rattle.heesch_trail.proofs.Guards.{Seen-push, Guarded-seen, Seen-guarded}
 
 -- one assignment more, above the level or not
@@ -164,6 +164,13 @@ Watched-goes_on t new w watching head fresh head_now fresh_now marks parts go vi
       few_marked = λ m lt. subst (λ (cs : List (List Lit)). get_or marks m 0 ≤ length cs) (sym clauses) (parts.few_marked m lt);
       marked = λ m lt k below. let levels = parts.levels in Guarded-moved t new w watching m k parts.valid go (omega (arith, lt, levels)) (parts.marked m lt k below);
     }
+
+-- the first clauses were read, as many as now
+pub Watched-read : (t new : State) (w watching : Watching) (head fresh read : ℕ) (marks : List ℕ) → IsWatched t w head fresh marks → GoesOn t w new watching → read ≤ length new.clauses → StaySeen t w fresh new watching read → IsWatched new watching head read marks
+Watched-read t new w watching head fresh read marks parts go few stay =
+    let more = more_steps t new go.steps in
+    let visited = parts.visited in
+    Watched-goes_on t new w watching head fresh head read marks parts go (omega (arith, more, visited)) few (stay head parts.visited parts.seen)
 
 -- the assignments up to a level of those up to a higher one
 pub up_to-up_to : (j k : ℕ) (steps : List Step) → j ≤ k → up_to j (up_to k steps) ≡ up_to j steps

@@ -12,9 +12,9 @@ use Rattle.heesch_cnf.specs.Flat.{code_of}
 use Rattle.heesch_trail.specs.Watches.{Watching, list_of, pair_of, index_of, index_at, Names, OthersStay, IsWithout, AreWhole, MayWatch, IsNext}
 use Rattle.heesch_trail.specs.Seen.{GoesOn, IsUnwatched, IsVisitBy, IsPassed, AreVisitedBy}
 use Rattle.heesch_trail.specs.declared.propagation.Visit.TheVariants.{HasTrue as TrueVisit}
-use Rattle.heesch_trail.proofs.Levels.{Continues-none}
 use Rattle.heesch_trail.proofs.Visits.{HasTrue-continues}
 use Rattle.heesch_trail.proofs.Guards.{Code-same}
+use Rattle.heesch_trail.proofs.Rewatch.{GoesOn-still}
 
 -- a false literal that isn't of a pair isn't of the next
 Unwatched-may : (values : Values) (l m : Lit) (pair : Option Pair) → lit_value values l ≡ Some false → ((q : Pair) → pair ≡ Some q → (q.one ≢ l) × (q.other ≢ l)) → MayWatch values pair m → m ≢ l
@@ -72,21 +72,10 @@ Front-same old new place i without lt =
 -- an entry of a clause that the literal doesn't watch is taken out of its list
 pub GoesOn-without : (trail : State) (old new : Watching) (l : Lit) (place : ℕ) → IsTrail trail → AreWhole trail.vars trail.clauses old → IsUnwatched old l (index_at (list_of old.lists l) place) → place < length (list_of old.lists l) →
     new.pairs ≡ old.pairs → length new.lists ≡ length old.lists → IsWithout place (list_of old.lists l) (list_of new.lists l) → OthersStay l old.lists new.lists → GoesOn trail old trail new
-GoesOn-without trail old new l place valid whole un below pairs room without others = record {
-  valid = valid;
-  steps = Continues-none trail;
-  moved = λ k. inl (ap (λ ps. pair_of ps k) pairs);
-  whole = record {
-    room = room ∙ whole.room;
-    places = let places = whole.places in omega (arith, places, ap length pairs);
-    within = λ k p is. whole.within k p (ap (λ ps. pair_of ps k) (sym pairs) ∙ is);
-    watched = λ k p is.
-        let before = ap (λ ps. pair_of ps k) (sym pairs) ∙ is in
-        let w = whole.watched k p before in
-        record { has_one = w.has_one; has_other = w.has_other; differ = w.differ; one_lists = still k p p.one before (λ un e. un.0 e) w.one_lists; other_lists = still k p p.other before (λ un e. un.1 e) w.other_lists };
-    sound = λ m e has. whole.sound m e (before m e has);
-  };
-}
+GoesOn-without trail old new l place valid whole un below pairs room without others =
+    GoesOn-still trail old new valid whole pairs room
+    (λ k p is names. (still k p p.one is (λ un e. un.0 e) names.0, still k p p.other is (λ un e. un.1 e) names.1))
+    (λ m e has. whole.sound m e (before m e has))
   where
     still : (k : ℕ) (p : Pair) (m : Lit) → pair_of old.pairs k ≡ Some p → ((p.one ≢ l) × (p.other ≢ l) → m ≢ l) → Names (list_of old.lists m) k → Names (list_of new.lists m) k
     still k p m is apart names = by_test (eqb (code_of m) (code_of l)) (Decides-eqb (code_of m) (code_of l))
@@ -133,3 +122,7 @@ Passed-without trail old new l place pairs without before i lt =
     same : (k : ℕ) → IsPassed trail old l k → IsPassed trail new l k
     same k (inl t) = inl t
     same k (inr un) = inr (λ p is. un p (ap (λ ps. pair_of ps k) (sym pairs) ∙ is))
+
+-- the entry that was read at a place
+pub index-read : (list : List Entry) (place : ℕ) (e : Entry) → place < length list → e ≡ get_or list place e → index_of e ≡ index_at list place
+index-read list place e below is = ap index_of (is ∙ get_or_default list place e (record { mark = 0; blocker = record { var = 0; positive = false } }) below)

@@ -1,5 +1,5 @@
 -- Pairs that move, and entries that come and go.
-use Rattle.std.proofs.Common.{◌≡◌, ◌≢◌, ℕ, ◌<◌, Bool, true, false, eqb, Decides, None, Some, List, [], ◌∷◌, ◌++◌, length, get_or, set, Contains, sym, ap, ◌∙◌, subst, inl, inr, ◌⊎◌, refl, arith, length-set, get_or-set_same, get_or-set_other}
+use Rattle.std.proofs.Common.{◌≡◌, ◌≢◌, ℕ, ◌<◌, Bool, true, false, eqb, Decides, Option, None, Some, List, [], ◌∷◌, ◌++◌, length, get_or, set, Contains, sym, ap, ◌∙◌, subst, inl, inr, ◌⊎◌, refl, arith, length-set, get_or-set_same, get_or-set_other}
 use Rattle.std.proofs.lemmas.List.{get_or_default}
 use Rattle.std.proofs.lemmas.List.Elements.{All-nil, All-cons, All-weaker, All-contains, All-contains_itself, Contains-append_left, Contains-append_right, Contains-append_cases}
 use Rattle.std.proofs.lemmas.Bool.Decides.{Decides-eqb}
@@ -16,10 +16,11 @@ use Rattle.heesch_trail.proofs.Levels.{Continues-none}
 use Rattle.heesch_trail.proofs.Enlisted.{Names-kept}
 use Rattle.heesch_trail.proofs.Guards.{Code-fits, Code-same, Var-fits}
 
--- lists that grow, while the pairs stay
-pub GoesOn-lists : (trail : State) (old new : Watching) → IsTrail trail → AreWhole trail.vars trail.clauses old → new.pairs ≡ old.pairs → length new.lists ≡ length old.lists → AreKept old.lists new.lists →
+-- the pairs stay, and the lists of both literals of each name its clause still
+pub GoesOn-still : (trail : State) (old new : Watching) → IsTrail trail → AreWhole trail.vars trail.clauses old → new.pairs ≡ old.pairs → length new.lists ≡ length old.lists →
+    ((k : ℕ) (p : Pair) → pair_of old.pairs k ≡ Some p → Names (list_of old.lists p.one) k × Names (list_of old.lists p.other) k → Names (list_of new.lists p.one) k × Names (list_of new.lists p.other) k) →
     ((l : Lit) (e : Entry) → Contains (list_of new.lists l) e → IsSound trail.clauses l e) → GoesOn trail old trail new
-GoesOn-lists trail old new valid whole pairs room kept sound = record {
+GoesOn-still trail old new valid whole pairs room still sound = record {
   valid = valid;
   steps = Continues-none trail;
   moved = λ k. inl (ap (λ ps. pair_of ps k) pairs);
@@ -28,11 +29,19 @@ GoesOn-lists trail old new valid whole pairs room kept sound = record {
     places = let places = whole.places in omega (arith, places, ap length pairs);
     within = λ k p is. whole.within k p (ap (λ ps. pair_of ps k) (sym pairs) ∙ is);
     watched = λ k p is.
-        let w = whole.watched k p (ap (λ ps. pair_of ps k) (sym pairs) ∙ is) in
-        record { has_one = w.has_one; has_other = w.has_other; differ = w.differ; one_lists = Names-kept old.lists new.lists p.one k kept w.one_lists; other_lists = Names-kept old.lists new.lists p.other k kept w.other_lists };
+        let before = ap (λ ps. pair_of ps k) (sym pairs) ∙ is in
+        let w = whole.watched k p before in
+        let names = still k p before (w.one_lists, w.other_lists) in
+        record { has_one = w.has_one; has_other = w.has_other; differ = w.differ; one_lists = names.0; other_lists = names.1 };
     sound = sound;
   };
 }
+
+-- lists that grow, while the pairs stay
+pub GoesOn-lists : (trail : State) (old new : Watching) → IsTrail trail → AreWhole trail.vars trail.clauses old → new.pairs ≡ old.pairs → length new.lists ≡ length old.lists → AreKept old.lists new.lists →
+    ((l : Lit) (e : Entry) → Contains (list_of new.lists l) e → IsSound trail.clauses l e) → GoesOn trail old trail new
+GoesOn-lists trail old new valid whole pairs room kept sound =
+    GoesOn-still trail old new valid whole pairs room (λ k p is names. (Names-kept old.lists new.lists p.one k kept names.0, Names-kept old.lists new.lists p.other k kept names.1)) sound
 
 -- nothing moved
 pub GoesOn-same : (trail : State) (old new : Watching) → IsTrail trail → AreWhole trail.vars trail.clauses old → new ≡ old → GoesOn trail old trail new
@@ -174,12 +183,26 @@ More-pushed lists i e lt place x has = by_test (eqb place i) (Decides-eqb place 
 There-pushed : (lists : List (List Entry)) (i : ℕ) (e : Entry) → i < length lists → Contains (get_or (set lists i (get_or lists i [] ++ e ∷ [])) i []) e
 There-pushed lists i e lt = subst (λ ys. Contains ys e) (sym (get_or-set_same lists i (get_or lists i [] ++ e ∷ []) [] lt)) (Contains-append_right (get_or lists i []) (e ∷ []) e (0, omega arith, refl))
 
+-- the clause's pair has the literal with one beside it, and another literal of the clause may watch
+pub record IsMoving (trail : State) (old : Watching) (index : ℕ) (q : Pair) (l found beside : Lit) : Type 0 where
+  pub pair_is : pair_of old.pairs index ≡ Some q
+  pub side : IsBeside q l (Some beside)
+  pub other : IsOther (values_of trail.steps) (get_or trail.clauses index []) beside (Some found)
+
+-- as it was read
+pub moving : (trail : State) (old : Watching) (index : ℕ) (pair : Option Pair) (q : Pair) (l : Lit) (side : Option Lit) (beside : Lit) (other : Option Lit) (found : Lit) → pair ≡ pair_of old.pairs index → pair ≡ Some q → IsBeside q l side → side ≡ Some beside →
+    IsOther (values_of trail.steps) (get_or trail.clauses index []) beside other → other ≡ Some found → IsMoving trail old index q l found beside
+moving trail old index pair q l side beside other found pair_is is side_is beside_is other_is found_is = record {
+  pair_is = sym pair_is ∙ is;
+  side = subst (IsBeside q l) beside_is side_is;
+  other = subst (IsOther (values_of trail.steps) (get_or trail.clauses index []) beside) found_is other_is;
+}
+
 -- a pair of which one literal moved
-pub GoesOn-replace : (trail : State) (old new : Watching) (index : ℕ) (q : Pair) (l found beside : Lit) → IsTrail trail → AreWhole trail.vars trail.clauses old → pair_of old.pairs index ≡ Some q → IsBeside q l (Some beside) →
-    IsOther (values_of trail.steps) (get_or trail.clauses index []) beside (Some found) →
+pub GoesOn-replace : (trail : State) (old new : Watching) (index : ℕ) (q : Pair) (l found beside : Lit) → IsTrail trail → AreWhole trail.vars trail.clauses old → IsMoving trail old index q l found beside →
     (let pair : Pair = record { one = found; other = beside } in (new.pairs ≡ set old.pairs index (Some pair)) × HasPushed pair index old.lists new.lists) → GoesOn trail old trail new
-GoesOn-replace trail old new index q l found beside valid whole is side other moved =
-    GoesOn-pair trail old new index pair valid whole lt other.0 (held.0) other.1.0 (inl other.1.1, inr (subst (λ o. IsOf o beside) (sym is) held.1.0)) moved.0
+GoesOn-replace trail old new index q l found beside valid whole moves moved =
+    GoesOn-pair trail old new index pair valid whole lt moves.other.0 (held.0) moves.other.1.0 (inl moves.other.1.1, inr (subst (λ o. IsOf o beside) (sym moves.pair_is) held.1.0)) moved.0
     (ap length lists ∙ length-set old.lists (code_of found) (list_of old.lists found ++ e ∷ []))
     kept (e, (subst (λ ls. Contains (list_of ls found) e) (sym lists) (There-pushed old.lists (code_of found) e fits), pushed.1.0.index_is)) (Names-kept old.lists new.lists beside index kept held.1.1) sound
   where
@@ -187,7 +210,7 @@ GoesOn-replace trail old new index q l found beside valid whole is side other mo
     pair = record { one = found; other = beside }
 
     lt : index < length trail.clauses
-    lt = whole.within index q is
+    lt = whole.within index q moves.pair_is
 
     pushed : HasPushed pair index old.lists new.lists
     pushed = moved.1
@@ -199,13 +222,13 @@ GoesOn-replace trail old new index q l found beside valid whole is side other mo
     lists = pushed.1.1
 
     fits : code_of found < length old.lists
-    fits = Code-fits trail.vars (length old.lists) found (Var-fits trail index found valid.clauses lt other.0) whole.room
+    fits = Code-fits trail.vars (length old.lists) found (Var-fits trail index found valid.clauses lt moves.other.0) whole.room
 
     kept : AreKept old.lists new.lists
     kept = subst (AreKept old.lists) (sym lists) (Kept-pushed old.lists (code_of found) e fits)
 
     held : Contains (get_or trail.clauses index []) beside × (IsOf (Some q) beside × Names (list_of old.lists beside) index)
-    held = let w = whole.watched index q is in elim side [
+    held = let w = whole.watched index q moves.pair_is in elim moves.side [
       | inl s ↦ (subst (Contains (get_or trail.clauses index [])) (sym s.1) w.has_other, (inr (sym s.1), subst (λ m. Names (list_of old.lists m) index) (sym s.1) w.other_lists))
       | inr s ↦ (subst (Contains (get_or trail.clauses index [])) (sym s.1) w.has_one, (inl (sym s.1), subst (λ m. Names (list_of old.lists m) index) (sym s.1) w.one_lists))
     ]
@@ -220,15 +243,15 @@ GoesOn-replace trail old new index q l found beside valid whole is side other mo
     ]
 
 -- a literal that watches no more
-pub Unwatched-replaced : (trail : State) (old new : Watching) (index : ℕ) (q : Pair) (l found beside : Lit) → AreWhole trail.vars trail.clauses old → pair_of old.pairs index ≡ Some q → IsBeside q l (Some beside) → lit_value (values_of trail.steps) l ≡ Some false →
-    IsOther (values_of trail.steps) (get_or trail.clauses index []) beside (Some found) → (let pair : Pair = record { one = found; other = beside } in new.pairs ≡ set old.pairs index (Some pair)) → index < length old.pairs →
+pub Unwatched-replaced : (trail : State) (old new : Watching) (index : ℕ) (q : Pair) (l found beside : Lit) → AreWhole trail.vars trail.clauses old → IsMoving trail old index q l found beside → lit_value (values_of trail.steps) l ≡ Some false →
+    (let pair : Pair = record { one = found; other = beside } in new.pairs ≡ set old.pairs index (Some pair)) → index < length old.pairs →
     (p : Pair) → pair_of new.pairs index ≡ Some p → (p.one ≢ l) × (p.other ≢ l)
-Unwatched-replaced trail old new index q l found beside whole is side turned other pairs lt p now =
+Unwatched-replaced trail old new index q l found beside whole moves turned pairs lt p now =
     let pair : Pair = record { one = found; other = beside } in
     let same : pair ≡ p = let both : Some pair ≡ Some p = sym (ap (λ ps. pair_of ps index) pairs ∙ get_or-set_same old.pairs index (Some pair) None lt) ∙ now in cc in
     subst (λ (x : Pair). (x.one ≢ l) × (x.other ≢ l)) same (
-      (λ e. other.1.1 (subst (λ m. lit_value (values_of trail.steps) m ≡ Some false) (sym e) turned)),
-      (let w = whole.watched index q is in elim side [
+      (λ e. moves.other.1.1 (subst (λ m. lit_value (values_of trail.steps) m ≡ Some false) (sym e) turned)),
+      (let w = whole.watched index q moves.pair_is in elim moves.side [
         | inl s ↦ λ e. w.differ (s.0 ∙ sym e ∙ s.1)
         | inr s ↦ λ e. w.differ (sym s.1 ∙ e ∙ sym s.0)
       ]),

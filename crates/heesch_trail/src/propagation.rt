@@ -93,23 +93,6 @@ fn read_watched(
     }
 }
 
-/// Reads the clause of an index, which this pair watched, and counts this.
-fn visit_clause(
-    assigned: &mut Assigned,
-    watches: &mut Watches,
-    index: u32,
-    watched: &Option<Pair>,
-) -> Result<Visit, NoMemory>
-    requires watched { watched.now ≡ pair_of watches.old.pairs index }
-    requires within { index < length assigned.old.clauses }
-    requires whole { AreWhole assigned.old.vars assigned.old.clauses watches.old }
-    ensures goes_on { GoesOn assigned.old watches.old assigned.new watches.new }
-    ensures found { IfOk result (IsVisit assigned.new watches.new index) }
-{
-    watches.note_visit();
-    read_watched(assigned, watches, index, watched)
-}
-
 /// Visits the clause of an index that may be watched by a false literal. It is read only where the literal watches it and the
 /// one beside isn't true: then another literal that isn't false watches it, or it is settled.
 fn visit_watched(
@@ -209,14 +192,14 @@ fn visit_first(
 {
     let _ = assigned.vars();
     let watched = watches.pair(index as usize);
+    watches.note_visit();
     if let Some(pair) = &watched
         && !assigned.is_false(pair.one)
         && !assigned.is_false(pair.other)
     {
-        watches.note_visit();
         return Ok(Visit::Watched);
     }
-    visit_clause(assigned, watches, index, &watched)
+    read_watched(assigned, watches, index, &watched)
 }
 
 /// Visits the clauses from `fresh` on that aren't watched by literals that aren't false; `fresh` goes on past each that was

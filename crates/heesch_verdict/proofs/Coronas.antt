@@ -1,7 +1,9 @@
 -- The ends of the searches for coronas.
-use Rattle.std.proofs.Common.{◌≡◌, ◌+◌, ◌-◌, ◌≤◌, refl, sym, subst, ℕ, List, [], true, false, arith}
-use Rattle.std.specs.Prelude.{Option, Some, None}
+use Rattle.std.proofs.Common.{◌≡◌, ◌+◌, ◌-◌, ◌≤◌, refl, sym, subst, ℕ, List, [], true, false, Result, arith}
+use Rattle.std.specs.Prelude.{Option, Some, None, IfOk}
 use Rattle.std.proofs.lemmas.List.Elements.{All-nil}
+use Rattle.std.proofs.lemmas.Result.{IfOk-weaker}
+use Rattle.heesch_io.specs.declared.fault.NoMemory.{NoMemory}
 use Rattle.heesch_grid.specs.declared.Cell.{Cell}
 use Rattle.heesch_grid.specs.declared.isometries.Iso.{Iso}
 use Rattle.heesch_grid.specs.Cells.{cells_before}
@@ -70,7 +72,7 @@ module _ (limits : Limits) (h m : ℕ) (wider : Option Layers) where
   fits_open wall r BareSize e = (r, e)
   fits_open wall r BareOpen e = (r, e)
 
-pub opened_behind : (g : Geometry) (limits : Limits) (shape : List Cell) (h j : ℕ) (wall : Wall) (layers : Layers) → HoledBehind g shape j wall (Some layers) → (opened : Opened) → IsOpenEnd g limits shape h opened → IsOpened g limits shape h wall opened
+opened_behind : (g : Geometry) (limits : Limits) (shape : List Cell) (h j : ℕ) (wall : Wall) (layers : Layers) → HoledBehind g shape j wall (Some layers) → (opened : Opened) → IsOpenEnd g limits shape h opened → IsOpened g limits shape h wall opened
 opened_behind g limits shape h j NoWall layers behind opened e = absurd (let bad : Some layers ≡ None = behind in cc)
 opened_behind g limits shape h j (WallSpent proof) layers behind opened e = absurd (let bad : Some layers ≡ None = behind in cc)
 opened_behind g limits shape h j WallSize layers behind opened e = absurd (let bad : Some layers ≡ None = behind in cc)
@@ -80,6 +82,11 @@ opened_behind g limits shape h j (WallRefuted proof) layers behind opened e = re
   shows = e.shows;
   wider = e.wider;
 }
+
+-- so what the search with holes allowed answers is opened
+pub opened_result : (g : Geometry) (limits : Limits) (shape : List Cell) (h : ℕ) (wall : Wall) (holed : Option Layers) (layers : Layers) → HoledBehind g shape (h + 1) wall holed → holed ≡ Some layers → (r : Result Opened NoMemory) → IfOk r (IsOpenEnd g limits shape h) → IfOk r (IsOpened g limits shape h wall)
+opened_result g limits shape h wall holed layers behind is r =
+    IfOk-weaker r (IsOpenEnd g limits shape h) (IsOpened g limits shape h wall) (opened_behind g limits shape h (h + 1) wall layers (subst (HoledBehind g shape (h + 1) wall) is behind))
 
 -- the verdict of the ends that were found
 pub searched : (g : Geometry) (limits : Limits) (shape : List Cell) (verdict : Verdict) (walled : Walled) (opened : Opened) → IsWalled g limits shape walled → IsOpened g limits shape walled.h walled.wall opened → FitsVerdict limits walled.wall opened.bare opened.wider verdict → first_number verdict ≡ walled.h → BareShows g limits shape (last_number verdict) opened.bare

@@ -1,7 +1,7 @@
 -- The first cover of the domains: what stands before it in their triples, and what is left open.
-use Rattle.std.proofs.Common.{◌≡◌, refl, sym, ap, subst, ◌∙◌, ℕ, suc, ◌<◌, ◌≤◌, not-suc-le-zero, List, [], ◌∷◌, ◌++◌, length, take, drop, get_or, true, ◌⊎◌, inl, inr, arith, All, Contains}
+use Rattle.std.proofs.Common.{◌≡◌, refl, sym, ap, subst, ◌∙◌, ℕ, suc, ◌+◌, ◌<◌, ◌≤◌, not-suc-le-zero, List, [], ◌∷◌, ◌++◌, length, take, drop, get_or, true, ◌⊎◌, inl, inr, arith, All, Contains}
 use Rattle.std.proofs.lemmas.Bool.{cases_lt}
-use Rattle.std.proofs.lemmas.List.{append_assoc, length_push, take-append-drop, take-append-le}
+use Rattle.std.proofs.lemmas.List.{append_assoc, length_push, take-append-drop, take-append-le, take_more}
 use Rattle.std.proofs.lemmas.List.Elements.{All-contains, All-nil, All-push, All-weaker, Contains-append_left, Contains-append_right, Contains-get_or}
 use Rattle.std.proofs.Math.ListN.{get_or-append}
 use Rattle.std.proofs.Math.Seq.{drop-cons, get_or-append_seam, take-append_seam}
@@ -174,3 +174,45 @@ module _ (g : Geometry) (shape : List Cell) (nodes : ℕ) where
 -- a list is what stands before one of its items, that one, and what stands behind it
 pub parts_at : (ts : List Triple) (i : ℕ) (d : Triple) → i < length ts → ts ≡ take i ts ++ get_or ts i d ∷ drop (suc i) ts
 parts_at ts i d below = sym (take-append-drop i ts) ∙ ap (λ xs. take i ts ++ xs) (drop-cons ts i d below)
+
+-- ---- the triples as they are gone through
+module _ (g : Geometry) (shape : List Cell) (nodes : ℕ) (triples : List Triple) (k : ℕ) (t : Triple) (below : k < length triples) (is : t ≡ get_or triples k t) where
+  more : take (k + 1) triples ≡ take k triples ++ t ∷ []
+  more = take_more triples k t below ∙ ap (λ (u : Triple). take k triples ++ u ∷ []) (sym is)
+
+  -- the next triple has no cover
+  pub none_next : (left : List Triple) → HasNoCover g shape t → AreTried g shape nodes (take k triples) left → AreTried g shape nodes (take (k + 1) triples) left
+  none_next left none a = subst (λ (ts : List Triple). AreTried g shape nodes ts left) (sym more) (none_tried g shape nodes (take k triples) left t none a)
+
+  -- the next triple is left open
+  pub open_next : (left : List Triple) → HasDomain g (length shape) t → IsCoverAnswer g shape t nodes Open → AreTried g shape nodes (take k triples) left → AreTried g shape nodes (take (k + 1) triples) (left ++ t ∷ [])
+  open_next left d answer a = subst (λ (ts : List Triple). AreTried g shape nodes ts (left ++ t ∷ [])) (sym more) (open_tried g shape nodes (take k triples) left t d answer a)
+
+module _ (g : Geometry) (law : IsGrid g) (limits : Limits) (few : limits.domain ≤ 12) (shape : List Cell) (s : IsCanonicalShape g shape) (triples : List Triple) (a : AreUpTo g (length shape) limits.domain triples) (k : ℕ) (t : Triple) (below : k < length triples)
+    (is : t ≡ get_or triples k t) (found : Tiling) (h : IsChosenCover g shape t found) where
+  -- a cover that the search for a triple of these domains answers
+  pub found_at : (found.triple ≡ t) × IsCoverOf g shape found
+  found_at = found_cover g law shape s t (domain_at g (length shape) limits.domain few triples a k t below is) found h
+
+  -- what is the first of the triples that are left open before it and of its own is the first of all
+  pub first_of_all : (left : List Triple) → AreLeftOpen g shape (take k triples) left → (tiling : Tiling) → ((before after : List Triple) → AreLeftOpen g shape before left → IsFirstOf g shape limits.turns (before ++ found.triple ∷ after) tiling) →
+      IsFirstCover g limits shape tiling
+  first_of_all left o tiling first =
+      let before = take k triples in
+      let after = drop (suc k) triples in
+      let whole : triples ≡ before ++ found.triple ∷ after = parts_at triples k t below ∙ ap (λ (u : Triple). before ++ u ∷ after) (sym (found_at.0 ∙ is)) in
+      first_cover_of g limits shape s.is_shape.polyform.some triples a tiling (subst (λ (ts : List Triple). IsFirstOf g shape limits.turns ts tiling) (sym whole) (first before after o))
+
+-- ---- the open triples as they are gone through
+module _ (g : Geometry) (shape : List Cell) (turns : ℕ) (left : List Triple) (k : ℕ) (t : Triple) (below : k < length left) (is : t ≡ get_or left k t) (p : All (IsPassedOver g shape turns) (take k left)) where
+  -- the next one is passed over
+  pub passed_next : (answer : TorusAnswer) → IsTorusAnswer g shape t turns answer → ((tiling : Tiling) → answer ≡ Tiles tiling → ⊥) → All (IsPassedOver g shape turns) (take (k + 1) left)
+  passed_next answer h none =
+      let Passed = IsPassedOver g shape turns in
+      subst (All Passed) (sym (take_more left k t below)) (All-push Passed (take k left) (get_or left k t) p (subst Passed is (passed_over g shape turns t answer h none)))
+
+  -- the next one has a cover
+  pub covered_next : IsGrid g → IsCanonicalShape g shape → All (HasDomain g (length shape)) left → (tiling : Tiling) → IsChosenCover g shape t tiling → (first : Triple) (listed after : List Triple) → AreLeftOpen g shape listed left → IsFirstOf g shape turns (listed ++ first ∷ after) tiling
+  covered_next law s domains tiling h first listed after o =
+      let found = found_cover g law shape s t (member_at (HasDomain g (length shape)) left domains k t below is) tiling h in
+      found_open g shape turns listed left after o first k t below p tiling (found.0 ∙ is, found.1)

@@ -47,33 +47,27 @@ mark-requires-clause-marks c =
     let m = c.args.marks.now in
     subst (λ k. AreMarks trail.vars k trail.steps m.seen.items m.here.items m.pending) (sym c.level-level.ensures.level) c.requires.resolving.derived.marks
 
-pub unmark-requires-clause-is_marked : goal.unmark-requires-clause-is_marked
-unmark-requires-clause-is_marked c =
-    let trail = c.args.trail.now in
-    let r = read_step trail c.args.place c.made.result.now c.made.ensures.valid c.made.ensures.made c.requires.place in
-    let m = c.args.marks.now in
-    let n = c.mark.new.self in
-    let on = read_mark m.seen.items _ c.index.result.now true (omega (arith, r.var, r.at.holds.high, c.requires.resolving.derived.marks.seen_room)) c.index.ensures c.if-not-index.false in
-    read_here trail c.args.place _ m.seen.items m.here.items n.seen.items n.here.items m.pending n.pending (reverse c.args.hints.now.items) c.clause.result.now c.made.ensures.valid r c.requires.resolving
-    (some_pending m.pending (level_of trail.steps) c.requires.many) on c.in_ok-mark.ensures.seen
-    (subst (λ k. AreMarks trail.vars k trail.steps n.seen.items n.here.items n.pending) c.level-level.ensures.level c.mark.ensures.marks)
-
 pub unmark-requires-clause-range : goal.unmark-requires-clause-range
 unmark-requires-clause-range c =
     let r = read_step c.args.trail.now c.args.place c.made.result.now c.made.ensures.valid c.made.ensures.made c.requires.place in
     omega (arith, r.var, r.at.holds.high)
 
-pub returns-clause-resolving : goal.returns-clause-resolving
-returns-clause-resolving c =
-    let trail = c.args.trail.now in
-    let r = read_step trail c.args.place c.made.result.now c.made.ensures.valid c.made.ensures.made c.requires.place in
+pub returns-clause-one : goal.returns-clause-one
+returns-clause-one c =
+    let r = read_step c.args.trail.now c.args.place c.made.result.now c.made.ensures.valid c.made.ensures.made c.requires.place in
     let m = c.args.marks.now in
     let n = c.mark.new.self in
-    let u = c.unmark.new.self in
-    let same = c.clause.ensures.clause in
+    let on = read_mark m.seen.items _ c.index.result.now true (omega (arith, r.var, r.at.holds.high, c.requires.resolving.derived.marks.seen_room)) c.index.ensures c.if-not-index.false in
+    let here = read_here c.args.trail.now c.args.place _ m.seen.items m.here.items n.seen.items n.here.items m.pending n.pending (reverse c.args.hints.now.items) c.clause.result.now c.made.ensures.valid r c.requires.resolving
+    (some_pending m.pending (level_of c.args.trail.now.steps) c.requires.many) on c.in_ok-mark.ensures.seen
+    (subst (λ k. AreMarks c.args.trail.now.vars k c.args.trail.now.steps n.seen.items n.here.items n.pending) c.level-level.ensures.level c.mark.ensures.marks) in
+    omega (arith, c.unmark.ensures.less here, c.mark.ensures.more)
+
+pub returns-clause-resolving : goal.returns-clause-resolving
+returns-clause-resolving c =
+    let r = read_step c.args.trail.now c.args.place c.made.result.now c.made.ensures.valid c.made.ensures.made c.requires.place in
     let pushed : c.push.new.self.items ≡ c.args.hints.now.items ++ c.in-Some.reason ∷ [] = search rules in
-    Resolving-read trail c.args.place _ c.in-Some.reason m.seen.items m.here.items n.seen.items u.seen.items u.here.items m.pending u.pending c.args.hints.now.items c.push.new.self.items r c.requires.resolving
-    (reason_is trail c.args.place _ c.reason_of.result r c.reason_of.ensures ∙ c.in-Some.is)
-    (subst (MarksClause m.seen.items n.seen.items) same c.in_ok-mark.ensures.seen)
+    Resolving-read c.args.trail.now c.args.place _ c.in-Some.reason c.args.marks.now.seen.items c.args.marks.now.here.items c.mark.new.self.seen.items c.unmark.new.self.seen.items c.unmark.new.self.here.items c.args.marks.now.pending c.unmark.new.self.pending c.args.hints.now.items c.push.new.self.items
+    r c.requires.resolving (reason_is c.args.trail.now c.args.place _ c.reason_of.result r c.reason_of.ensures ∙ c.in-Some.is) (subst (MarksClause c.args.marks.now.seen.items c.mark.new.self.seen.items) c.clause.ensures.clause c.in_ok-mark.ensures.seen)
     (omega (arith, r.var, r.at.holds.high, c.mark.ensures.marks.seen_room)) c.unmark.ensures.seen pushed
-    (subst (λ k. AreMarks trail.vars k trail.steps u.seen.items u.here.items u.pending) c.level-level.ensures.level c.unmark.ensures.marks)
+    (subst (λ k. AreMarks c.args.trail.now.vars k c.args.trail.now.steps c.unmark.new.self.seen.items c.unmark.new.self.here.items c.unmark.new.self.pending) c.level-level.ensures.level c.unmark.ensures.marks)

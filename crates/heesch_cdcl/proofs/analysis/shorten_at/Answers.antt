@@ -3,7 +3,7 @@ use Rattle.heesch_cdcl.specs.Marking.{MarksClause, AreMarks}
 use Rattle.heesch_cdcl.specs.Resolved.{IsDerived}
 use Rattle.heesch_cdcl.proofs.MarkLemmas.{marked-same}
 use Rattle.heesch_cdcl.proofs.Resolving.{Derived-same, Derived-skip, reason_says}
-use Rattle.heesch_cdcl.proofs.ReadSteps.{Derived-read, form_of, read_step, pending_stays, reason_is}
+use Rattle.heesch_cdcl.proofs.ReadSteps.{Derived-read, form_of, here_kept, read_step, pending_stays, reason_is}
 use Rattle.heesch_cdcl.proofs.analysis.shorten_at.Goals as goal
 use Rattle.heesch_cdcl.proofs.analysis.shorten_at.Goals.{After-follows}
 
@@ -62,28 +62,24 @@ mark-requires-clause-form c =
 
 pub returns-clause-derived : goal.returns-clause-derived
 returns-clause-derived c =
-    let trail = c.args.trail.now in
-    let r = read_step trail c.args.place c.made.result.now c.made.ensures.valid c.made.ensures.made c.requires.place in
-    let m = c.follows.new.self in
-    let n = c.mark.new.self in
-    let u = c.leave_out.new.self in
-    let same = c.clause.ensures.clause in
+    let r = read_step c.args.trail.now c.args.place c.made.result.now c.made.ensures.valid c.made.ensures.made c.requires.place in
     let pushed : c.push.new.self.items ≡ c.args.hints.now.items ++ c.in-Some.reason ∷ [] = search rules in
-    Derived-read trail c.args.place _ c.in-Some.reason m.seen.items m.here.items n.seen.items u.seen.items u.here.items m.pending u.pending c.args.hints.now.items c.push.new.self.items r
-    (still (goal.at.returns-clause-derived c).After-follows) (reason_is trail c.args.place _ c.reason_of.result r c.reason_of.ensures ∙ c.in-Some.is) (subst (MarksClause m.seen.items n.seen.items) same c.in_ok-mark.ensures.seen)
-    (omega (arith, r.var, r.at.holds.high, c.mark.ensures.marks.seen_room)) c.leave_out.ensures.seen pushed
-    (subst (λ k. AreMarks trail.vars k trail.steps u.seen.items u.here.items u.pending) c.level-level.ensures.level c.leave_out.ensures.marks)
+    Derived-read c.args.trail.now c.args.place _ c.in-Some.reason c.follows.new.self.seen.items c.follows.new.self.here.items c.mark.new.self.seen.items c.unmark.new.self.seen.items c.unmark.new.self.here.items c.follows.new.self.pending c.unmark.new.self.pending c.args.hints.now.items c.push.new.self.items
+    r (still (goal.at.returns-clause-derived c).After-follows) (reason_is c.args.trail.now c.args.place _ c.reason_of.result r c.reason_of.ensures ∙ c.in-Some.is) (subst (MarksClause c.follows.new.self.seen.items c.mark.new.self.seen.items) c.clause.ensures.clause c.in_ok-mark.ensures.seen)
+    (omega (arith, r.var, r.at.holds.high, c.mark.ensures.marks.seen_room)) c.unmark.ensures.seen pushed
+    (subst (λ k. AreMarks c.args.trail.now.vars k c.args.trail.now.steps c.unmark.new.self.seen.items c.unmark.new.self.here.items c.unmark.new.self.pending) c.level-level.ensures.level c.unmark.ensures.marks)
 
 pub returns-clause-same : goal.returns-clause-same
 returns-clause-same c =
-    let trail = c.args.trail.now in
-    let r = read_step trail c.args.place c.made.result.now c.made.ensures.valid c.made.ensures.made c.requires.place in
+    let r = read_step c.args.trail.now c.args.place c.made.result.now c.made.ensures.valid c.made.ensures.made c.requires.place in
     let m = c.follows.new.self in
     let n = c.mark.new.self in
     let below = c.if-not-is_below.ensures.0 refl in
-    let same = c.clause.ensures.clause in
-    c.leave_out.ensures.same ∙ pending_stays trail c.args.place _ c.in-Some.reason m.seen.items m.here.items n.seen.items n.here.items m.pending n.pending c.made.ensures.valid r (reason_is trail c.args.place _ c.reason_of.result r c.reason_of.ensures ∙ c.in-Some.is)
-    (still (goal.at.returns-clause-same c).After-follows).marks
-    (subst (λ k. AreMarks trail.vars k trail.steps n.seen.items n.here.items n.pending) c.level-level.ensures.level c.mark.ensures.marks)
-    (subst (MarksClause m.seen.items n.seen.items) same c.in_ok-mark.ensures.seen)
-    (marked-same c.args.marks.now.seen.items m.seen.items _ true c.follows.ensures.seen below.0) (marked-same c.args.marks.now.here.items m.here.items _ false c.follows.ensures.here below.1) ∙ c.follows.ensures.pending
+    let on = marked-same c.args.marks.now.seen.items m.seen.items _ true c.follows.ensures.seen below.0 in
+    let off = marked-same c.args.marks.now.here.items m.here.items _ false c.follows.ensures.here below.1 in
+    let reason = reason_is c.args.trail.now c.args.place _ c.reason_of.result r c.reason_of.ensures ∙ c.in-Some.is in
+    let before = still (goal.at.returns-clause-same c).After-follows in
+    let now = subst (λ k. AreMarks c.args.trail.now.vars k c.args.trail.now.steps n.seen.items n.here.items n.pending) c.level-level.ensures.level c.mark.ensures.marks in
+    let marks = subst (MarksClause m.seen.items n.seen.items) c.clause.ensures.clause c.in_ok-mark.ensures.seen in
+    c.unmark.ensures.same (marked-same m.here.items n.here.items _ false (here_kept c.args.trail.now c.args.place _ c.in-Some.reason m.seen.items m.here.items n.seen.items n.here.items m.pending n.pending c.made.ensures.valid r reason before.marks now marks on off) off)
+    ∙ pending_stays c.args.trail.now c.args.place _ c.in-Some.reason m.seen.items m.here.items n.seen.items n.here.items m.pending n.pending c.made.ensures.valid r reason before.marks now marks on off ∙ c.follows.ensures.pending

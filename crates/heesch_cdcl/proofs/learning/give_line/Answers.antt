@@ -1,9 +1,8 @@
-use Rattle.std.proofs.Common.{◌≡◌, [], ◌∷◌, ◌++◌, sym, ap, ◌∙◌, refl, subst, rules}
+use Rattle.std.proofs.Common.{◌≡◌, [], ◌∷◌, ◌++◌, sym, refl, subst, rules}
 use Rattle.heesch_cnf.specs.Clauses.{IsNew}
 use Rattle.heesch_cnf.specs.declared.log.Line.TheVariants.{Given}
-use Rattle.heesch_trail.specs.State.{State}
 use Rattle.heesch_cdcl.specs.Searching.{IsSearching, Searches, SameFormula, formula_in}
-use Rattle.heesch_cdcl.proofs.Lines.{Searching-gives, Searches-own, Formula-own, Ready-more, pop-push}
+use Rattle.heesch_cdcl.proofs.Lines.{Searching-gives, Searches-own, Formula-own, Ready-added, pop-push}
 use Rattle.heesch_cdcl.proofs.learning.give_line.Goals as goal
 use Rattle.heesch_cdcl.proofs.learning.give_line.Goals.{After-go_back}
 
@@ -35,7 +34,5 @@ returns-clause-formula c =
 
 pub returns-clause-ready : goal.returns-clause-ready
 returns-clause-ready c =
-    let t = c.args.trail.now in
-    let added : c.add.new.self ≡ record t { clauses = t.clauses ++ c.in_ok-copy.copy ∷ [] } = search rules in
-    let back = c.go_back.ensures.back in
-    Ready-more t c.go_back.new.trail (c.in_ok-copy.copy ∷ []) c.args.work.now _ (ap (λ (x : State). x.vars) back ∙ ap (λ (x : State). x.vars) added) (ap (λ (x : State). x.clauses) back ∙ ap (λ (x : State). x.clauses) added) c.go_back.ensures.covers refl c.requires.ready
+    let added : c.add.new.self ≡ record c.args.trail.now { clauses = c.args.trail.now.clauses ++ c.in_ok-copy.copy ∷ [] } = search rules in
+    Ready-added c.args.trail.now c.add.new.self c.go_back.new.trail c.in_ok-copy.copy 0 c.args.work.now _ added c.go_back.ensures.back c.go_back.ensures.covers refl c.requires.ready

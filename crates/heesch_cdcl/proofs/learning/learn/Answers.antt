@@ -1,8 +1,7 @@
-use Rattle.std.proofs.Common.{◌≡◌, [], ◌∷◌, ◌++◌, sym, ap, ◌∙◌, refl, subst, rules}
+use Rattle.std.proofs.Common.{◌≡◌, [], ◌∷◌, ◌++◌, sym, refl, subst, rules}
 use Rattle.heesch_cnf.specs.declared.log.Line.TheVariants.{Learn}
-use Rattle.heesch_trail.specs.State.{State}
 use Rattle.heesch_cdcl.specs.Searching.{IsSearching, Searches, SameFormula, formula_in}
-use Rattle.heesch_cdcl.proofs.Lines.{Searching-learns, Searches-own, Formula-own, Ready-more, pop-push}
+use Rattle.heesch_cdcl.proofs.Lines.{Searching-learns, Searches-own, Formula-own, Ready-added, pop-push}
 use Rattle.heesch_cdcl.proofs.learning.learn.Goals as goal
 use Rattle.heesch_cdcl.proofs.learning.learn.Goals.{After-go_back}
 
@@ -39,7 +38,5 @@ returns-clause-formula c =
 
 pub returns-clause-ready : goal.returns-clause-ready
 returns-clause-ready c =
-    let t = c.args.trail.now in
-    let added : c.add.new.self ≡ record t { clauses = t.clauses ++ c.in_ok-clause.clause ∷ [] } = search rules in
-    let back = c.go_back.ensures.back in
-    Ready-more t c.go_back.new.trail (c.in_ok-clause.clause ∷ []) c.analyse.new.work _ (ap (λ (x : State). x.vars) back ∙ ap (λ (x : State). x.vars) added) (ap (λ (x : State). x.clauses) back ∙ ap (λ (x : State). x.clauses) added) c.go_back.ensures.covers refl c.analyse.ensures.ready
+    let added : c.add.new.self ≡ record c.args.trail.now { clauses = c.args.trail.now.clauses ++ c.in_ok-clause.clause ∷ [] } = search rules in
+    Ready-added c.args.trail.now c.add.new.self c.go_back.new.trail c.in_ok-clause.clause c.in_ok-learnt.learnt.back c.analyse.new.work _ added c.go_back.ensures.back c.go_back.ensures.covers refl c.analyse.ensures.ready

@@ -1,12 +1,12 @@
-use Rattle.std.proofs.Common.{ℕ, lit≤, ◌≡◌, sym, ap, ◌∙◌, true≢false, List, map, get_or, pos}
+use Rattle.std.proofs.Common.{ℕ, lit≤, ◌≡◌, sym, ap, ◌∙◌, true≢false, map, pos}
 use Rattle.heesch_grid.specs.declared.Cell.{Cell}
 use Rattle.heesch_grid.specs.Cells.{cell}
-use Rattle.heesch_grid.specs.Vectors.{AreUnitsOf, IsWithin, plus, times}
+use Rattle.heesch_grid.specs.Vectors.{AreUnitsOf, IsWithin, plus}
 use Rattle.heesch_grid.proofs.Images.{wider}
 use Rattle.heesch_orbit.specs.Steps.{IsStepBetween}
 use Rattle.heesch_orbit.proofs.Quotients.{read_unit, read}
 use Rattle.heesch_orbit.proofs.Options.{some_also, none_also}
-use Rattle.heesch_orbit.proofs.Shifts.{first_near, step_lists, step_first, is_step, in_units, of_units}
+use Rattle.heesch_orbit.proofs.Shifts.{first_near, step_read, lists_read, is_step, in_units, of_units}
 use Rattle.heesch_orbit.proofs.steps.step_between.Goals as goal
 
 pub difference-v-requires-clause-from : goal.difference-v-requires-clause-from
@@ -33,18 +33,7 @@ returns-clause-near g c =
 
 pub returns-then-not-are_moved-clause-none : goal.returns-then-not-are_moved-clause-none
 returns-then-not-are_moved-clause-none g c w h =
-    let geometry = g.G.Grid.geometry in
-    let o : Cell = cell (pos 0) (pos 0) in
-    let v = c.difference-v.result in
-    let xs = c.args.from.now in
-    let ys = c.args.to.now in
-    let a = c.cells-cells.ensures in
-    let b = c.cells-others.ensures in
-    let first : plus v (get_or xs 0 o) ≡ get_or ys 0 o = ap (λ (zs : List Cell). plus v (get_or zs 0 o)) (sym a.cells) ∙ c.difference-v.ensures.is ∙ ap (λ (zs : List Cell). get_or zs 0 o) b.cells in
-    let r = a.shape.polyform.is_set.rising in
-    let q = b.shape.polyform.is_set.rising in
-    let e : times geometry.unit w ≡ v = step_first geometry w v xs ys o o r q a.shape.polyform.some b.shape.polyform.some first h in
-    let lists : map (plus v) c.cells-cells.result.now ≡ c.cells-others.result.now = ap (map (plus v)) a.cells ∙ ap (λ (s : Cell). map (plus s) xs) (sym e) ∙ step_lists geometry w xs ys r q h ∙ sym b.cells in
+    let lists = lists_read g.G.Grid.geometry c.args.from.now c.args.to.now c.cells-cells.result.now c.cells-others.result.now c.cells-cells.ensures.cells c.cells-others.ensures.cells c.cells-cells.ensures.shape.polyform c.cells-others.ensures.shape.polyform (cell (pos 0) (pos 0)) c.difference-v.result c.difference-v.ensures.is w h in
     true≢false (sym (c.are_moved.ensures.1 lists) ∙ c.if-not-are_moved.true)
 
 pub returns-clause-some : goal.returns-clause-some
@@ -60,16 +49,7 @@ returns-clause-some g c =
 
 pub returns-clause-none : goal.returns-clause-none
 returns-clause-none g c =
-    let met = g.met.G.Grid in
-    let geometry = g.G.Grid.geometry in
-    let o : Cell = cell (pos 0) (pos 0) in
-    let v = c.difference-v.result in
-    let xs = c.args.from.now in
-    let ys = c.args.to.now in
-    let a = c.cells-cells.ensures in
-    let b = c.cells-others.ensures in
-    let first : plus v (get_or xs 0 o) ≡ get_or ys 0 o = ap (λ (zs : List Cell). plus v (get_or zs 0 o)) (sym a.cells) ∙ c.difference-v.ensures.is ∙ ap (λ (zs : List Cell). get_or zs 0 o) b.cells in
-    let unit = read_unit geometry met.laws c.UNIT.result (c.UNIT.ensures ∙ met.sizes.unit_is) in
-    none_also ((w : Cell) → AreUnitsOf (read c.UNIT.result) w v → ⊥) ((w : Cell) → IsStepBetween geometry xs ys w → ⊥)
-    (λ none w h. none w (in_units geometry (read c.UNIT.result) w v unit (step_first geometry w v xs ys o o a.shape.polyform.is_set.rising b.shape.polyform.is_set.rising a.shape.polyform.some b.shape.polyform.some first h)))
+    let unit = read_unit g.G.Grid.geometry g.met.G.Grid.laws c.UNIT.result (c.UNIT.ensures ∙ g.met.G.Grid.sizes.unit_is) in
+    none_also ((w : Cell) → AreUnitsOf (read c.UNIT.result) w c.difference-v.result → ⊥) ((w : Cell) → IsStepBetween g.G.Grid.geometry c.args.from.now c.args.to.now w → ⊥)
+    (λ none w h. none w (in_units g.G.Grid.geometry (read c.UNIT.result) w c.difference-v.result unit (step_read g.G.Grid.geometry c.args.from.now c.args.to.now c.cells-cells.result.now c.cells-others.result.now c.cells-cells.ensures.cells c.cells-others.ensures.cells c.cells-cells.ensures.shape.polyform c.cells-others.ensures.shape.polyform (cell (pos 0) (pos 0)) c.difference-v.result c.difference-v.ensures.is w h)))
     c.units_of.result c.units_of.ensures.none

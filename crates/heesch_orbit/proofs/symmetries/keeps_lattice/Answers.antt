@@ -1,32 +1,10 @@
-use Rattle.std.proofs.Common.{◌≡◌, true≢false, sym, ap, subst, ◌∙◌}
-use Rattle.heesch_grid.specs.declared.Cell.{Cell}
-use Rattle.heesch_grid.specs.declared.isometries.Iso.{Iso}
-use Rattle.heesch_orbit.specs.Symmetries.{CarriesPlaces, shift, first_vector, second_vector}
+use Rattle.heesch_orbit.proofs.Carrying.{first_decides, second_decides}
 use Rattle.heesch_orbit.proofs.symmetries.keeps_lattice.Goals as goal
 
 pub returns-then-carries_places : goal.returns-then-carries_places
 returns-then-carries_places g c =
-    let geometry = g.G.Grid.geometry in
-    let shape = c.args.turned.now in
-    let places = c.args.places.now in
-    let t = c.args.triple in
-    let k = c.args.k in
-    let first : c.turned_shift-first.result ≡ shift (geometry.turn k (first_vector t)) = c.turned_shift-first.ensures.is ∙ ap (λ (v : Cell). shift (geometry.turn k v)) c.first_vector.ensures.is in
-    let second : c.turned_shift-second.result ≡ shift (geometry.turn k (second_vector t)) = c.turned_shift-second.ensures.is ∙ ap (λ (v : Cell). shift (geometry.turn k v)) c.second_vector.ensures.is in
-    let P : Iso → Type 0 = CarriesPlaces geometry shape t places in (
-      (λ e. record { first = subst P first (c.carries_places.ensures.0 c.if-carries_places.true); second = subst P second (c.carries_places-then-carries_places.ensures.0 e) }),
-      (λ h. c.carries_places-then-carries_places.ensures.1 (subst P (sym second) h.second)),
-    )
+    second_decides g.G.Grid.geometry c.args.turned.now c.args.triple c.args.places.now c.args.k c.turned_shift-first.result c.first_vector.result c.turned_shift-first.ensures.is c.first_vector.ensures.is (c.carries_places.ensures.0 c.if-carries_places.true)
+    c.turned_shift-second.result c.second_vector.result c.turned_shift-second.ensures.is c.second_vector.ensures.is c.carries_places-then-carries_places.result c.carries_places-then-carries_places.ensures
 
 pub returns-else-carries_places : goal.returns-else-carries_places
-returns-else-carries_places g c =
-    let geometry = g.G.Grid.geometry in
-    let shape = c.args.turned.now in
-    let places = c.args.places.now in
-    let t = c.args.triple in
-    let k = c.args.k in
-    let first : c.turned_shift-first.result ≡ shift (geometry.turn k (first_vector t)) = c.turned_shift-first.ensures.is ∙ ap (λ (v : Cell). shift (geometry.turn k v)) c.first_vector.ensures.is in
-    let P : Iso → Type 0 = CarriesPlaces geometry shape t places in (
-      (λ e. absurd (true≢false (sym e ∙ c.if-carries_places.false))),
-      (λ h. c.carries_places.ensures.1 (subst P (sym first) h.first)),
-    )
+returns-else-carries_places g c = first_decides g.G.Grid.geometry c.args.turned.now c.args.triple c.args.places.now c.args.k c.turned_shift-first.result c.first_vector.result c.turned_shift-first.ensures.is c.first_vector.ensures.is c.carries_places.result c.if-carries_places.false c.carries_places.ensures

@@ -1,11 +1,10 @@
-use Rattle.std.proofs.Common.{◌≡◌, ◌<◌, ◌≤◌, ◌*◌, suc, List, length, take, get_or, sym, ap, subst, arith}
+use Rattle.std.proofs.Common.{◌≡◌, ◌<◌, ◌≤◌, ◌*◌, suc, length, take, ap, subst, arith}
 use Rattle.std.proofs.lemmas.List.{length-take-le}
 use Rattle.std.proofs.Math.Nat.{mul-le-mul_left}
-use Rattle.heesch_grid.specs.declared.Cell.{Cell}
 use Rattle.heesch_grid.specs.Tiling.{no_move}
-use Rattle.heesch_tiling.specs.Counting.{residues, tile_residues, in_window, AreCounts}
-use Rattle.heesch_tiling.proofs.Steps.{residues_more, residues_length}
-use Rattle.heesch_tiling.proofs.Tallies.{times_few, then_counts}
+use Rattle.heesch_tiling.specs.Counting.{residues, in_window}
+use Rattle.heesch_tiling.proofs.Steps.{residues_length}
+use Rattle.heesch_tiling.proofs.Tallies.{times_few, counts_next}
 use Rattle.heesch_tiling.proofs.counts.count_tiles.Goals as goal
 
 pub count_tile-requires-clause-room : goal.count_tile-requires-clause-room
@@ -25,10 +24,4 @@ count_tile-requires-clause-room g c =
 
 pub loop-by-preserved : goal.loop-by-preserved
 loop-by-preserved g c =
-    let geometry = g.G.Grid.geometry in
-    let t = c.args.triple in
-    let cells = c.args.cells.now in
-    let places = c.args.places.now in
-    let i = c.loop-by.by-index in
-    subst (λ (xs : List Cell). AreCounts geometry t xs c.count_tile.new.counts) (sym (residues_more geometry cells t places i no_move c.loop-by-test.true))
-    (then_counts geometry t (residues geometry cells t (take i places)) (tile_residues geometry cells t (get_or places i no_move)) c.loop-by.counts c.count_tile.new.counts c.loop-by.invariant c.count_tile.ensures)
+    counts_next g.G.Grid.geometry c.args.triple c.args.cells.now c.args.places.now c.loop-by.by-index no_move c.loop-by-test.true c.loop-by.counts c.count_tile.new.counts c.loop-by.invariant c.count_tile.ensures

@@ -6,9 +6,9 @@ use Rattle.heesch_cnf.specs.Flat.{Clauses}
 use Rattle.heesch_cert.specs.Literals.{literals}
 use Rattle.heesch_grid.specs.Cells.{meet}
 use Rattle.heesch_grid.specs.CoronaFormula.{exclusion_clauses}
-use Rattle.heesch_tiling.proofs.Spots.{window_small}
-use Rattle.heesch_torus.specs.Covering.{AreCovering, AreNumbers, cell_lists}
+use Rattle.heesch_torus.specs.Covering.{AreNumbers, cell_lists}
 use Rattle.heesch_torus.specs.Variables.{TorusVariable, sets_of}
+use Rattle.heesch_torus.proofs.Formulas.{lists_few}
 use Rattle.heesch_torus.proofs.Numbering.{covering_numbers, list_clauses}
 use Rattle.heesch_torus.proofs.formula.formula_of.Goals as goal
 
@@ -20,29 +20,20 @@ add_covering_clauses-requires-clause-numbers g c =
 
 pub add_covering_clauses-requires-clause-small : goal.add_covering_clauses-requires-clause-small
 add_covering_clauses-requires-clause-small g c =
-    let few = window_small g.G.Grid.geometry.unit c.args.triple.p c.args.triple.q g.met.G.Grid.laws.unit_range.1 in
-    let lists : AreCovering g.G.Grid.geometry c.args.triple (sets_of c.args.variables.now) c.in_ok-lists.lists.items = c.in_ok-lists.ensures in
-    let same = ap length c.as_slice.ensures.value in
-    let all = lists.all in
-    omega (arith, few, same, all, c.requires.small)
+    let few = lists_few g.G.Grid.geometry g.met.G.Grid.laws c.args.triple c.requires.small (sets_of c.args.variables.now) c.in_ok-lists.lists.items c.in_ok-lists.ensures c.as_slice.result.now c.as_slice.ensures.value in
+    omega (arith, few)
 
 pub add_pair_clauses-requires-clause-room : goal.add_pair_clauses-requires-clause-room
 add_pair_clauses-requires-clause-room g c =
-    let few = window_small g.G.Grid.geometry.unit c.args.triple.p c.args.triple.q g.met.G.Grid.laws.unit_range.1 in
-    let lists : AreCovering g.G.Grid.geometry c.args.triple (sets_of c.args.variables.now) c.in_ok-lists.lists.items = c.in_ok-lists.ensures in
-    let same = ap length c.as_slice.ensures.value in
-    let all = lists.all in
+    let few = lists_few g.G.Grid.geometry g.met.G.Grid.laws c.args.triple c.requires.small (sets_of c.args.variables.now) c.in_ok-lists.lists.items c.in_ok-lists.ensures c.as_slice.result.now c.as_slice.ensures.value in
     let none = ap (λ (f : Clauses). length f.clauses) c.new-formula.ensures in
-    omega (arith, few, same, all, c.requires.small, none, c.in_ok-add_covering_clauses.ensures.few)
+    omega (arith, few, none, c.in_ok-add_covering_clauses.ensures.few)
 
 pub returns-clause-few : goal.returns-clause-few
 returns-clause-few g c =
-    let few = window_small g.G.Grid.geometry.unit c.args.triple.p c.args.triple.q g.met.G.Grid.laws.unit_range.1 in
-    let lists : AreCovering g.G.Grid.geometry c.args.triple (sets_of c.args.variables.now) c.in_ok-lists.lists.items = c.in_ok-lists.ensures in
-    let same = ap length c.as_slice.ensures.value in
-    let all = lists.all in
+    let few = lists_few g.G.Grid.geometry g.met.G.Grid.laws c.args.triple c.requires.small (sets_of c.args.variables.now) c.in_ok-lists.lists.items c.in_ok-lists.ensures c.as_slice.result.now c.as_slice.ensures.value in
     let none = ap (λ (f : Clauses). length f.clauses) c.new-formula.ensures in
-    omega (arith, few, same, all, c.requires.small, none, c.in_ok-add_covering_clauses.ensures.few, c.in_ok-add_pair_clauses.ensures.few)
+    omega (arith, few, none, c.in_ok-add_covering_clauses.ensures.few, c.in_ok-add_pair_clauses.ensures.few)
 
 pub returns-clause-clauses : goal.returns-clause-clauses
 returns-clause-clauses g c =

@@ -4,10 +4,5 @@ use Rattle.heesch_grid.specs.Cells.{cell}
 use Rattle.heesch_shape.proofs.Loops.{has_at}
 use Rattle.heesch_torus.proofs.residues.reduced_image.Goals as goal
 
-pub residue_of-requires-clause-cell : goal.residue_of-requires-clause-cell
-residue_of-requires-clause-cell g c =
-    (c.requires.cells (slice_index_or c.args.cells.now c.loop-c.c-index (cell (pos 0) (pos 0))) (has_at c.args.cells.now c.loop-c.c-index (cell (pos 0) (pos 0)) c.loop-c-test.true)).0
-
-pub residue_of-requires-clause-within : goal.residue_of-requires-clause-within
-residue_of-requires-clause-within g c =
-    (c.requires.cells (slice_index_or c.args.cells.now c.loop-c.c-index (cell (pos 0) (pos 0))) (has_at c.args.cells.now c.loop-c.c-index (cell (pos 0) (pos 0)) c.loop-c-test.true)).1
+pub residue_of-requires-clause-near : goal.residue_of-requires-clause-near
+residue_of-requires-clause-near g c = c.requires.cells (slice_index_or c.args.cells.now c.loop-c.c-index (cell (pos 0) (pos 0))) (has_at c.args.cells.now c.loop-c.c-index (cell (pos 0) (pos 0)) c.loop-c-test.true)

@@ -1,13 +1,13 @@
-use Rattle.std.proofs.Common.{◌≡◌, ◌∙◌, suc, ◌+◌, List, [], ◌∷◌, ◌++◌, length, take, drop, All, ap, subst, sym, rules}
-use Rattle.std.proofs.lemmas.List.{take_all, take_more}
+use Rattle.std.proofs.Common.{◌≡◌, ◌+◌, List, [], ◌∷◌, ◌++◌, length, take, All, subst, sym, rules}
+use Rattle.std.proofs.lemmas.List.{take_all}
 use Rattle.heesch_grid.specs.Lattice.{Triple}
 use Rattle.heesch_torus.specs.Covers.{IsCoverAnswer}
 use Rattle.std.proofs.lemmas.List.Elements.{All-nil, All-push}
 use Rattle.heesch_verdict.specs.Alike.{IsAlikeOne}
 use Rattle.heesch_verdict.specs.Earliest.{HasNoCover}
-use Rattle.heesch_verdict.specs.Domains.{AreLeftOpen, IsFirstOf, IsTried}
+use Rattle.heesch_verdict.specs.Domains.{AreLeftOpen, IsTried}
 use Rattle.heesch_verdict.proofs.Turned.{none_alike}
-use Rattle.heesch_verdict.proofs.Firsts.{AreTried, domain_at, first_cover_of, found_cover, none_tried, open_tried, parts_at, tried_at_first}
+use Rattle.heesch_verdict.proofs.Firsts.{AreTried, domain_at, first_of_all, found_at, none_next, open_next, tried_at_first}
 use Rattle.heesch_verdict.proofs.covers.first_cover.Goals as goal
 use Rattle.heesch_verdict.proofs.covers.first_cover.Goals.{in-None+in_ok-push-in-None, in-Open+in_ok-push-in-Open}
 
@@ -23,69 +23,45 @@ find_cover-requires-clause-domain g c =
 
 pub earliest-requires-clause-found : goal.earliest-requires-clause-found
 earliest-requires-clause-found g c =
-    let geometry = g.G.Grid.geometry in
-    let shape = c.args.shape.now in
-    let t = c.triple-item.result in
-    let domain = domain_at geometry (length shape) c.args.limits.domain c.requires.limits.domain_range.1 c.args.triples.now c.requires.triples c.loop-triple.triple-index t c.loop-triple-test.true c.triple-item.is in
-    (found_cover geometry g.met.G.Grid.laws shape c.requires.shape t domain c.in-Tiles.tiling (subst (IsCoverAnswer geometry shape t 1000000) c.in-Tiles.is c.in_ok-tiling.ensures)).1
+    let chosen = subst (IsCoverAnswer g.G.Grid.geometry c.args.shape.now c.triple-item.result 1000000) c.in-Tiles.is c.in_ok-tiling.ensures in
+    (found_at g.G.Grid.geometry g.met.G.Grid.laws c.args.limits c.requires.limits.domain_range.1 c.args.shape.now c.requires.shape c.args.triples.now c.requires.triples c.loop-triple.triple-index c.triple-item.result c.loop-triple-test.true c.triple-item.is c.in-Tiles.tiling chosen).1
 
 pub returns-in-Tiles : goal.returns-in-Tiles
 returns-in-Tiles g c =
-    let geometry = g.G.Grid.geometry in
-    let shape = c.args.shape.now in
-    let limits = c.args.limits in
-    let triples = c.args.triples.now in
-    let k = c.loop-triple.triple-index in
-    let t = c.triple-item.result in
-    let domain = domain_at geometry (length shape) limits.domain c.requires.limits.domain_range.1 triples c.requires.triples k t c.loop-triple-test.true c.triple-item.is in
-    let found = found_cover geometry g.met.G.Grid.laws shape c.requires.shape t domain c.in-Tiles.tiling (subst (IsCoverAnswer geometry shape t 1000000) c.in-Tiles.is c.in_ok-tiling.ensures) in
-    let tiling = c.in_ok-tiling-in-Tiles.tiling in
-    let before = take k triples in
-    let after = drop (suc k) triples in
-    let whole : triples ≡ before ++ c.in-Tiles.tiling.triple ∷ after = parts_at triples k t c.loop-triple-test.true ∙ ap (λ (u : Triple). before ++ u ∷ after) (sym (found.0 ∙ c.triple-item.is)) in
-    let left = subst (AreLeftOpen geometry shape before) (sym c.as_slice.ensures.value) c.loop-triple.invariant.0.are_open in
-    first_cover_of geometry limits shape c.requires.shape.is_shape.polyform.some triples c.requires.triples tiling
-    (subst (λ (ts : List Triple). IsFirstOf geometry shape limits.turns ts tiling) (sym whole) (c.in_ok-tiling-in-Tiles.ensures before after left))
+    let chosen = subst (IsCoverAnswer g.G.Grid.geometry c.args.shape.now c.triple-item.result 1000000) c.in-Tiles.is c.in_ok-tiling.ensures in
+    let left = subst (AreLeftOpen g.G.Grid.geometry c.args.shape.now (take c.loop-triple.triple-index c.args.triples.now)) (sym c.as_slice.ensures.value) c.loop-triple.invariant.0.are_open in
+    first_of_all g.G.Grid.geometry g.met.G.Grid.laws c.args.limits c.requires.limits.domain_range.1 c.args.shape.now c.requires.shape c.args.triples.now c.requires.triples c.loop-triple.triple-index c.triple-item.result c.loop-triple-test.true c.triple-item.is c.in-Tiles.tiling chosen
+    c.as_slice.result.now left c.in_ok-tiling-in-Tiles.tiling c.in_ok-tiling-in-Tiles.ensures
 
 pub loop-triple-preserved-then-is_alike : goal.loop-triple-preserved-then-is_alike
 loop-triple-preserved-then-is_alike g c =
-    let geometry = g.G.Grid.geometry in
-    let shape = c.args.shape.now in
-    let triples = c.args.triples.now in
-    let k = c.loop-triple.triple-index in
-    let t = c.triple-item.result in
-    let old = c.loop-triple.left.items in
-    let more : take (k + 1) triples ≡ take k triples ++ t ∷ [] = take_more triples k t c.loop-triple-test.true ∙ ap (λ (u : Triple). take k triples ++ u ∷ []) (sym c.triple-item.is) in
-    let alike = subst (IsAlikeOne geometry t) c.deref.ensures.value (c.is_alike.ensures c.if-is_alike.true) in
-    let none : HasNoCover geometry shape t = none_alike geometry g.met.G.Grid.laws shape t c.loop-triple.uncovered.items alike c.loop-triple.invariant.1 in
-    (subst (λ (ts : List Triple). AreTried geometry shape 1000000 ts old) (sym more) (none_tried geometry shape 1000000 (take k triples) old t none c.loop-triple.invariant.0), c.loop-triple.invariant.1)
+    let alike = subst (IsAlikeOne g.G.Grid.geometry c.triple-item.result) c.deref.ensures.value (c.is_alike.ensures c.if-is_alike.true) in
+    let none = none_alike g.G.Grid.geometry g.met.G.Grid.laws c.args.shape.now c.triple-item.result c.loop-triple.uncovered.items alike c.loop-triple.invariant.1 in
+    (none_next g.G.Grid.geometry c.args.shape.now 1000000 c.args.triples.now c.loop-triple.triple-index c.triple-item.result c.loop-triple-test.true c.triple-item.is c.loop-triple.left.items none c.loop-triple.invariant.0, c.loop-triple.invariant.1)
 
 pub loop-triple-preserved : goal.loop-triple-preserved
 loop-triple-preserved g c =
     let geometry = g.G.Grid.geometry in
     let shape = c.args.shape.now in
-    let triples = c.args.triples.now in
-    let k = c.loop-triple.triple-index in
     let t = c.triple-item.result in
-    let domain = domain_at geometry (length shape) c.args.limits.domain c.requires.limits.domain_range.1 triples c.requires.triples k t c.loop-triple-test.true c.triple-item.is in
+    let domain = domain_at geometry (length shape) c.args.limits.domain c.requires.limits.domain_range.1 c.args.triples.now c.requires.triples c.loop-triple.triple-index t c.loop-triple-test.true c.triple-item.is in
     let old = c.loop-triple.left.items in
     let uncovered = c.loop-triple.uncovered.items in
-    let more : take (k + 1) triples ≡ take k triples ++ t ∷ [] = take_more triples k t c.loop-triple-test.true ∙ ap (λ (u : Triple). take k triples ++ u ∷ []) (sym c.triple-item.is) in
-    let At : List Triple → Type 0 = AreTried geometry shape 1000000 (take (k + 1) triples) in
+    let At : List Triple → Type 0 = AreTried geometry shape 1000000 (take (c.loop-triple.triple-index + 1) c.args.triples.now) in
     let NoneOf : List Triple → Type 0 = All (HasNoCover geometry shape) in
     elim c.match-branch-2.branch [
       | in-None+in_ok-push-in-None w ↦
           let none = subst (IsCoverAnswer geometry shape t 1000000) w.in-None.is c.in_ok-tiling.ensures in
           let same : c.match-branch-2.left.items ≡ old = λ i. (w.left-is i).items in
           let pushed : c.match-branch-2.uncovered.items ≡ uncovered ++ t ∷ [] = search rules in (
-            subst At (sym same) (subst (λ (ts : List Triple). AreTried geometry shape 1000000 ts old) (sym more) (none_tried geometry shape 1000000 (take k triples) old t none c.loop-triple.invariant.0)),
+            subst At (sym same) (none_next geometry shape 1000000 c.args.triples.now c.loop-triple.triple-index t c.loop-triple-test.true c.triple-item.is old none c.loop-triple.invariant.0),
             subst NoneOf (sym pushed) (All-push (HasNoCover geometry shape) uncovered t c.loop-triple.invariant.1 none),
           )
       | in-Open+in_ok-push-in-Open w ↦
           let open_answer = subst (IsCoverAnswer geometry shape t 1000000) w.in-Open.is c.in_ok-tiling.ensures in
           let same : c.match-branch-2.left.items ≡ old ++ t ∷ [] = search rules in
           let kept : c.match-branch-2.uncovered.items ≡ uncovered = λ i. (w.uncovered-is i).items in (
-            subst At (sym same) (subst (λ (ts : List Triple). AreTried geometry shape 1000000 ts (old ++ t ∷ [])) (sym more) (open_tried geometry shape 1000000 (take k triples) old t domain open_answer c.loop-triple.invariant.0)),
+            subst At (sym same) (open_next geometry shape 1000000 c.args.triples.now c.loop-triple.triple-index t c.loop-triple-test.true c.triple-item.is old domain open_answer c.loop-triple.invariant.0),
             subst NoneOf (sym kept) c.loop-triple.invariant.1,
           )
     ]

@@ -1,6 +1,5 @@
-use Rattle.std.proofs.Common.{◌≡◌, ℕ, sym, subst, ◌∙◌, arith}
-use Rattle.heesch_orbit.specs.Turned.{AreImages}
-use Rattle.heesch_orbit.proofs.Images.{images_within, one_more, first_is_shape}
+use Rattle.std.proofs.Common.{◌∙◌, arith}
+use Rattle.heesch_orbit.proofs.Images.{images_within, one_more, all_turned}
 use Rattle.heesch_orbit.proofs.turns.Turned.new.Goals as goal
 
 pub image-requires-clause-within : goal.image-requires-clause-within
@@ -16,23 +15,10 @@ loop-turn-preserved g c =
 
 pub invariant_of-result : goal.invariant_of-result
 invariant_of-result g c =
-    let met = g.met.G.Grid in
-    let geometry = g.G.Grid.geometry in
-    let last = c.loop-turn-test.false in
-    let most = c.loop-turn.auto.turn-end in
-    let all = c.TURNS-turn-end.ensures ∙ met.sizes.turns_is in
-    let is : c.loop-turn.turn ≡ geometry.turns = omega (arith, last, most, all) in
-    let some = met.laws.turns_range.0 in
-    let a : AreImages geometry c.args.shape.now geometry.turns c.loop-turn.images.items = subst (λ (k : ℕ). AreImages geometry c.args.shape.now k c.loop-turn.images.items) is c.loop-turn.invariant in
-    let first = first_is_shape geometry met.laws c.args.shape.now geometry.turns c.loop-turn.images.items c.cells-cells.ensures.shape.polyform.is_set.rising some a in
-    subst (λ xs. AreImages geometry xs geometry.turns c.loop-turn.images.items) (sym first) a
+    let all = c.TURNS-turn-end.ensures ∙ g.met.G.Grid.sizes.turns_is in
+    (all_turned g.G.Grid.geometry g.met.G.Grid.laws c.args.shape.now c.cells-cells.ensures.shape.polyform.is_set.rising c.loop-turn.turn c.loop-turn.images.items (omega (arith, c.loop-turn-test.false, c.loop-turn.auto.turn-end, all)) c.loop-turn.invariant).0
 
 pub returns : goal.returns
 returns g c =
-    let met = g.met.G.Grid in
-    let geometry = g.G.Grid.geometry in
-    let last = c.loop-turn-test.false in
-    let most = c.loop-turn.auto.turn-end in
-    let all = c.TURNS-turn-end.ensures ∙ met.sizes.turns_is in
-    let is : c.loop-turn.turn ≡ geometry.turns = omega (arith, last, most, all) in
-    first_is_shape geometry met.laws c.args.shape.now geometry.turns c.loop-turn.images.items c.cells-cells.ensures.shape.polyform.is_set.rising met.laws.turns_range.0 (subst (λ (k : ℕ). AreImages geometry c.args.shape.now k c.loop-turn.images.items) is c.loop-turn.invariant)
+    let all = c.TURNS-turn-end.ensures ∙ g.met.G.Grid.sizes.turns_is in
+    (all_turned g.G.Grid.geometry g.met.G.Grid.laws c.args.shape.now c.cells-cells.ensures.shape.polyform.is_set.rising c.loop-turn.turn c.loop-turn.images.items (omega (arith, c.loop-turn-test.false, c.loop-turn.auto.turn-end, all)) c.loop-turn.invariant).1

@@ -2,7 +2,7 @@ use Rattle.std.proofs.Common.{◌≡◌, ℕ, ◌+◌, ◌<◌, length, ap, arit
 use Rattle.std.proofs.lemmas.List.{length-map, length-replicate}
 use Rattle.heesch_torus.specs.Variables.{TorusVariable, sets_of}
 use Rattle.heesch_torus.proofs.Excluding.{low_more, pairs_more, all_pairs}
-use Rattle.heesch_torus.proofs.pairs.add_all_marked.Goals as goal
+use Rattle.heesch_torus.proofs.pairs.add_pair_clauses.Goals as goal
 
 pub loop-at-preserved : goal.loop-at-preserved
 loop-at-preserved g c =

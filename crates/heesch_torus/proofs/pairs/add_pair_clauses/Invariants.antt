@@ -4,7 +4,7 @@ use Rattle.std.specs.List.{enumerate_from}
 use Rattle.heesch_torus.specs.Variables.{sets_of}
 use Rattle.heesch_torus.specs.Formula.{AddsClauses}
 use Rattle.heesch_torus.proofs.Excluding.{pairs_with}
-use Rattle.heesch_torus.proofs.pairs.add_all_marked.Given as goal
+use Rattle.heesch_torus.proofs.pairs.add_pair_clauses.Given as goal
 
 abbrev pub invariant-loop-at : goal.invariant-loop-at
 invariant-loop-at g l = record {

@@ -1,7 +1,7 @@
 use Rattle.std.proofs.Common.{◌*◌, ap, ◌∙◌}
 use Rattle.heesch_grid.specs.Lattice.{Triple}
 use Rattle.heesch_tiling.proofs.Spots.{numbered}
-use Rattle.heesch_torus.proofs.window.number_of.Goals as goal
+use Rattle.heesch_tiling.proofs.window.number_of.Goals as goal
 
 pub returns-clause-is : goal.returns-clause-is
 returns-clause-is g c =
