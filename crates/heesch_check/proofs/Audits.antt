@@ -165,9 +165,9 @@ round_goes_on header own before until good middle after found audits result same
     subst (λ (x : List Item). JudgesAll header before after x result) (take-append-drop k found) (good_then header before (before + k) after (take k found) (drop k found) result g back)
 
 -- what both clauses on an answer give
-pub if_ok_both : {X E : Type 0} (P Q R : X → Type 0) → ((x : X) → P x → Q x → R x) → (r : Result X E) → IfOk r P → IfOk r Q → IfOk r R
-if_ok_both P Q R both (Ok x) p q = both x p q
-if_ok_both P Q R both (Err e) p q = tt
+pub if_both : {X E : Type 0} {P Q R : X → Type 0} (r : Result X E) → ((x : X) → P x → Q x → R x) → IfOk r P → IfOk r Q → IfOk r R
+if_both (Ok x) both p q = both x p q
+if_both (Err e) both p q = tt
 
 -- ---- audits of items that stand behind others
 

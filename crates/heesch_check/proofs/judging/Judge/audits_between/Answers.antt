@@ -1,7 +1,7 @@
 use Rattle.std.proofs.Common.{◌≡◌, ◌+◌, Bool, Vec, Global, take, arith, subst, sym}
 use Rattle.std.specs.Prelude.{vec_len}
 use Rattle.heesch_check.specs.Judging.{AreAudits, AreAuditsBehind, ArePlaced}
-use Rattle.heesch_check.proofs.Audits.{if_ok_both}
+use Rattle.heesch_check.proofs.Audits.{if_both}
 use Rattle.heesch_check.proofs.judging.Judge.audits_between.Goals as goal
 
 pub returns-clause-audits : goal.returns-clause-audits
@@ -13,7 +13,8 @@ returns-clause-audits g c =
     let until = c.args.until in
     let some = c.requires.some in
     let fits = c.ranges.until in
-    if_ok_both (λ (audits : Vec Bool Global). before + vec_len audits ≡ until) (λ (audits : Vec Bool Global). AreAudits geometry header.limits found audits.items) (λ (audits : Vec Bool Global). AreAuditsBehind header before found audits.items)
+    if_both {P = λ (audits : Vec Bool Global). before + vec_len audits ≡ until} {Q = λ (audits : Vec Bool Global). AreAudits geometry header.limits found audits.items} {R = λ (audits : Vec Bool Global). AreAuditsBehind header before found audits.items}
+    c.audits.result
     (λ audits long are.
     let many = audits.ok.0 in
     record {
@@ -22,4 +23,4 @@ returns-clause-audits g c =
       placed = subst (λ n. ArePlaced header before (take n found)) (omega (arith, long, many)) c.requires.placed;
       are = subst (λ x. AreAudits x header.limits found audits.items) (sym c.requires.grid) are;
     })
-    c.audits.result c.audits.ensures.len c.audits.ensures.audits
+    c.audits.ensures.len c.audits.ensures.audits
