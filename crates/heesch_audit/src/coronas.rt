@@ -79,8 +79,8 @@ pub(crate) fn is_open<G: Grid>(
     }
 }
 
-/// Part 5: whether the layers of the evidence, where it is of searches, are hole-free coronas, as many as the verdict says. The
-/// form being right, there are at most six.
+/// Part 5: whether the layers of the evidence, where it is of searches, are hole-free coronas, as many as the verdict
+/// says. The form being right, there are at most six.
 pub(crate) fn free_holds<G: Grid>(
     alloc: Global,
     shape: &Shape<G>,

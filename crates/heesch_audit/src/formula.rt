@@ -24,7 +24,8 @@ pub(crate) struct LevelFormula<G: Grid> {
     pub encoded: Option<FlatEncoded<G>>,
 }
 
-/// The formula of a level. It is the one at hand where that is of this level; else that one is let go before this is made.
+/// The formula of a level. It is the one at hand where that is of this level; else that one is let go before this is
+/// made.
 pub(crate) fn level_formula<G: Grid>(
     alloc: Global,
     shape: &Shape<G>,

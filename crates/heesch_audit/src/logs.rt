@@ -30,8 +30,8 @@ pub(crate) fn has_no_cut(proof: &Proof) -> bool
     true
 }
 
-/// The clause that a step gives over the universe, where the step is no unlawful cut: a learnt step gives none, which takes no
-/// memory.
+/// The clause that a step gives over the universe, where the step is no unlawful cut: a learnt step gives none, which
+/// takes no memory.
 fn lawful_clause<G: Grid>(
     alloc: Global,
     shape: &Shape<G>,
@@ -67,8 +67,8 @@ pub(crate) fn learnt_log(alloc: Global, proof: &Proof) -> Option<ProofLog<'_>>
     })
 }
 
-/// The log of a proof over the universe, where its cuts are lawful. The clauses of the cuts are made, and the learnt ones read
-/// where the proof stands. Without cuts it takes no memory.
+/// The log of a proof over the universe, where its cuts are lawful. The clauses of the cuts are made, and the learnt
+/// ones read where the proof stands. Without cuts it takes no memory.
 pub(crate) fn lawful_log<'a, G: Grid>(
     alloc: Global,
     shape: &Shape<G>,

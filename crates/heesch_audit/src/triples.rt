@@ -90,8 +90,8 @@ pub(crate) fn are_proved<G: Grid, R: Threads + Sync>(
     Ok(true)
 }
 
-/// Whether for an undecided verdict all triples of the domains from 2 to the limit are written, in order, and for any other
-/// none.
+/// Whether for an undecided verdict all triples of the domains from 2 to the limit are written, in order, and for any
+/// other none.
 pub(crate) fn are_asked<G: Grid>(
     alloc: Global,
     shape: &Shape<G>,

@@ -73,7 +73,8 @@ fn agree(one: bool, other: bool) -> bool
     one == other
 }
 
-/// Whether the search with holes allowed is the same as that with holes forbidden exactly where a refutation has no cut.
+/// Whether the search with holes allowed is the same as that with holes forbidden exactly where a refutation has no
+/// cut.
 fn fits_same(wall: &Wall, bare: &Bare) -> bool
     ensures { IsTrue result ↔ SameWhereNoCut wall.now bare.now }
 {
@@ -126,7 +127,8 @@ fn asks_formula(bare: &Bare) -> bool
     }
 }
 
-/// Whether the search with holes allowed ended at level m as is written. The formula of another level, or of m, is at hand.
+/// Whether the search with holes allowed ended at level m as is written. The formula of another level, or of m, is at
+/// hand.
 fn bare_shows_at<G: Grid, R: Threads + Sync>(
     rt: &R,
     alloc: Global,
@@ -174,8 +176,8 @@ fn bare_holds<G: Grid, R: Threads + Sync>(
     bare_shows_at(rt, alloc, shape, at_hand, m, bare)
 }
 
-/// The first of the parts 6 to 8 that fails, the form being right: the wall, the open coronas, the search behind the wall.
-/// The formula of the wall serves for the search behind it, where they are of one level.
+/// The first of the parts 6 to 8 that fails, the form being right: the wall, the open coronas, the search behind the
+/// wall. The formula of the wall serves for the search behind it, where they are of one level.
 pub(crate) fn failing_search<G: Grid, R: Threads + Sync>(
     rt: &R,
     alloc: Global,

@@ -216,7 +216,8 @@ fn is_inner_free<G: Grid, T: Threads + Sync>(
     )
 }
 
-/// Whether the layers are coronas, holes allowed, one more than were found hole-free, behind a wall that the proof refutes.
+/// Whether the layers are coronas, holes allowed, one more than were found hole-free, behind a wall that the proof
+/// refutes.
 fn is_wider<G: Grid, T: Threads + Sync>(
     rt: &T,
     alloc: Global,

@@ -60,8 +60,9 @@ fn number_of(verdict: Verdict) -> u32
     }
 }
 
-/// Appends what is known of the outer number of the entry's shape: `hh tiles`; `hh undecided`; `hc H` and `hh K` with K = H + 1
-/// and a line for each layer; `hc H`, `hh H` and the lines of the refutation; or `hc H`, `hh spent` and the lines of the proof.
+/// Appends what is known of the outer number of the entry's shape: `hh tiles`; `hh undecided`; `hc H` and `hh K` with K
+/// = H + 1 and a line for each layer; `hc H`, `hh H` and the lines of the refutation; or `hc H`, `hh spent` and the
+/// lines of the proof.
 ///
 /// Errors: at `NoMemory` the text is as it was before. Its cost is the length of what it appends.
 pub fn write_answer(entry: &Entry, answer: &OuterAnswer, out: &mut Vec<u8>) -> Result<(), NoMemory>
