@@ -1,9 +1,10 @@
 -- How the head, the texts of rounds and the end's text follow one another.
 use Rattle.std.proofs.Common.{◌≡◌, ℕ, ◌+◌, ◌-◌, ◌≤◌, List, [], ◌++◌, length, take, drop, refl, sym, ap, ◌∙◌, subst, arith, inl, inr, append_assoc, append-nil}
-use Rattle.std.specs.Prelude.{Option, Result, Ok, Err, OnErr, ◌==◌, if◌then◌else◌}
+use Rattle.std.specs.Prelude.{Option, Result, Ok, Err, OnErr, OnOk, ◌==◌, if◌then◌else◌}
 use Rattle.std.specs.Io.KnownBytes.{Appends}
 use Rattle.std.proofs.lemmas.Bool.{eq-eqb}
 use Rattle.std.proofs.lemmas.List.{take_all}
+use Rattle.std.proofs.lemmas.Result.{on_err_weaker, on_ok_weaker}
 use Rattle.std.proofs.Math.Seq.{take-add}
 use Rattle.heesch_io.specs.Contents.{AppendsPrefix}
 use Rattle.heesch_io.proofs.Appending.{appends_nothing, appends_both, appends_then_keeps, appends_then_prefix}
@@ -38,6 +39,14 @@ writes_weaker a b weaker (output, is, appends) = (output, weaker output is, appe
 pub begins_weaker : {P Q : List ℕ → Type 0} (a b : Option (List ℕ)) → ((output : List ℕ) → P output → Q output) → BeginsOne P a b → BeginsOne Q a b
 begins_weaker a b weaker (inl keeps) = inl keeps
 begins_weaker a b weaker (inr (output, is, prefix)) = inr (output, weaker output is, prefix)
+
+-- what a call wrote of one kind it wrote of the other
+pub writes_as : {T E : Type 0} {P Q : List ℕ → Type 0} (r : Result T E) (a b : Option (List ℕ)) → ((output : List ℕ) → P output → Q output) → OnOk r (WritesOne P a b) → OnOk r (WritesOne Q a b)
+writes_as r a b weaker = on_ok_weaker r (writes_weaker a b weaker)
+
+-- and so of what it began
+pub begins_as : {T E : Type 0} {P Q : List ℕ → Type 0} (r : Result T E) (a b : Option (List ℕ)) → ((output : List ℕ) → P output → Q output) → OnErr r (BeginsOne P a b) → OnErr r (BeginsOne Q a b)
+begins_as r a b weaker = on_err_weaker r (begins_weaker a b weaker)
 
 -- ---- rounds
 
