@@ -2,6 +2,7 @@
 use Rattle.std.proofs.Common.{◌≡◌, ℕ, ◌+◌, ◌-◌, ◌≤◌, List, [], ◌++◌, length, take, drop, refl, sym, ap, ◌∙◌, subst, arith, inl, inr, append_assoc, append-nil}
 use Rattle.std.specs.Prelude.{Option, Result, Ok, Err, OnErr, OnOk, ◌==◌, if◌then◌else◌}
 use Rattle.std.specs.Io.KnownBytes.{Appends}
+use Rattle.std.specs.List.{AllZip}
 use Rattle.std.proofs.lemmas.Bool.{eq-eqb}
 use Rattle.std.proofs.lemmas.List.{take_all}
 use Rattle.std.proofs.lemmas.Result.{on_err_weaker, on_ok_weaker}
@@ -12,7 +13,7 @@ use Rattle.heesch_grid.specs.declared.Cell.{Cell}
 use Rattle.heesch_grid.specs.Geometry.{Geometry}
 use Rattle.heesch_text.specs.Catalogue.{end_text}
 use Rattle.heesch_catalogue.specs.Rounds.{AreBegunTexts, AreTexts, BeginsOne, IsBegunText, IsItemText, IsWholeText, WritesOne}
-use Rattle.heesch_catalogue.proofs.ItemTexts.{no_texts, texts_both}
+use Rattle.heesch_catalogue.proofs.ItemTexts.{no_texts, texts_both, texts_of_shapes}
 
 -- what holds anyway holds at an error
 pub at_error : {T E P : Type 0} (r : Result T E) → P → OnErr r P
@@ -74,6 +75,20 @@ module _ {X : Type 0} (IsText : X → List ℕ → Type 0) (xs : List X) where
         (until, round_texts from until us vs le are are_too),
         subst (λ l. AppendsPrefix a c (us ++ l)) (append-nil vs) (appends_then_prefix a b c us vs [] first prefix),
       )
+
+-- the texts of items, which are of a round's shapes
+module _ {E : Type 0} (IsOf : List Cell → E → Type 0) (IsText : E → List ℕ → Type 0) (shapes : List (List Cell)) where
+  pub items_written : (items written : List E) (from until : ℕ) (a b c : Option (List ℕ)) → from ≤ until → written ≡ items → AllZip IsOf (take (until - from) (drop from shapes)) items
+      → WritesOne (AreTexts (IsItemText IsOf IsText) (take from shapes)) a b → WritesOne (AreTexts IsText written) b c → WritesOne (AreTexts (IsItemText IsOf IsText) (take until shapes)) a c
+  items_written items written from until a b c le same of_shapes first next =
+      round_written (IsItemText IsOf IsText) shapes from until a b c le first
+      (writes_weaker b c (texts_of_shapes IsOf IsText (take (until - from) (drop from shapes)) items of_shapes) (subst (λ es. WritesOne (AreTexts IsText es) b c) same next))
+
+  pub items_begun : (items written : List E) (from until : ℕ) (a b c : Option (List ℕ)) → from ≤ until → written ≡ items → AllZip IsOf (take (until - from) (drop from shapes)) items
+      → WritesOne (AreTexts (IsItemText IsOf IsText) (take from shapes)) a b → BeginsOne (AreTexts IsText written) b c → BeginsOne (AreBegunTexts (IsItemText IsOf IsText) shapes) a c
+  items_begun items written from until a b c le same of_shapes first next =
+      round_begun (IsItemText IsOf IsText) shapes from until a b c le first
+      (begins_weaker b c (texts_of_shapes IsOf IsText (take (until - from) (drop from shapes)) items of_shapes) (subst (λ es. BeginsOne (AreTexts IsText es) b c) same next))
 
 -- ---- head, rounds and end
 
