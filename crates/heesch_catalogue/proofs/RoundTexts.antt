@@ -116,7 +116,7 @@ module _ {E : Type 0} (head : List ℕ) (IsOf : Geometry → List Cell → E →
       )
 
   -- behind all rounds the end's text is begun
-  pub end_begun : (count : ℕ) (a b c d : Option (List ℕ)) → count ≡ length shapes → Appends a b head → WritesOne Written b c → AppendsPrefix c d (end_text count)
+  end_begun : (count : ℕ) (a b c d : Option (List ℕ)) → count ≡ length shapes → Appends a b head → WritesOne Written b c → AppendsPrefix c d (end_text count)
       → BeginsOne (IsBegunText head IsOf IsText g shapes) a d
   end_begun count a b c d is_count first (texts, are, next) prefix =
       let whole : take (length shapes) shapes ≡ shapes = take_all (length shapes) shapes (omega arith) in
@@ -131,7 +131,7 @@ module _ {E : Type 0} (head : List ℕ) (IsOf : Geometry → List Cell → E →
       )
 
   -- head, rounds and end make the whole
-  pub whole_written : (count : ℕ) (a b c d : Option (List ℕ)) → count ≡ length shapes → Appends a b head → WritesOne Written b c → Appends c d (end_text count)
+  whole_written : (count : ℕ) (a b c d : Option (List ℕ)) → count ≡ length shapes → Appends a b head → WritesOne Written b c → Appends c d (end_text count)
       → WritesOne (IsWholeText head IsOf IsText g shapes) a d
   whole_written count a b c d is_count first (texts, are, next) last =
       let end : List ℕ = end_text (length shapes) in (
@@ -139,3 +139,8 @@ module _ {E : Type 0} (head : List ℕ) (IsOf : Geometry → List Cell → E →
         (texts, are, refl),
         appends_both a c d (head ++ texts) end (appends_both a b c head texts first next) (subst (λ n. Appends c d (end_text n)) is_count last),
       )
+
+  -- behind all rounds the end's text makes the whole, and what is begun of it begins the whole
+  pub end_written : (count : ℕ) (a b c d : Option (List ℕ)) → count ≡ length shapes → Appends a b head → WritesOne Written b c
+      → (Appends c d (end_text count) → WritesOne (IsWholeText head IsOf IsText g shapes) a d) × (AppendsPrefix c d (end_text count) → BeginsOne (IsBegunText head IsOf IsText g shapes) a d)
+  end_written count a b c d is_count first next = (whole_written count a b c d is_count first next, end_begun count a b c d is_count first next)
