@@ -1,5 +1,5 @@
 mod OneClasses
-mod Canonical
+pub mod Canonical
 mod Plain
 mod Spelled
 mod Proofs
