@@ -4,7 +4,7 @@ mod Plain
 mod Spelled
 mod Proofs
 mod Listed
-mod Bounded
+pub mod Bounded
 mod Parts
 mod Ends
 mod Equal

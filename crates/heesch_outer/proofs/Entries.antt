@@ -36,19 +36,12 @@ use Rattle.heesch_near.proofs.Coronas.{coronas_are_near}
 use Rattle.heesch_near.proofs.Holes.{holes_are_near}
 use Rattle.heesch_audit.specs.Near.{IsNearIso, AreNearLayers, IsNearStep, IsNearProof, IsNearEntry}
 use Rattle.heesch_audit.specs.Shapes.{AreCanonical}
+use Rattle.heesch_audit.proofs.Bounded.{search_form}
 use Rattle.heesch_outer.specs.Found.{IsFound, refuted_entry, spent_entry, open_entry, free_entry, with_levels}
 
 -- ---- a true entry
 
 module _ (g : Geometry) (limits : Limits) (cells : List Cell) (free : Layers) (proof : Proof) (bare : Bare) (wider : Option Layers) (triples : List TripleProof) where
-  search_form : (verdict : Verdict) → FormFits g limits cells verdict (Search free (WallRefuted proof) bare wider triples) → HasNoPlain g limits cells × FitsVerdict limits (WallRefuted proof) bare wider verdict
-  search_form (Tiles kind domain classes) f = f
-  search_form (Heesch h m) f = f
-  search_form (Levels h) f = f
-  search_form (Holes h) f = f
-  search_form (Turns h phase at) f = f
-  search_form (Size h phase at) f = f
-
   level_of : (verdict : Verdict) → FitsVerdict limits (WallRefuted proof) bare wider verdict → first_number verdict + 1 ≤ limits.levels
   level_of (Tiles kind domain classes) f = absurd f
   level_of (Heesch h m) f = let low = f.0 in let high = f.1 in omega (arith, low, high)
@@ -62,7 +55,7 @@ module _ (g : Geometry) (limits : Limits) (cells : List Cell) (free : Layers) (p
   -- the layers, of which there are as many as the verdict says
   pub found_of : (verdict : Verdict) → AreCanonical g cells → FormFits g limits cells verdict (Search free (WallRefuted proof) bare wider triples) → FreeHolds g cells verdict (Search free (WallRefuted proof) bare wider triples) → IsFound g limits cells free.layers
   found_of verdict shape form holds =
-      let fits = search_form verdict form in
+      let fits = (search_form g limits cells verdict free (WallRefuted proof) bare wider triples).0 form in
       let level = level_of verdict fits.1 in
       let count = holds.0 in
       record {
