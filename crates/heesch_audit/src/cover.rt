@@ -40,8 +40,7 @@ fn is_cover<G: Grid>(alloc: Global, shape: &Shape<G>, tiling: &Tiling) -> Result
     }
     match check_cover(alloc, shape, tiling)? {
         Cover::Exact => Ok(true),
-        Cover::Doubled { .. } => Ok(false),
-        Cover::Missed { .. } => Ok(false),
+        _ => Ok(false),
     }
 }
 
