@@ -20,6 +20,7 @@ mod walls;
 pub use auditing::{EntryAnswer, audit};
 pub use near::is_near;
 pub use split::{most_portions, portion_holds};
+pub use walls::first_number;
 
 #[cfg(test)]
 mod tests;

@@ -20,7 +20,7 @@ use std::alloc::Global;
 use std::thread::Threads;
 
 /// The number of hole-free coronas of a verdict; a tiling has none.
-pub(crate) fn first_number(verdict: Verdict) -> u32
+pub fn first_number(verdict: Verdict) -> u32
     ensures { result ≡ first_number verdict }
 {
     match verdict {
