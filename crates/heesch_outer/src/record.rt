@@ -47,8 +47,8 @@ fn append_answer(h: u32, answer: &OuterAnswer, out: &mut Vec<u8>) -> Result<(), 
     }
 }
 
-/// Appends what is known of the outer number of the entry's shape: `hh tiles`; `hh undecided`; `hc H` and `hh K` with K
-/// = H + 1 and a line for each layer; `hc H`, `hh H` and the lines of the refutation; or `hc H`, `hh spent` and the
+/// Appends what is known of the outer number of the entry's shape: `hh tiles`; `hh undecided`; `hc H` and `hh K` with
+/// K = H + 1 and a line for each layer; `hc H`, `hh H` and the lines of the refutation; or `hc H`, `hh spent` and the
 /// lines of the proof.
 ///
 /// Errors: at `NoMemory` the text is as it was before. Its cost is the length of what it appends.
