@@ -57,8 +57,8 @@ fn search_outer<G: Grid>(
 ///
 /// Where the answer is More the outer number is h + 1, and where it is Same it is h.
 ///
-/// Condition: the limits lie in their ranges, and the entry is true under them. The cost is that of `level` at level h
-/// + 1.
+/// Condition: the limits lie in their ranges, and the entry is true under them. The cost is that of `level` at level
+/// h + 1.
 pub fn outer<G: Grid>(alloc: Global, entry: &Entry, limits: Limits) -> Result<OuterAnswer, NoMemory>
     requires limits { AreLimits limits }
     requires entry { IsTrueEntry G.geometry limits entry.now }

@@ -131,8 +131,8 @@ fn is_searched<G: Grid, T: Threads + Sync>(
 
 /// Whether the answer is one that is allowed for the entry: Tiles exactly for a tiling, Unknown exactly where the
 /// Heesch number isn't known; the wall's own proof where that has no cut; else h + 1 outer coronas, spelled as the
-/// layers of a true entry, or a proof with lawful cuts of the levels 1 to h that refutes the corona formula of level h
-/// + 1, or is spent for the limit on turns over it, where h is the entry's number.
+/// layers of a true entry, or a proof with lawful cuts of the levels 1 to h that refutes the corona formula of level
+/// h + 1, or is spent for the limit on turns over it, where h is the entry's number.
 ///
 /// Condition: the limits lie in their ranges, the entry is true under them, and the answer's translations and the cells
 /// of its cuts' holes lie within 100,000 of 0. Its turns and numbers may be any.
