@@ -4,6 +4,7 @@
 mod auditing;
 mod coronas;
 mod cover;
+mod ends;
 mod fits;
 mod form;
 mod formula;
@@ -18,6 +19,7 @@ mod triples;
 mod walls;
 
 pub use auditing::{EntryAnswer, audit};
+pub use ends::ProofEnd;
 pub use near::is_near;
 pub use split::{most_portions, portion_holds};
 pub use walls::first_number;

@@ -9,6 +9,7 @@ ghost use Rattle.heesch_audit.specs.Shapes.{IsCanonicalShape};
 ghost use Rattle.heesch_audit.specs.Walls.{IsSearchFailure};
 
 use crate::coronas::is_open;
+use crate::ends::ProofEnd;
 use crate::fits::is_same;
 use crate::formula::{LevelFormula, level_formula};
 use crate::logs::has_no_cut;
@@ -60,8 +61,8 @@ fn wall_shows<G: Grid, R: Threads + Sync>(
 {
     match wall {
         Wall::Absent => Ok(true),
-        Wall::Refuted { proof } => formula.is_refuted_by(rt, alloc, shape, proof),
-        Wall::Spent { proof } => formula.is_spent_by(rt, alloc, shape, proof),
+        Wall::Refuted { proof } => formula.is_ended_by(rt, alloc, shape, ProofEnd::Refuted, proof),
+        Wall::Spent { proof } => formula.is_ended_by(rt, alloc, shape, ProofEnd::Spent, proof),
         Wall::Size => Ok(formula.is_too_large(shape)),
     }
 }
@@ -105,13 +106,13 @@ fn bare_shows<G: Grid, R: Threads + Sync>(
             if !has_no_cut(proof) {
                 return Ok(false);
             }
-            formula.is_refuted_by(rt, alloc, shape, proof)
+            formula.is_ended_by(rt, alloc, shape, ProofEnd::Refuted, proof)
         }
         Bare::Spent { proof } => {
             if !has_no_cut(proof) {
                 return Ok(false);
             }
-            formula.is_spent_by(rt, alloc, shape, proof)
+            formula.is_ended_by(rt, alloc, shape, ProofEnd::Spent, proof)
         }
         Bare::Size => Ok(formula.is_too_large(shape)),
     }

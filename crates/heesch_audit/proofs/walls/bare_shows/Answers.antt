@@ -14,8 +14,8 @@ returns-else-not-has_no_cut g c =
     let proof = c.in-Refuted.proof in
     let yes : c.has_no_cut.result ≡ true = search rules in
     let none = c.has_no_cut.ensures.0 yes in
-    subst (λ (b : Bare). IfOk c.is_refuted_by.result (λ (yes : Bool). IsTrue yes ↔ BareShows geometry f.limits shape f.level b)) (sym c.in-Refuted.is)
-    (if_ok_more (λ (yes : Bool). IsTrue yes ↔ RefutesCoronas f.limits.version geometry shape f.level f.limits.size proof) (λ (yes : Bool). IsTrue yes ↔ (RefutesCoronas f.limits.version geometry shape f.level f.limits.size proof × HasNoCut proof)) (λ b h. ((λ t. (h.0 t, none)), (λ s. h.1 s.0))) c.is_refuted_by.result c.is_refuted_by.ensures)
+    subst (λ (b : Bare). IfOk c.is_ended_by.result (λ (yes : Bool). IsTrue yes ↔ BareShows geometry f.limits shape f.level b)) (sym c.in-Refuted.is)
+    (if_ok_more (λ (yes : Bool). IsTrue yes ↔ RefutesCoronas f.limits.version geometry shape f.level f.limits.size proof) (λ (yes : Bool). IsTrue yes ↔ (RefutesCoronas f.limits.version geometry shape f.level f.limits.size proof × HasNoCut proof)) (λ b h. ((λ t. (h.0 t, none)), (λ s. h.1 s.0))) c.is_ended_by.result c.is_ended_by.ensures)
 
 pub returns-else-not-has_no_cut-2 : goal.returns-else-not-has_no_cut-2
 returns-else-not-has_no_cut-2 g c =
@@ -25,5 +25,5 @@ returns-else-not-has_no_cut-2 g c =
     let proof = c.in-Spent.proof in
     let yes : c.has_no_cut-in-Spent.result ≡ true = search rules in
     let none = c.has_no_cut-in-Spent.ensures.0 yes in
-    subst (λ (b : Bare). IfOk c.is_spent_by.result (λ (yes : Bool). IsTrue yes ↔ BareShows geometry f.limits shape f.level b)) (sym c.in-Spent.is)
-    (if_ok_more (λ (yes : Bool). IsTrue yes ↔ IsSpentOnCoronas f.limits.version geometry shape f.level f.limits.turns f.limits.size proof) (λ (yes : Bool). IsTrue yes ↔ (IsSpentOnCoronas f.limits.version geometry shape f.level f.limits.turns f.limits.size proof × HasNoCut proof)) (λ b h. ((λ t. (h.0 t, none)), (λ s. h.1 s.0))) c.is_spent_by.result c.is_spent_by.ensures)
+    subst (λ (b : Bare). IfOk c.is_ended_by-in-Spent.result (λ (yes : Bool). IsTrue yes ↔ BareShows geometry f.limits shape f.level b)) (sym c.in-Spent.is)
+    (if_ok_more (λ (yes : Bool). IsTrue yes ↔ IsSpentOnCoronas f.limits.version geometry shape f.level f.limits.turns f.limits.size proof) (λ (yes : Bool). IsTrue yes ↔ (IsSpentOnCoronas f.limits.version geometry shape f.level f.limits.turns f.limits.size proof × HasNoCut proof)) (λ b h. ((λ t. (h.0 t, none)), (λ s. h.1 s.0))) c.is_ended_by-in-Spent.result c.is_ended_by-in-Spent.ensures)
