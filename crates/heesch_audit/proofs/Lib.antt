@@ -5,7 +5,7 @@ mod Spelled
 mod Proofs
 mod Listed
 pub mod Bounded
-mod Parts
+pub mod Parts
 mod Ends
 mod Equal
 mod Covers
