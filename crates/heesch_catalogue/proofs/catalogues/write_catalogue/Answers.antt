@@ -10,16 +10,16 @@ laws : (g : given.Over) → IsGrid g.G.Grid.geometry
 laws g = (g.met.G.Grid g.world.𝓛 g.world.𝓜 g.world.𝓡 ((λ s x. x), (λ x. x), (λ x. x), λ x. x)).laws
 
 pub write_texts-requires-clause-accepted : goal.write_texts-requires-clause-accepted
-write_texts-requires-clause-accepted g c κs within = limits_pass c.args.header.now.limits c.requires.limits
+write_texts-requires-clause-accepted g c κs within = rw c.texts_of-texts.ensures (limits_pass c.args.header.now.limits c.requires.limits)
 
 pub returns-clause-ok : goal.returns-clause-ok
 returns-clause-ok g c =
     writes_as c.write_texts.result (g.W.Sink.held c.args.sink.now) (g.W.Sink.held c.write_texts.new.sink)
     (λ output. whole_is_catalogue g.G.Grid.geometry (laws g) c.args.header.now c.requires.limits c.deref.result.now (c.deref.ensures.value ∙ c.in_ok-head.ensures) c.args.shapes.now output c.requires.canonical)
-    c.write_texts.ensures.ok
+    (rw c.texts_of-texts.ensures at c.write_texts.ensures.ok)
 
 pub returns-clause-err : goal.returns-clause-err
 returns-clause-err g c =
     begins_as c.write_texts.result (g.W.Sink.held c.args.sink.now) (g.W.Sink.held c.write_texts.new.sink)
     (λ output. begun_is_catalogue g.G.Grid.geometry (laws g) c.args.header.now c.requires.limits c.deref.result.now (c.deref.ensures.value ∙ c.in_ok-head.ensures) c.args.shapes.now output c.requires.canonical)
-    c.write_texts.ensures.err
+    (rw c.texts_of-texts.ensures at c.write_texts.ensures.err)
