@@ -7,6 +7,8 @@ use Rattle.heesch_cnf.specs.declared.log.Log.{Log}
 use Rattle.heesch_cnf.specs.Lines.{Refutes, IsSpent}
 use Rattle.heesch_cert.specs.declared.limits.Limits.{Limits}
 use Rattle.heesch_cert.specs.declared.proof.Proof.{Proof}
+use Rattle.heesch_cert.specs.declared.entry.Bare.{Bare}
+use Rattle.heesch_cert.specs.declared.entry.Bare.TheVariants.{Refuted as BareRefuted, Spent as BareSpent}
 use Rattle.heesch_cert.specs.Proofs.{RefutesCoronas, IsSpentOnCoronas}
 use Rattle.heesch_audit.specs.declared.ends.ProofEnd.{ProofEnd}
 use Rattle.heesch_audit.specs.declared.ends.ProofEnd.TheVariants.{Refuted, Spent}
@@ -20,6 +22,11 @@ LogEnds Spent vars clauses turns log = IsSpent vars clauses turns log
 abbrev pub IsEndOf : Log → ProofEnd → Type 0
 IsEndOf log Refuted = (hints : List ℕ) × (log.last ≡ Some hints)
 IsEndOf log Spent = log.last ≡ None
+
+-- the search with holes allowed ended so with the proof
+abbrev pub BareEnds : ProofEnd → Proof → Bare → Type 0
+BareEnds Refuted proof bare = bare ≡ BareRefuted proof
+BareEnds Spent proof bare = bare ≡ BareSpent proof
 
 -- the proof refutes E(S, j) under the limits, or is spent over it for their turns
 abbrev pub EndsCoronas : ProofEnd → Geometry → Limits → List Cell → ℕ → Proof → Type 0

@@ -9,7 +9,7 @@ ghost use Rattle.heesch_audit.specs.Shapes.{IsCanonicalShape};
 ghost use Rattle.heesch_audit.specs.Walls.{IsSearchFailure};
 
 use crate::coronas::is_open;
-use crate::ends::ProofEnd;
+use crate::ends::{ProofEnd, ended_of};
 use crate::fits::is_same;
 use crate::formula::{LevelFormula, level_formula};
 use crate::logs::has_no_cut;
@@ -85,39 +85,6 @@ fn fits_same(wall: &Wall, bare: &Bare) -> bool
     }
 }
 
-/// Whether the search with holes allowed ended as is written, over the formula of its level. Its proofs have no cut.
-fn bare_shows<G: Grid, R: Threads + Sync>(
-    rt: &R,
-    alloc: Global,
-    shape: &Shape<G>,
-    formula: &LevelFormula<G>,
-    bare: &Bare,
-) -> Result<bool, NoMemory>
-    requires shape { IsCanonicalShape G.geometry shape.now }
-    requires formula { IsLevelFormula G.geometry formula.now.limits shape.now formula.now.level formula.now.encoded }
-    requires near { IsNearBare bare.now }
-    ensures { IfOk result (λ yes. IsTrue yes ↔ BareShows G.geometry formula.now.limits shape.now formula.now.level bare.now) }
-{
-    match bare {
-        Bare::Absent => Ok(true),
-        Bare::Same => Ok(true),
-        Bare::Open => Ok(true),
-        Bare::Refuted { proof } => {
-            if !has_no_cut(proof) {
-                return Ok(false);
-            }
-            formula.is_ended_by(rt, alloc, shape, ProofEnd::Refuted, proof)
-        }
-        Bare::Spent { proof } => {
-            if !has_no_cut(proof) {
-                return Ok(false);
-            }
-            formula.is_ended_by(rt, alloc, shape, ProofEnd::Spent, proof)
-        }
-        Bare::Size => Ok(formula.is_too_large(shape)),
-    }
-}
-
 /// Whether the search is one that a formula is needed for.
 fn asks_formula(bare: &Bare) -> bool
     ensures { IsTrue result ↔ AsksFormula bare.now }
@@ -128,33 +95,8 @@ fn asks_formula(bare: &Bare) -> bool
     }
 }
 
-/// Whether the search with holes allowed ended at level m as is written. The formula of another level, or of m, is at
-/// hand.
-fn bare_shows_at<G: Grid, R: Threads + Sync>(
-    rt: &R,
-    alloc: Global,
-    shape: &Shape<G>,
-    at_hand: LevelFormula<G>,
-    m: u32,
-    bare: &Bare,
-) -> Result<bool, NoMemory>
-    requires shape { IsCanonicalShape G.geometry shape.now }
-    requires limits { AreLimits at_hand.limits }
-    requires at_hand { IsLevelFormula G.geometry at_hand.limits shape.now at_hand.level at_hand.encoded }
-    requires level { AsksFormula bare.now → (1 ≤ m) × (m ≤ 6) }
-    requires near { IsNearBare bare.now }
-    ensures { IfOk result (λ yes. IsTrue yes ↔ BareShows G.geometry at_hand.limits shape.now m bare.now) }
-{
-    if !asks_formula(bare) {
-        return Ok(true);
-    }
-    let limits = at_hand.limits;
-    let formula = level_formula(alloc, shape, limits, m, Some(at_hand))?;
-    bare_shows(rt, alloc, shape, &formula, bare)
-}
-
-/// Whether the search with holes allowed ended at level m as is written, and is the same as that with holes forbidden
-/// exactly where a refutation has no cut.
+/// Whether the search with holes allowed ended at level m as is written, its proofs have no cut, and it is the same as
+/// that with holes forbidden exactly where a refutation has no cut. The formula of another level, or of m, is at hand.
 fn bare_holds<G: Grid, R: Threads + Sync>(
     rt: &R,
     alloc: Global,
@@ -174,7 +116,18 @@ fn bare_holds<G: Grid, R: Threads + Sync>(
     if !fits_same(wall, bare) {
         return Ok(false);
     }
-    bare_shows_at(rt, alloc, shape, at_hand, m, bare)
+    if !asks_formula(bare) {
+        return Ok(true);
+    }
+    let limits = at_hand.limits;
+    let formula = level_formula(alloc, shape, limits, m, Some(at_hand))?;
+    let Some(ended) = ended_of(bare) else {
+        return Ok(formula.is_too_large(shape));
+    };
+    if !has_no_cut(ended.proof) {
+        return Ok(false);
+    }
+    formula.is_ended_by(rt, alloc, shape, ended.end, ended.proof)
 }
 
 /// The first of the parts 6 to 8 that fails, the form being right: the wall, the open coronas, the search behind the
