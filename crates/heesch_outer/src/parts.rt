@@ -147,13 +147,8 @@ fn is_inner_free<G: Grid, T: Threads + Sync>(
         return Ok(true);
     }
     let entry = free_entry(alloc, cells, inner)?;
-    part_holds::<G, T>(
-        rt,
-        alloc,
-        &entry,
-        with_levels(limits, inner.len() as u32),
-        5,
-    )
+    let limits = with_levels(limits, inner.len() as u32);
+    part_holds::<G, T>(rt, alloc, &entry, limits, 5)
 }
 
 /// Whether the layers are coronas, holes allowed, one more than were found hole-free, behind a wall that the proof
@@ -175,13 +170,8 @@ fn is_wider<G: Grid, T: Threads + Sync>(
     ensures { IfOk result (λ yes. IsTrue yes ↔ SpellCoronas G.geometry cells.now false layers.now) }
 {
     let entry = open_entry(alloc, cells, free, wall, layers)?;
-    part_holds::<G, T>(
-        rt,
-        alloc,
-        &entry,
-        with_levels(limits, layers.len() as u32),
-        7,
-    )
+    let limits = with_levels(limits, layers.len() as u32);
+    part_holds::<G, T>(rt, alloc, &entry, limits, 7)
 }
 
 /// Whether the layers are outer coronas, one more than were found hole-free, behind a wall that the proof refutes.
