@@ -1,12 +1,12 @@
-use Rattle.std.proofs.Common.{Bool, All, subst, rules}
-use Rattle.std.specs.Prelude.{◌↔◌, IsTrue, Option, MatchOption}
+use Rattle.std.proofs.Common.{All, subst, rules}
+use Rattle.std.specs.Prelude.{Option, MatchOption}
+use Rattle.std.proofs.lemmas.Result.{IfOk-weaker}
 use Rattle.heesch_cnf.specs.declared.log.Log.{Log}
 use Rattle.heesch_cert.specs.Proofs.{IsLawfulStep, IsTooLarge}
-use Rattle.heesch_audit.specs.Ends.{EndsCoronas, LogEnds}
 use Rattle.heesch_audit.specs.Formulas.{IsFormulaAt}
 use Rattle.heesch_audit.specs.Logs.{IsLogOf}
 use Rattle.heesch_audit.proofs.Equal.{refused, through}
-use Rattle.heesch_audit.proofs.Proofs.{ends_coronas, if_ok_more, too_large_not_ended, unlawful_not_ended}
+use Rattle.heesch_audit.proofs.Proofs.{ends_coronas, too_large_not_ended, unlawful_not_ended}
 use Rattle.heesch_audit.proofs.formula.LevelFormula.is_ended_by.Goals as goal
 
 pub returns-in_default : goal.returns-in_default
@@ -39,4 +39,4 @@ returns g c =
     let at : IsFormulaAt self.limits.version geometry shape self.level self.limits.size e.universe e.formula = search rules in
     let is = subst (λ (o : Option Log). MatchOption o (¬ All (IsLawfulStep geometry shape e.universe.level e.universe.vars) proof.steps) (IsLogOf geometry shape e.universe.level e.universe.vars proof)) c.in-Some-2.is c.in_ok-log.ensures in
     let both = ends_coronas self.limits geometry g.met.G.Grid.laws shape c.requires.shape.is_shape.polyform self.level e.universe e.formula at proof log is c.args.end in
-    if_ok_more (λ (yes : Bool). IsTrue yes ↔ LogEnds c.args.end e.formula.vars e.formula.clauses self.limits.turns log) (λ (yes : Bool). IsTrue yes ↔ EndsCoronas c.args.end geometry self.limits shape self.level proof) (λ yes h. through h both) c.is_ended.result c.is_ended.ensures
+    IfOk-weaker c.is_ended.result _ _ (λ yes h. through h both) c.is_ended.ensures
