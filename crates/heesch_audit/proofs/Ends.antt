@@ -9,8 +9,8 @@ use Rattle.heesch_cert.specs.declared.entry.Bare.TheVariants.{Absent as NoBare, 
 use Rattle.heesch_cert.specs.TrueEntry.{BareShows}
 use Rattle.heesch_cert.specs.declared.proof.Proof.{Proof}
 use Rattle.heesch_cert.specs.Proofs.{HasNoCut}
-use Rattle.heesch_audit.specs.declared.ends.ProofEnd.{ProofEnd}
-use Rattle.heesch_audit.specs.declared.ends.ProofEnd.TheVariants.{Refuted, Spent}
+use Rattle.heesch_audit.specs.declared.proof_end.ProofEnd.{ProofEnd}
+use Rattle.heesch_audit.specs.declared.proof_end.ProofEnd.TheVariants.{Refuted, Spent}
 use Rattle.heesch_audit.specs.Ends.{BareEnds, EndsCoronas}
 use Rattle.heesch_audit.specs.Formulas.{AsksFormula}
 use Rattle.heesch_audit.specs.Near.{IsNearBare, IsNearProof}

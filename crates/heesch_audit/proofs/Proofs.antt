@@ -20,8 +20,8 @@ use Rattle.heesch_cert.specs.Proofs.{HasNoCut, IsLawfulStep, IsTooLarge, Settles
 use Rattle.heesch_cert.proofs.Exactly.{refutes_exactly, spent_exactly, too_large_exactly, refutes_torus_exactly, spent_torus_exactly}
 use Rattle.heesch_place.specs.Universes.{Levels}
 use Rattle.heesch_torus.specs.Formula.{IsFormulaOf}
-use Rattle.heesch_audit.specs.declared.ends.ProofEnd.{ProofEnd}
-use Rattle.heesch_audit.specs.declared.ends.ProofEnd.TheVariants.{Refuted, Spent}
+use Rattle.heesch_audit.specs.declared.proof_end.ProofEnd.{ProofEnd}
+use Rattle.heesch_audit.specs.declared.proof_end.ProofEnd.TheVariants.{Refuted, Spent}
 use Rattle.heesch_audit.specs.Ends.{EndsCoronas, IsEndOf, LogEnds}
 use Rattle.heesch_audit.specs.Formulas.{IsFormulaAt}
 use Rattle.heesch_audit.specs.Logs.{IsLogOf}

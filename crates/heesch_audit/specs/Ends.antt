@@ -10,8 +10,8 @@ use Rattle.heesch_cert.specs.declared.proof.Proof.{Proof}
 use Rattle.heesch_cert.specs.declared.entry.Bare.{Bare}
 use Rattle.heesch_cert.specs.declared.entry.Bare.TheVariants.{Refuted as BareRefuted, Spent as BareSpent}
 use Rattle.heesch_cert.specs.Proofs.{RefutesCoronas, IsSpentOnCoronas}
-use Rattle.heesch_audit.specs.declared.ends.ProofEnd.{ProofEnd}
-use Rattle.heesch_audit.specs.declared.ends.ProofEnd.TheVariants.{Refuted, Spent}
+use Rattle.heesch_audit.specs.declared.proof_end.ProofEnd.{ProofEnd}
+use Rattle.heesch_audit.specs.declared.proof_end.ProofEnd.TheVariants.{Refuted, Spent}
 
 -- the log refutes the clauses, or is spent for so many turns over them
 abbrev pub LogEnds : ProofEnd → (vars : ℕ) → List (List Lit) → (turns : ℕ) → Log → Type 0

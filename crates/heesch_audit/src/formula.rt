@@ -7,8 +7,8 @@ ghost use Rattle.heesch_audit.specs.Formulas.{IsLevelFormula};
 ghost use Rattle.heesch_audit.specs.Near.{IsNearProof};
 ghost use Rattle.heesch_audit.specs.Shapes.{IsCanonicalShape};
 
-use crate::ends::ProofEnd;
 use crate::logs::{is_ended, lawful_log};
+use crate::proof_end::ProofEnd;
 use heesch_cert::{Limits, Proof};
 use heesch_encode::{EncodeStop, FlatEncoded, encode_flat};
 use heesch_grid::Grid;

@@ -4,13 +4,13 @@
 mod auditing;
 mod coronas;
 mod cover;
-mod ends;
 mod fits;
 mod form;
 mod formula;
 pub mod laws;
 mod logs;
 mod near;
+mod proof_end;
 mod proof_log;
 mod shaped;
 mod spelling;
@@ -19,8 +19,8 @@ mod triples;
 mod walls;
 
 pub use auditing::{EntryAnswer, audit};
-pub use ends::ProofEnd;
 pub use near::is_near;
+pub use proof_end::ProofEnd;
 pub use split::{most_portions, portion_holds};
 pub use walls::first_number;
 

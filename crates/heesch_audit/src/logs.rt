@@ -7,7 +7,7 @@ ghost use Rattle.heesch_audit.specs.Ends.{IsEndOf, LogEnds};
 ghost use Rattle.heesch_audit.specs.Logs.{given_clause, IsLogOf};
 ghost use Rattle.heesch_audit.specs.Near.{IsNearProof, IsNearStep};
 
-use crate::ends::ProofEnd;
+use crate::proof_end::ProofEnd;
 use crate::proof_log::ProofLog;
 use heesch_cert::{Proof, Step};
 use heesch_cnf::{FlatFormula, Lits};

@@ -9,10 +9,10 @@ ghost use Rattle.heesch_audit.specs.Shapes.{IsCanonicalShape};
 ghost use Rattle.heesch_audit.specs.Walls.{IsSearchFailure};
 
 use crate::coronas::is_open;
-use crate::ends::{ProofEnd, ended_of};
 use crate::fits::is_same;
 use crate::formula::{LevelFormula, level_formula};
 use crate::logs::has_no_cut;
+use crate::proof_end::{ProofEnd, ended_of};
 use heesch_cert::{Bare, Evidence, Limits, Verdict, Wall};
 use heesch_grid::Grid;
 use heesch_io::NoMemory;

@@ -37,8 +37,8 @@ use Rattle.heesch_near.proofs.Holes.{holes_are_near}
 use Rattle.heesch_audit.specs.Near.{IsNearIso, AreNearLayers, IsNearStep, IsNearProof, IsNearEntry}
 use Rattle.heesch_audit.specs.Shapes.{AreCanonical}
 use Rattle.heesch_audit.proofs.Bounded.{search_form}
-use Rattle.heesch_audit.specs.declared.ends.ProofEnd.{ProofEnd}
-use Rattle.heesch_audit.specs.declared.ends.ProofEnd.TheVariants.{Refuted, Spent}
+use Rattle.heesch_audit.specs.declared.proof_end.ProofEnd.{ProofEnd}
+use Rattle.heesch_audit.specs.declared.proof_end.ProofEnd.TheVariants.{Refuted, Spent}
 use Rattle.heesch_audit.proofs.Parts.{before_wall, before_wider}
 use Rattle.heesch_levels.specs.UpTo.{HasCutsUpTo}
 use Rattle.heesch_outer.specs.Found.{IsFound, ended_entry, refuted_entry, spent_entry, open_entry, free_entry, with_levels}

@@ -17,8 +17,8 @@ use Rattle.heesch_cert.specs.declared.entry.Bare.TheVariants.{Absent as NoBare, 
 use Rattle.heesch_cert.specs.declared.entry.Evidence.TheVariants.{Search}
 use Rattle.heesch_cert.specs.declared.entry.Entry.{Entry}
 use Rattle.heesch_cert.specs.TrueEntry.{HasNoPlain, Spells}
-use Rattle.heesch_audit.specs.declared.ends.ProofEnd.{ProofEnd}
-use Rattle.heesch_audit.specs.declared.ends.ProofEnd.TheVariants.{Refuted as EndRefuted, Spent as EndSpent}
+use Rattle.heesch_audit.specs.declared.proof_end.ProofEnd.{ProofEnd}
+use Rattle.heesch_audit.specs.declared.proof_end.ProofEnd.TheVariants.{Refuted as EndRefuted, Spent as EndSpent}
 use Rattle.heesch_audit.specs.Shapes.{AreCanonical}
 use Rattle.heesch_audit.specs.Near.{AreNearLayers, IsNearProof}
 use Rattle.heesch_outer.specs.declared.answer.OuterAnswer.{OuterAnswer}

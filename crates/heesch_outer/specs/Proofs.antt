@@ -6,8 +6,8 @@ use Rattle.heesch_cert.specs.declared.limits.Limits.{Limits}
 use Rattle.heesch_cert.specs.declared.proof.Proof.{Proof}
 use Rattle.heesch_cert.specs.Proofs.{RefutesCoronas, IsSpentOnCoronas}
 use Rattle.heesch_levels.specs.UpTo.{HasCutsUpTo}
-use Rattle.heesch_audit.specs.declared.ends.ProofEnd.{ProofEnd}
-use Rattle.heesch_audit.specs.declared.ends.ProofEnd.TheVariants.{Refuted, Spent}
+use Rattle.heesch_audit.specs.declared.proof_end.ProofEnd.{ProofEnd}
+use Rattle.heesch_audit.specs.declared.proof_end.ProofEnd.TheVariants.{Refuted, Spent}
 
 -- the proof is outer for h under these limits, and refutes E(S, h + 1)
 pub record RefutesOuter (g : Geometry) (limits : Limits) (shape : List Cell) (h : ℕ) (proof : Proof) : Type 0 where
