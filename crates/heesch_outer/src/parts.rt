@@ -116,7 +116,15 @@ fn open_entry(
     let proof = copy_proof(alloc, wall)?;
     let wall = Wall::Refuted { proof };
     let wider = copy_layers(alloc, wider)?;
-    search_entry(alloc, cells, free, Verdict::Holes { h }, wall, Bare::Open, Some(wider))
+    search_entry(
+        alloc,
+        cells,
+        free,
+        Verdict::Holes { h },
+        wall,
+        Bare::Open,
+        Some(wider),
+    )
 }
 
 /// The entry of so many layers, which are as many as are sought.
@@ -125,7 +133,15 @@ fn free_entry(alloc: Global, cells: &[Cell], free: &[Isos]) -> Result<Entry, NoM
     ensures { IfOk result (λ entry. entry ≡ free_entry cells.now free.now) }
 {
     let h = free.len() as u32;
-    search_entry(alloc, cells, free, Verdict::Levels { h }, Wall::Absent, Bare::Absent, None)
+    search_entry(
+        alloc,
+        cells,
+        free,
+        Verdict::Levels { h },
+        Wall::Absent,
+        Bare::Absent,
+        None,
+    )
 }
 
 /// Whether the layers without the outermost are hole-free coronas.

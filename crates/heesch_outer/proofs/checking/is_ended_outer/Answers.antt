@@ -4,7 +4,6 @@ use Rattle.std.proofs.lemmas.Result.{IfOk-weaker}
 use Rattle.heesch_audit.specs.Near.{IsNearEntry}
 use Rattle.heesch_cert.specs.declared.entry.Entry.{Entry}
 use Rattle.heesch_cert.specs.Parts.{PartHolds}
-use Rattle.heesch_levels.specs.UpTo.{HasCutsUpTo}
 use Rattle.heesch_outer.proofs.Entries.{before_ended, cells_near, ended_outer, free_near, near_ended, not_outer}
 use Rattle.heesch_outer.proofs.checking.is_ended_outer.Goals as goal
 
@@ -13,7 +12,7 @@ returns-then-not-has_cuts_up_to g c =
     let a = c.args in
     let fails : c.has_cuts_up_to.result ≡ false = search rules in
     let never = not_outer g.G.Grid.geometry a.limits a.cells.now a.free.now a.proof.now a.end
-    (λ cuts. true≢false (sym (c.has_cuts_up_to.ensures.1 (subst (λ n. HasCutsUpTo n a.proof.now) (sym c.len.ensures) cuts)) ∙ fails)) in
+    (λ cuts. true≢false (sym (c.has_cuts_up_to.ensures.1 cuts) ∙ fails)) in
     ((λ t. absurd (true≢false (sym t))), (λ h. absurd (never h)))
 
 pub part_holds-requires-clause-near : goal.part_holds-requires-clause-near
@@ -35,7 +34,6 @@ returns g c =
     let a = c.args in
     let geometry = g.G.Grid.geometry in
     let holds : c.has_cuts_up_to.result ≡ true = search rules in
-    let cuts = subst (λ n. HasCutsUpTo n a.proof.now) c.len.ensures (c.has_cuts_up_to.ensures.0 holds) in
-    let outer = ended_outer geometry a.limits a.cells.now a.free.now a.proof.now a.end cuts in
+    let outer = ended_outer geometry a.limits a.cells.now a.free.now a.proof.now a.end (c.has_cuts_up_to.ensures.0 holds) in
     IfOk-weaker c.part_holds.result _ _ (λ yes h. ((λ t. outer.0 (h.0 t)), (λ x. h.1 (outer.1 x))))
     (subst (λ entry. IfOk c.part_holds.result (λ yes. IsTrue yes ↔ PartHolds geometry a.limits entry 6)) c.in_ok-entry.ensures c.part_holds.ensures)
