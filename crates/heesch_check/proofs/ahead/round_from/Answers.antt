@@ -6,13 +6,11 @@ use Rattle.heesch_check.specs.declared.ahead.Round.{Round}
 use Rattle.heesch_check.specs.declared.reading.Reading.{Reading}
 use Rattle.heesch_check.specs.declared.reading.Reading.TheVariants as readings
 use Rattle.heesch_check.specs.Judging.{AreAuditsBehind}
-use Rattle.heesch_check.specs.Reading.{Gathers, StopsInTime}
+use Rattle.heesch_check.specs.Reading.{Gathers}
 use Rattle.heesch_check.proofs.Audits.{audits_together}
 use Rattle.heesch_check.proofs.Behind.{gathers_behind, gathers_on, may_go_on, stops_before, stops_beside, stops_on}
 use Rattle.heesch_check.proofs.Readings.{batch_fits}
-use Rattle.heesch_check.proofs.ahead.round_from.Given as given
 use Rattle.heesch_check.proofs.ahead.round_from.Goals as goal
-use Rattle.heesch_check.proofs.ahead.round_from.Goals.{After-audit_and_gather-audits}
 
 -- ---- the first items are gathered
 
@@ -59,9 +57,8 @@ audit_and_gather-audits-requires-clause-may g c κs within =
     let may = c.requires.may in
     may_go_on (g.R.Source.left c.gather.new.source) c.gather.new.items c.gather.new.stream c.in_ok-reading.reading (may.0, may.1, c.in_ok-reading.ensures.ok.goes_on may.0 may.1 may.2) (c.goes_on_beside.ensures.more c.if-not-goes_on_beside.false)
 
--- reading stops in time, whatever becomes of what was gathered beside them
-stops_in_time : (g : given.Over) (c : After-audit_and_gather-audits g) → StopsInTime (g.R.Source.left c.args.source.now) (g.R.Source.left c.audit_and_gather-audits.new.source) c.args.stream.now c.args.items c.args.came_to c.args.lacking
-stops_in_time g c =
+pub returns-in_err-audits-clause-no_further : goal.returns-in_err-audits-clause-no_further
+returns-in_err-audits-clause-no_further g c =
     let left = g.R.Source.left in
     let front = c.as_slice-front.result.now in
     let few = c.goes_on_beside.ensures.few c.if-not-goes_on_beside.false in
@@ -69,17 +66,32 @@ stops_in_time g c =
     stops_beside (left c.args.source.now) (left c.gather.new.source) (left c.audit_and_gather-audits.new.source) c.args.stream.now c.gather.new.stream c.args.items c.gather.new.items c.first_few.result c.args.lacking (c.args.lacking - length front) c.args.came_to c.in_ok-reading.reading
     (c.goes_on_beside.ensures.more c.if-not-goes_on_beside.false) c.first_few.ensures (omega (arith, few, same)) c.in_ok-reading.ensures.ok c.gather.ensures.no_further c.audit_and_gather-audits.ensures.no_further
 
-pub returns-in_err-audits-clause-no_further : goal.returns-in_err-audits-clause-no_further
-returns-in_err-audits-clause-no_further g c = stops_in_time g (goal.at.returns-in_err-audits-clause-no_further g c).After-audit_and_gather-audits
-
 pub returns-in_err-rest-clause-no_further : goal.returns-in_err-rest-clause-no_further
-returns-in_err-rest-clause-no_further g c = stops_in_time g (goal.at.returns-in_err-rest-clause-no_further g c).After-audit_and_gather-audits
+returns-in_err-rest-clause-no_further g c =
+    let left = g.R.Source.left in
+    let front = c.as_slice-front.result.now in
+    let few = c.goes_on_beside.ensures.few c.if-not-goes_on_beside.false in
+    let same = ap length c.as_slice-front.ensures in
+    stops_beside (left c.args.source.now) (left c.gather.new.source) (left c.audit_and_gather-audits.new.source) c.args.stream.now c.gather.new.stream c.args.items c.gather.new.items c.first_few.result c.args.lacking (c.args.lacking - length front) c.args.came_to c.in_ok-reading.reading
+    (c.goes_on_beside.ensures.more c.if-not-goes_on_beside.false) c.first_few.ensures (omega (arith, few, same)) c.in_ok-reading.ensures.ok c.gather.ensures.no_further c.audit_and_gather-audits.ensures.no_further
 
 pub returns-in_err-round-clause-no_further : goal.returns-in_err-round-clause-no_further
-returns-in_err-round-clause-no_further g c = stops_in_time g (goal.at.returns-in_err-round-clause-no_further g c).After-audit_and_gather-audits
+returns-in_err-round-clause-no_further g c =
+    let left = g.R.Source.left in
+    let front = c.as_slice-front.result.now in
+    let few = c.goes_on_beside.ensures.few c.if-not-goes_on_beside.false in
+    let same = ap length c.as_slice-front.ensures in
+    stops_beside (left c.args.source.now) (left c.gather.new.source) (left c.audit_and_gather-audits.new.source) c.args.stream.now c.gather.new.stream c.args.items c.gather.new.items c.first_few.result c.args.lacking (c.args.lacking - length front) c.args.came_to c.in_ok-reading.reading
+    (c.goes_on_beside.ensures.more c.if-not-goes_on_beside.false) c.first_few.ensures (omega (arith, few, same)) c.in_ok-reading.ensures.ok c.gather.ensures.no_further c.audit_and_gather-audits.ensures.no_further
 
 pub returns-clause-no_further : goal.returns-clause-no_further
-returns-clause-no_further g c = stops_in_time g (goal.at.returns-clause-no_further g c).After-audit_and_gather-audits
+returns-clause-no_further g c =
+    let left = g.R.Source.left in
+    let front = c.as_slice-front.result.now in
+    let few = c.goes_on_beside.ensures.few c.if-not-goes_on_beside.false in
+    let same = ap length c.as_slice-front.ensures in
+    stops_beside (left c.args.source.now) (left c.gather.new.source) (left c.audit_and_gather-audits.new.source) c.args.stream.now c.gather.new.stream c.args.items c.gather.new.items c.first_few.result c.args.lacking (c.args.lacking - length front) c.args.came_to c.in_ok-reading.reading
+    (c.goes_on_beside.ensures.more c.if-not-goes_on_beside.false) c.first_few.ensures (omega (arith, few, same)) c.in_ok-reading.ensures.ok c.gather.ensures.no_further c.audit_and_gather-audits.ensures.no_further
 
 pub returns-clause-gathers : goal.returns-clause-gathers
 returns-clause-gathers g c =
