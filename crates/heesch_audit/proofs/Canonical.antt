@@ -72,12 +72,14 @@ module _ (g : Geometry) (law : IsGrid g) (cells : List Cell) where
       let some = f.polyform.some in
       h.4.apart (f.polyform.joined (nth cells 0) (nth cells at) (Contains-get_or cells 0 zero_cell some) (Contains-get_or cells at zero_cell h.4.below))
 
-  -- a rising list of the cells is the cells, where they are canonical
+  -- the shape of the cells is the cells, where they are canonical
+  pub shape_itself : (shape : List Cell) → IsShape g shape → IsCellListOf cells shape → AreCanonical g cells → shape ≡ cells
+  shape_itself shape form list a =
+      one_list shape cells (rising_test cell_before shape form.polyform.is_set.rising) (rising_test cell_before cells (form_of a).polyform.is_set.rising) (same_of_list cells shape list).same
+
+  -- and so is its canonical list
   pub made_itself : (shape canonical : List Cell) → IsShape g shape → IsCellListOf cells shape → IsCanonicalListOf g shape canonical → AreCanonical g cells → canonical ≡ cells
-  made_itself shape canonical form list c a =
-      let f = form_of a in
-      let same : shape ≡ cells = one_list shape cells (rising_test cell_before shape form.polyform.is_set.rising) (rising_test cell_before cells f.polyform.is_set.rising) (same_of_list cells shape list).same in
-      one_canonical_list g cells canonical cells (subst (λ xs. IsCanonicalListOf g xs canonical) same c) f.canonical
+  made_itself shape canonical form list c a = one_canonical_list g cells canonical cells (subst (λ xs. IsCanonicalListOf g xs canonical) (shape_itself shape form list a) c) (form_of a).canonical
 
 -- the cells are canonical where the canonical list is the cells
 pub are_canonical : (g : Geometry) (cells shape canonical : List Cell) → IsShape g shape → IsCanonicalListOf g shape canonical → canonical ≡ cells → AreCanonical g cells

@@ -45,6 +45,9 @@ isos_equal x y r e = (
 pub through : {A B C : Type 0} → A ↔ B → B ↔ C → A ↔ C
 through p q = ((λ a. q.0 (p.0 a)), (λ c. p.1 (q.1 c)))
 
+pub back : {A B : Type 0} → A ↔ B → B ↔ A
+back p = (p.1, p.0)
+
 -- two tests that agree
 pub agreeing : {P Q : Type 0} (a b : Bool) → IsTrue a ↔ P → IsTrue b ↔ Q → (IsTrue a ↔ IsTrue b) ↔ (P ↔ Q)
 agreeing a b p q = (

@@ -1,11 +1,11 @@
 mod OneClasses
-mod Canonical
+pub mod Canonical
 mod Plain
 mod Spelled
 mod Proofs
 mod Listed
-mod Bounded
-mod Parts
+pub mod Bounded
+pub mod Parts
 mod Ends
 mod Equal
 mod Covers

@@ -94,6 +94,13 @@ log_of_given vars proof given same = ap (log_with proof) (ap (lines_with proof.s
 pub count_of : (proof : Proof) (given : List (List Lit)) (log : Log) → log_with proof (lines_with proof.steps given) ≡ log → length log.lines ≡ length proof.steps
 count_of proof given log same = sym (ap (λ (l : Log). length l.lines) same) ∙ lines_with-length proof.steps given
 
+-- and so a step at each of its places
+pub step_at : (proof : Proof) (given : List (List Lit)) (log : Log) → log_with proof (lines_with proof.steps given) ≡ log → (steps : List Step) (index : ℕ) → steps ≡ proof.steps → index < length log.lines → index < length steps
+step_at proof given log same steps index is below =
+    let count = count_of proof given log same in
+    let many : length steps ≡ length proof.steps = ap length is in
+    omega (arith, count, many, below)
+
 -- ---- the line at a place
 
 module _ (steps : List Step) (given : List (List Lit)) (i : ℕ) (step : Step) (below : i < length steps) (is : step ≡ get_or steps i step) (d : Line) where

@@ -14,7 +14,7 @@ all_hold g limits entry shape form cover classes free wall wider bare triples = 
 
 -- where the parts before the searches hold, the first of the searches that fails is the least part that fails
 module _ (g : Geometry) (limits : Limits) (entry : Entry) (shape : ShapeHolds g entry) (form : FormHolds g limits entry) (cover : CoverHolds g entry.cells entry.evidence) (classes : ClassesHold g entry.cells entry.verdict entry.evidence) (free : FreeHolds g entry.cells entry.verdict entry.evidence) where
-  before_wall : (k : ℕ) → k < 6 → PartHolds g limits entry k
+  pub before_wall : (k : ℕ) → k < 6 → PartHolds g limits entry k
   before_wall zero l = tt
   before_wall (suc zero) l = shape
   before_wall (suc (suc zero)) l = form
@@ -23,7 +23,7 @@ module _ (g : Geometry) (limits : Limits) (entry : Entry) (shape : ShapeHolds g 
   before_wall (suc (suc (suc (suc (suc zero))))) l = free
   before_wall (suc (suc (suc (suc (suc (suc n)))))) l = absurd (omega (arith, l))
 
-  before_wider : WallHolds g limits entry.cells entry.verdict entry.evidence → (k : ℕ) → k < 7 → PartHolds g limits entry k
+  pub before_wider : WallHolds g limits entry.cells entry.verdict entry.evidence → (k : ℕ) → k < 7 → PartHolds g limits entry k
   before_wider wall k l =
       elim (cases_lt k 6) [
         | inl low ↦ before_wall k low

@@ -39,7 +39,7 @@ module _ (g : Geometry) (shape : List Cell) where
   abbrev Comes : Option (List Cell) → List Cell → Type 0
   Comes last tile = MatchOption last (Unit {0}) (λ before. IsTrue (cells_before before tile))
 
-  pub spelled_more : (last : Option (List Cell)) (by : Iso) (rest : List Iso) (tile : List Cell) → IsLeastIsometry g shape tile by → MatchOption last (Unit {0}) (λ before. IsTrue (cells_before before tile)) → IsSpelledAfter g shape (Some tile) rest → IsSpelledAfter g shape last (by ∷ rest)
+  spelled_more : (last : Option (List Cell)) (by : Iso) (rest : List Iso) (tile : List Cell) → IsLeastIsometry g shape tile by → MatchOption last (Unit {0}) (λ before. IsTrue (cells_before before tile)) → IsSpelledAfter g shape (Some tile) rest → IsSpelledAfter g shape last (by ∷ rest)
   spelled_more None by rest tile least comes s = record { tiles = tile ∷ s.tiles; least = (least, s.least); rising = s.rising }
   spelled_more (Some before) by rest tile least comes s = record {
     tiles = tile ∷ s.tiles;
@@ -54,7 +54,7 @@ module _ (g : Geometry) (shape : List Cell) where
       first [] h = absurd h
       first (tile ∷ tiles) h = (tile, h.0)
 
-  pub spelled_rest : (last : Option (List Cell)) (by : Iso) (rest : List Iso) (tile : List Cell) → IsLeastIsometry g shape tile by → IsSpelledAfter g shape last (by ∷ rest) → MatchOption last (Unit {0}) (λ before. IsTrue (cells_before before tile)) × IsSpelledAfter g shape (Some tile) rest
+  spelled_rest : (last : Option (List Cell)) (by : Iso) (rest : List Iso) (tile : List Cell) → IsLeastIsometry g shape tile by → IsSpelledAfter g shape last (by ∷ rest) → MatchOption last (Unit {0}) (λ before. IsTrue (cells_before before tile)) × IsSpelledAfter g shape (Some tile) rest
   spelled_rest None by rest tile least s = go s.tiles s.least s.rising
     where
       go : (tiles : List (List Cell)) → AllZip (λ by tile. IsLeastIsometry g shape tile by) (by ∷ rest) tiles → IsRising cells_before tiles → Unit {0} × IsSpelledAfter g shape (Some tile) rest
@@ -71,6 +71,10 @@ module _ (g : Geometry) (shape : List Cell) where
             subst (λ t. IsTrue (cells_before before t)) same (All-head (λ t. IsTrue (cells_before before t)) first tiles r.0),
             record { tiles = tiles; least = h.1; rising = subst (λ t. IsRising cells_before (t ∷ tiles)) same r.1 },
           )
+
+  -- a layer is spelled by its first isometry and those behind it
+  pub spelled_next : (last : Option (List Cell)) (by : Iso) (rest : List Iso) (tile : List Cell) → IsLeastIsometry g shape tile by → IsSpelledAfter g shape last (by ∷ rest) ↔ (MatchOption last (Unit {0}) (λ before. IsTrue (cells_before before tile)) × IsSpelledAfter g shape (Some tile) rest)
+  spelled_next last by rest tile least = (spelled_rest last by rest tile least, λ h. spelled_more last by rest tile least h.0 h.1)
 
   -- ---- all layers
 

@@ -3,6 +3,7 @@ pub mod Shapes
 pub mod Spelling
 pub mod Formulas
 pub mod Logs
+pub mod Ends
 pub mod Plains
 pub mod Walls
 pub mod Bounds

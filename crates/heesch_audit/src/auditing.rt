@@ -26,8 +26,9 @@ use std::thread::Threads;
 pub enum EntryAnswer {
     /// It is true.
     Valid,
-    /// This is the least of its parts that fails, from 1: the shape, the verdict's form against the evidence, the cover, its
-    /// classes, the hole-free coronas, the wall, the coronas with holes allowed, the search behind the wall, the triples.
+    /// This is the least of its parts that fails, from 1: the shape, the verdict's form against the evidence, the
+    /// cover, its classes, the hole-free coronas, the wall, the coronas with holes allowed, the search behind the wall,
+    /// the triples.
     Invalid { part: u32 },
 }
 
@@ -64,14 +65,14 @@ pub(crate) fn failing_part<G: Grid, R: Threads + Sync>(
 
 /// Whether the entry is true under the grid and the limits; else the least of its nine parts that fails.
 ///
-/// Condition: the limits lie in their ranges, and the coordinates of the entry's cells and translations within 100,000 of 0.
-/// Its turns, numbers, lists and triples may be any. A turn that isn't one of the grid's makes the part fail in which it
-/// stands. The verdict of a valid entry is right.
+/// Condition: the limits lie in their ranges, and the coordinates of the entry's cells and translations within 100,000
+/// of 0. Its turns, numbers, lists and triples may be any. A turn that isn't one of the grid's makes the part fail in
+/// which it stands. The verdict of a valid entry is right.
 ///
 /// Nothing is searched for but the plain tiling of the shape. A proof costs as many steps as its lines and hints have
-/// literals, besides the formula that it is over: that of a level is made once where both searches are of one level, and
-/// let go before the next is made, and its clauses stand in one array. A proof is read where it stands: while it is checked, its
-/// clauses stand once more in one array, and those of its cuts are made.
+/// literals, besides the formula that it is over: that of a level is made once where both searches are of one level,
+/// and let go before the next is made, and its clauses stand in one array. A proof is read where it stands: while it is
+/// checked, its clauses stand once more in one array, and those of its cuts are made.
 pub fn audit<G: Grid, R: Threads + Sync>(
     rt: &R,
     alloc: Global,

@@ -44,24 +44,6 @@ fn spell_coronas<G: Grid>(
     Ok(is_holding(&answer))
 }
 
-/// Whether the layers are h hole-free coronas, so spelled.
-fn is_free<G: Grid>(
-    alloc: Global,
-    shape: &Shape<G>,
-    layers: &Layers,
-    h: u32,
-) -> Result<bool, NoMemory>
-    requires shape { IsCanonicalShape G.geometry shape.now }
-    requires near { AreNearLayers layers.now.layers }
-    requires few { h ≤ 6 }
-    ensures { IfOk result (λ yes. IsTrue yes ↔ ((length layers.now.layers ≡ h) × SpellCoronas G.geometry shape.now true layers.now.layers)) }
-{
-    if layers.layers.len() != h as usize {
-        return Ok(false);
-    }
-    spell_coronas(alloc, shape, layers, true)
-}
-
 /// Part 7: whether the wider layers, where there are any, are coronas, holes allowed, so spelled.
 pub(crate) fn is_open<G: Grid>(
     alloc: Global,
@@ -79,8 +61,8 @@ pub(crate) fn is_open<G: Grid>(
     }
 }
 
-/// Part 5: whether the layers of the evidence, where it is of searches, are hole-free coronas, as many as the verdict says. The
-/// form being right, there are at most six.
+/// Part 5: whether the layers of the evidence, where it is of searches, are hole-free coronas, as many as the verdict
+/// says. The form being right, there are at most six.
 pub(crate) fn free_holds<G: Grid>(
     alloc: Global,
     shape: &Shape<G>,
@@ -94,6 +76,11 @@ pub(crate) fn free_holds<G: Grid>(
 {
     match evidence {
         Evidence::Cover { .. } => Ok(true),
-        Evidence::Search { free, .. } => is_free(alloc, shape, free, first_number(verdict)),
+        Evidence::Search { free, .. } => {
+            if free.layers.len() != first_number(verdict) as usize {
+                return Ok(false);
+            }
+            spell_coronas(alloc, shape, free, true)
+        }
     }
 }

@@ -40,8 +40,7 @@ fn is_cover<G: Grid>(alloc: Global, shape: &Shape<G>, tiling: &Tiling) -> Result
     }
     match check_cover(alloc, shape, tiling)? {
         Cover::Exact => Ok(true),
-        Cover::Doubled { .. } => Ok(false),
-        Cover::Missed { .. } => Ok(false),
+        _ => Ok(false),
     }
 }
 
@@ -84,7 +83,8 @@ fn are_classes<G: Grid>(
     Ok(are_same_members(found.members.as_slice(), written.members.as_slice()))
 }
 
-/// Part 3: whether the evidence, where it is a cover, is a periodic one. The form being right, it has at most 12 places.
+/// Part 3: whether the evidence, where it is a cover, is a periodic one. The form being right, it has at most 12
+/// places.
 pub(crate) fn cover_holds<G: Grid>(
     alloc: Global,
     shape: &Shape<G>,
@@ -101,7 +101,8 @@ pub(crate) fn cover_holds<G: Grid>(
     }
 }
 
-/// Part 4: whether the classes of the evidence, where it is a cover, are those of the cover, as many as the verdict says.
+/// Part 4: whether the classes of the evidence, where it is a cover, are those of the cover, as many as the verdict
+/// says.
 pub(crate) fn classes_hold<G: Grid>(
     alloc: Global,
     shape: &Shape<G>,

@@ -1,17 +1,18 @@
 //! The corona formulas that proofs are checked over.
 ghost use Rattle.std.specs.Prelude.{◌≡◌, ◌≤◌, ◌↔◌, IsTrue, IfOk, IfSome, MatchOption};
 ghost use Rattle.heesch_cert.specs.Limits.{AreLimits};
-ghost use Rattle.heesch_cert.specs.Proofs.{RefutesCoronas, IsSpentOnCoronas, IsTooLarge};
+ghost use Rattle.heesch_cert.specs.Proofs.{IsTooLarge};
+ghost use Rattle.heesch_audit.specs.Ends.{EndsCoronas};
 ghost use Rattle.heesch_audit.specs.Formulas.{IsLevelFormula};
 ghost use Rattle.heesch_audit.specs.Near.{IsNearProof};
 ghost use Rattle.heesch_audit.specs.Shapes.{IsCanonicalShape};
 
-use crate::logs::{is_refuted, lawful_log};
+use crate::logs::{is_ended, lawful_log};
+use crate::proof_end::ProofEnd;
 use heesch_cert::{Limits, Proof};
 use heesch_encode::{EncodeStop, FlatEncoded, encode_flat};
 use heesch_grid::Grid;
 use heesch_io::NoMemory;
-use heesch_rup::is_spent;
 use heesch_shape::Shape;
 use std::alloc::Global;
 use std::thread::Threads;
@@ -24,7 +25,8 @@ pub(crate) struct LevelFormula<G: Grid> {
     pub encoded: Option<FlatEncoded<G>>,
 }
 
-/// The formula of a level. It is the one at hand where that is of this level; else that one is let go before this is made.
+/// The formula of a level. It is the one at hand where that is of this level; else that one is let go before this is
+/// made.
 pub(crate) fn level_formula<G: Grid>(
     alloc: Global,
     shape: &Shape<G>,
@@ -59,18 +61,19 @@ pub(crate) fn level_formula<G: Grid>(
 }
 
 impl<G: Grid> LevelFormula<G> {
-    /// Whether the proof refutes the formula, and its cuts are lawful.
-    pub(crate) fn is_refuted_by<R: Threads + Sync>(
+    /// Whether the proof refutes the formula, or is spent over it for the limit on turns, and its cuts are lawful.
+    pub(crate) fn is_ended_by<R: Threads + Sync>(
         &self,
         rt: &R,
         alloc: Global,
         shape: &Shape<G>,
+        end: ProofEnd,
         proof: &Proof,
     ) -> Result<bool, NoMemory>
         requires shape { IsCanonicalShape G.geometry shape.now }
         requires formula { IsLevelFormula G.geometry self.now.limits shape.now self.now.level self.now.encoded }
         requires near { IsNearProof proof.now }
-        ensures { IfOk result (λ yes. IsTrue yes ↔ RefutesCoronas self.now.limits.version G.geometry shape.now self.now.level self.now.limits.size proof.now) }
+        ensures { IfOk result (λ yes. IsTrue yes ↔ EndsCoronas end G.geometry self.now.limits shape.now self.now.level proof.now) }
     {
         let Some(encoded) = &self.encoded else {
             return Ok(false);
@@ -78,29 +81,7 @@ impl<G: Grid> LevelFormula<G> {
         let Some(log) = lawful_log(alloc, shape, &encoded.universe, proof)? else {
             return Ok(false);
         };
-        is_refuted(rt, alloc, &encoded.formula, &log)
-    }
-
-    /// Whether the proof is spent for the limit on turns over the formula, and its cuts are lawful.
-    pub(crate) fn is_spent_by<R: Threads + Sync>(
-        &self,
-        rt: &R,
-        alloc: Global,
-        shape: &Shape<G>,
-        proof: &Proof,
-    ) -> Result<bool, NoMemory>
-        requires shape { IsCanonicalShape G.geometry shape.now }
-        requires formula { IsLevelFormula G.geometry self.now.limits shape.now self.now.level self.now.encoded }
-        requires near { IsNearProof proof.now }
-        ensures { IfOk result (λ yes. IsTrue yes ↔ IsSpentOnCoronas self.now.limits.version G.geometry shape.now self.now.level self.now.limits.turns self.now.limits.size proof.now) }
-    {
-        let Some(encoded) = &self.encoded else {
-            return Ok(false);
-        };
-        let Some(log) = lawful_log(alloc, shape, &encoded.universe, proof)? else {
-            return Ok(false);
-        };
-        is_spent(rt, alloc, &encoded.formula, &log, self.limits.turns)
+        is_ended(rt, alloc, &encoded.formula, &log, end, self.limits.turns)
     }
 
     /// Whether the formula has more literals than the limits allow.

@@ -10,6 +10,7 @@ mod formula;
 pub mod laws;
 mod logs;
 mod near;
+mod proof_end;
 mod proof_log;
 mod shaped;
 mod spelling;
@@ -19,7 +20,9 @@ mod walls;
 
 pub use auditing::{EntryAnswer, audit};
 pub use near::is_near;
+pub use proof_end::ProofEnd;
 pub use split::{most_portions, portion_holds};
+pub use walls::first_number;
 
 #[cfg(test)]
 mod tests;

@@ -1,11 +1,13 @@
 //! The logs of proofs, and what they show over a formula.
-ghost use Rattle.std.specs.Prelude.{◌≡◌, ◌↔◌, ◌⊎◌, [], All, IsTrue, IfOk, MatchOption};
-ghost use Rattle.heesch_cnf.specs.Lines.{Refutes, IsSpent};
+ghost use Rattle.std.specs.Prelude.{◌≡◌, ◌↔◌, [], All, IsTrue, IfOk, MatchOption};
+ghost use Rattle.heesch_cnf.specs.Lines.{Refutes};
 ghost use Rattle.heesch_place.specs.Universes.{IsUniverseOf};
 ghost use Rattle.heesch_cert.specs.Proofs.{HasNoCut, IsLawfulStep, log_of};
+ghost use Rattle.heesch_audit.specs.Ends.{IsEndOf, LogEnds};
 ghost use Rattle.heesch_audit.specs.Logs.{given_clause, IsLogOf};
 ghost use Rattle.heesch_audit.specs.Near.{IsNearProof, IsNearStep};
 
+use crate::proof_end::ProofEnd;
 use crate::proof_log::ProofLog;
 use heesch_cert::{Proof, Step};
 use heesch_cnf::{FlatFormula, Lits};
@@ -30,8 +32,8 @@ pub(crate) fn has_no_cut(proof: &Proof) -> bool
     true
 }
 
-/// The clause that a step gives over the universe, where the step is no unlawful cut: a learnt step gives none, which takes no
-/// memory.
+/// The clause that a step gives over the universe, where the step is no unlawful cut: a learnt step gives none, which
+/// takes no memory.
 fn lawful_clause<G: Grid>(
     alloc: Global,
     shape: &Shape<G>,
@@ -67,8 +69,8 @@ pub(crate) fn learnt_log(alloc: Global, proof: &Proof) -> Option<ProofLog<'_>>
     })
 }
 
-/// The log of a proof over the universe, where its cuts are lawful. The clauses of the cuts are made, and the learnt ones read
-/// where the proof stands. Without cuts it takes no memory.
+/// The log of a proof over the universe, where its cuts are lawful. The clauses of the cuts are made, and the learnt
+/// ones read where the proof stands. Without cuts it takes no memory.
 pub(crate) fn lawful_log<'a, G: Grid>(
     alloc: Global,
     shape: &Shape<G>,
@@ -94,7 +96,7 @@ pub(crate) fn lawful_log<'a, G: Grid>(
 }
 
 /// Whether the log refutes the formula.
-pub(crate) fn is_refuted<R: Threads + Sync>(
+fn is_refuted<R: Threads + Sync>(
     rt: &R,
     alloc: Global,
     formula: &FlatFormula,
@@ -109,18 +111,29 @@ pub(crate) fn is_refuted<R: Threads + Sync>(
     }
 }
 
-/// Whether the log refutes the formula, or is spent for so many turns over it. It is checked once.
+/// What the log shows, if anything: one with a final line refutes.
+pub(crate) fn end_of(log: &ProofLog<'_>) -> ProofEnd
+    ensures { IsEndOf log.now result }
+{
+    match log.last() {
+        Some(_) => ProofEnd::Refuted,
+        None => ProofEnd::Spent,
+    }
+}
+
+/// Whether the log refutes the formula, or is spent for so many turns over it, as asked.
 pub(crate) fn is_ended<R: Threads + Sync>(
     rt: &R,
     alloc: Global,
     formula: &FlatFormula,
     log: &ProofLog<'_>,
+    end: ProofEnd,
     turns: u32,
 ) -> Result<bool, NoMemory>
-    ensures { IfOk result (λ yes. IsTrue yes ↔ (Refutes formula.now.vars formula.now.clauses log.now ⊎ IsSpent formula.now.vars formula.now.clauses turns log.now)) }
+    ensures { IfOk result (λ yes. IsTrue yes ↔ LogEnds end formula.now.vars formula.now.clauses turns log.now) }
 {
-    match log.last() {
-        Some(_) => is_refuted(rt, alloc, formula, log),
-        None => is_spent(rt, alloc, formula, log, turns),
+    match end {
+        ProofEnd::Refuted => is_refuted(rt, alloc, formula, log),
+        ProofEnd::Spent => is_spent(rt, alloc, formula, log, turns),
     }
 }

@@ -144,9 +144,9 @@ fn is_near_evidence(evidence: &Evidence) -> bool
     }
 }
 
-/// Whether the coordinates of all cells and translations of the entry lie within 100,000 of 0: those of its shape, of the
-/// holes of its cuts, of its tiles, of the symmetries of its classes, and of its layers. It takes no memory, and looks at
-/// each once.
+/// Whether the coordinates of all cells and translations of the entry lie within 100,000 of 0: those of its shape, of
+/// the holes of its cuts, of its tiles, of the symmetries of its classes, and of its layers. It takes no memory, and
+/// looks at each once.
 pub fn is_near(entry: &Entry) -> bool
     ensures { IsTrue result ↔ IsNearEntry entry.now }
 {

@@ -15,8 +15,8 @@ use std::marker::Model;
 
 /// A proof that is read as a log where it stands, and the clauses of its cuts. Contracts see the log.
 ///
-/// The clause of a cut stands at the index of its step, and an empty one, which takes no memory but its place, at that of
-/// a learnt step. Where no step is a cut the list is empty.
+/// The clause of a cut stands at the index of its step, and an empty one, which takes no memory but its place, at that
+/// of a learnt step. Where no step is a cut the list is empty.
 #[derive(Drop)]
 pub(crate) struct ProofLog<'a> {
     pub(crate) proof: &'a Proof,

@@ -15,16 +15,16 @@ use heesch_shape::Shape;
 use std::alloc::Global;
 use std::thread::Threads;
 
-/// The most portions into which an audit of the entry is worth being split, at least one: with so many each has the proof of
-/// at most one triple.
+/// The most portions into which an audit of the entry is worth being split, at least one: with so many each has the
+/// proof of at most one triple.
 pub fn most_portions(entry: &Entry) -> usize
     ensures { result ≡ max 1 (length (triples_of entry.now.evidence)) }
 {
     triples_of(&entry.evidence).len().max(1)
 }
 
-/// Whether the parts 2 to 8 of the entry hold, where this is the first portion and the shape that of the entry; no other
-/// portion asks for them.
+/// Whether the parts 2 to 8 of the entry hold, where this is the first portion and the shape that of the entry; no
+/// other portion asks for them.
 fn are_parts_due<G: Grid, R: Threads + Sync>(
     rt: &R,
     alloc: Global,
@@ -54,14 +54,15 @@ fn is_bare(portion: u32, triples: usize) -> bool
     portion > 0 && triples <= portion as usize
 }
 
-/// Whether a portion of the entry, of so many, holds: the proofs of each so many-th of its triples, and in the first portion
-/// all else of it as well. The entry is true exactly where each of its portions holds.
+/// Whether a portion of the entry, of so many, holds: the proofs of each so many-th of its triples, and in the first
+/// portion all else of it as well. The entry is true exactly where each of its portions holds.
 ///
-/// Condition: that of `audit`, and the portion's number is below theirs. An entry whose shape isn't canonical holds in no
-/// portion that has a triple, nor in the first.
+/// Condition: that of `audit`, and the portion's number is below theirs. An entry whose shape isn't canonical holds in
+/// no portion that has a triple, nor in the first.
 ///
-/// Cost: that of the proofs of its triples, and in the first portion of all else that `audit` looks at. In each that has a
-/// triple the shape and the list of the triples that are asked for are made anew; where others are written, no proof is read.
+/// Cost: that of the proofs of its triples, and in the first portion of all else that `audit` looks at. In each that
+/// has a triple the shape and the list of the triples that are asked for are made anew; where others are written, no
+/// proof is read.
 pub fn portion_holds<G: Grid, R: Threads + Sync>(
     rt: &R,
     alloc: Global,

@@ -8,7 +8,7 @@ ghost use Rattle.heesch_cert.specs.TrueEntry.{IsUndecided, TriplesHold};
 ghost use Rattle.heesch_audit.specs.Portions.{triples_of, AreProved, AreTriplesAsked};
 ghost use Rattle.heesch_audit.specs.Shapes.{IsCanonicalShape};
 
-use crate::logs::{is_ended, learnt_log};
+use crate::logs::{end_of, is_ended, learnt_log};
 use heesch_cert::{Evidence, Limits, TripleProof, Verdict};
 use heesch_grid::Grid;
 use heesch_io::NoMemory;
@@ -62,7 +62,7 @@ fn is_settled<G: Grid, R: Threads + Sync>(
         return Ok(false);
     };
     let formula = torus_formula(alloc, shape, written.triple)?;
-    is_ended(rt, alloc, &formula, &log, turns)
+    is_ended(rt, alloc, &formula, &log, end_of(&log), turns)
 }
 
 /// Whether the proof of each so many-th of the triples, from the portion's first on, settles it.
@@ -90,8 +90,8 @@ pub(crate) fn are_proved<G: Grid, R: Threads + Sync>(
     Ok(true)
 }
 
-/// Whether for an undecided verdict all triples of the domains from 2 to the limit are written, in order, and for any other
-/// none.
+/// Whether for an undecided verdict all triples of the domains from 2 to the limit are written, in order, and for any
+/// other none.
 pub(crate) fn are_asked<G: Grid>(
     alloc: Global,
     shape: &Shape<G>,

@@ -12,6 +12,7 @@ use crate::coronas::is_open;
 use crate::fits::is_same;
 use crate::formula::{LevelFormula, level_formula};
 use crate::logs::has_no_cut;
+use crate::proof_end::{ProofEnd, ended_of};
 use heesch_cert::{Bare, Evidence, Limits, Verdict, Wall};
 use heesch_grid::Grid;
 use heesch_io::NoMemory;
@@ -20,7 +21,7 @@ use std::alloc::Global;
 use std::thread::Threads;
 
 /// The number of hole-free coronas of a verdict; a tiling has none.
-pub(crate) fn first_number(verdict: Verdict) -> u32
+pub fn first_number(verdict: Verdict) -> u32
     ensures { result ≡ first_number verdict }
 {
     match verdict {
@@ -60,8 +61,8 @@ fn wall_shows<G: Grid, R: Threads + Sync>(
 {
     match wall {
         Wall::Absent => Ok(true),
-        Wall::Refuted { proof } => formula.is_refuted_by(rt, alloc, shape, proof),
-        Wall::Spent { proof } => formula.is_spent_by(rt, alloc, shape, proof),
+        Wall::Refuted { proof } => formula.is_ended_by(rt, alloc, shape, ProofEnd::Refuted, proof),
+        Wall::Spent { proof } => formula.is_ended_by(rt, alloc, shape, ProofEnd::Spent, proof),
         Wall::Size => Ok(formula.is_too_large(shape)),
     }
 }
@@ -73,46 +74,14 @@ fn agree(one: bool, other: bool) -> bool
     one == other
 }
 
-/// Whether the search with holes allowed is the same as that with holes forbidden exactly where a refutation has no cut.
+/// Whether the search with holes allowed is the same as that with holes forbidden exactly where a refutation has no
+/// cut.
 fn fits_same(wall: &Wall, bare: &Bare) -> bool
     ensures { IsTrue result ↔ SameWhereNoCut wall.now bare.now }
 {
     match wall {
         Wall::Refuted { proof } => agree(is_same(bare), has_no_cut(proof)),
         _ => true,
-    }
-}
-
-/// Whether the search with holes allowed ended as is written, over the formula of its level. Its proofs have no cut.
-fn bare_shows<G: Grid, R: Threads + Sync>(
-    rt: &R,
-    alloc: Global,
-    shape: &Shape<G>,
-    formula: &LevelFormula<G>,
-    bare: &Bare,
-) -> Result<bool, NoMemory>
-    requires shape { IsCanonicalShape G.geometry shape.now }
-    requires formula { IsLevelFormula G.geometry formula.now.limits shape.now formula.now.level formula.now.encoded }
-    requires near { IsNearBare bare.now }
-    ensures { IfOk result (λ yes. IsTrue yes ↔ BareShows G.geometry formula.now.limits shape.now formula.now.level bare.now) }
-{
-    match bare {
-        Bare::Absent => Ok(true),
-        Bare::Same => Ok(true),
-        Bare::Open => Ok(true),
-        Bare::Refuted { proof } => {
-            if !has_no_cut(proof) {
-                return Ok(false);
-            }
-            formula.is_refuted_by(rt, alloc, shape, proof)
-        }
-        Bare::Spent { proof } => {
-            if !has_no_cut(proof) {
-                return Ok(false);
-            }
-            formula.is_spent_by(rt, alloc, shape, proof)
-        }
-        Bare::Size => Ok(formula.is_too_large(shape)),
     }
 }
 
@@ -126,32 +95,8 @@ fn asks_formula(bare: &Bare) -> bool
     }
 }
 
-/// Whether the search with holes allowed ended at level m as is written. The formula of another level, or of m, is at hand.
-fn bare_shows_at<G: Grid, R: Threads + Sync>(
-    rt: &R,
-    alloc: Global,
-    shape: &Shape<G>,
-    at_hand: LevelFormula<G>,
-    m: u32,
-    bare: &Bare,
-) -> Result<bool, NoMemory>
-    requires shape { IsCanonicalShape G.geometry shape.now }
-    requires limits { AreLimits at_hand.limits }
-    requires at_hand { IsLevelFormula G.geometry at_hand.limits shape.now at_hand.level at_hand.encoded }
-    requires level { AsksFormula bare.now → (1 ≤ m) × (m ≤ 6) }
-    requires near { IsNearBare bare.now }
-    ensures { IfOk result (λ yes. IsTrue yes ↔ BareShows G.geometry at_hand.limits shape.now m bare.now) }
-{
-    if !asks_formula(bare) {
-        return Ok(true);
-    }
-    let limits = at_hand.limits;
-    let formula = level_formula(alloc, shape, limits, m, Some(at_hand))?;
-    bare_shows(rt, alloc, shape, &formula, bare)
-}
-
-/// Whether the search with holes allowed ended at level m as is written, and is the same as that with holes forbidden
-/// exactly where a refutation has no cut.
+/// Whether the search with holes allowed ended at level m as is written, its proofs have no cut, and it is the same as
+/// that with holes forbidden exactly where a refutation has no cut. The formula of another level, or of m, is at hand.
 fn bare_holds<G: Grid, R: Threads + Sync>(
     rt: &R,
     alloc: Global,
@@ -171,11 +116,22 @@ fn bare_holds<G: Grid, R: Threads + Sync>(
     if !fits_same(wall, bare) {
         return Ok(false);
     }
-    bare_shows_at(rt, alloc, shape, at_hand, m, bare)
+    if !asks_formula(bare) {
+        return Ok(true);
+    }
+    let limits = at_hand.limits;
+    let formula = level_formula(alloc, shape, limits, m, Some(at_hand))?;
+    let Some(ended) = ended_of(bare) else {
+        return Ok(formula.is_too_large(shape));
+    };
+    if !has_no_cut(ended.proof) {
+        return Ok(false);
+    }
+    formula.is_ended_by(rt, alloc, shape, ended.end, ended.proof)
 }
 
-/// The first of the parts 6 to 8 that fails, the form being right: the wall, the open coronas, the search behind the wall.
-/// The formula of the wall serves for the search behind it, where they are of one level.
+/// The first of the parts 6 to 8 that fails, the form being right: the wall, the open coronas, the search behind the
+/// wall. The formula of the wall serves for the search behind it, where they are of one level.
 pub(crate) fn failing_search<G: Grid, R: Threads + Sync>(
     rt: &R,
     alloc: Global,

@@ -1,9 +1,11 @@
 -- How the head, the texts of rounds and the end's text follow one another.
 use Rattle.std.proofs.Common.{◌≡◌, ℕ, ◌+◌, ◌-◌, ◌≤◌, List, [], ◌++◌, length, take, drop, refl, sym, ap, ◌∙◌, subst, arith, inl, inr, append_assoc, append-nil}
-use Rattle.std.specs.Prelude.{Option, Result, Ok, Err, OnErr, ◌==◌, if◌then◌else◌}
+use Rattle.std.specs.Prelude.{Option, Result, Ok, Err, OnErr, OnOk, ◌==◌, if◌then◌else◌}
 use Rattle.std.specs.Io.KnownBytes.{Appends}
+use Rattle.std.specs.List.{AllZip}
 use Rattle.std.proofs.lemmas.Bool.{eq-eqb}
 use Rattle.std.proofs.lemmas.List.{take_all}
+use Rattle.std.proofs.lemmas.Result.{on_err_weaker, on_ok_weaker}
 use Rattle.std.proofs.Math.Seq.{take-add}
 use Rattle.heesch_io.specs.Contents.{AppendsPrefix}
 use Rattle.heesch_io.proofs.Appending.{appends_nothing, appends_both, appends_then_keeps, appends_then_prefix}
@@ -11,7 +13,7 @@ use Rattle.heesch_grid.specs.declared.Cell.{Cell}
 use Rattle.heesch_grid.specs.Geometry.{Geometry}
 use Rattle.heesch_text.specs.Catalogue.{end_text}
 use Rattle.heesch_catalogue.specs.Rounds.{AreBegunTexts, AreTexts, BeginsOne, IsBegunText, IsItemText, IsWholeText, WritesOne}
-use Rattle.heesch_catalogue.proofs.ItemTexts.{no_texts, texts_both}
+use Rattle.heesch_catalogue.proofs.ItemTexts.{no_texts, texts_both, texts_of_shapes}
 
 -- what holds anyway holds at an error
 pub at_error : {T E P : Type 0} (r : Result T E) → P → OnErr r P
@@ -38,6 +40,14 @@ writes_weaker a b weaker (output, is, appends) = (output, weaker output is, appe
 pub begins_weaker : {P Q : List ℕ → Type 0} (a b : Option (List ℕ)) → ((output : List ℕ) → P output → Q output) → BeginsOne P a b → BeginsOne Q a b
 begins_weaker a b weaker (inl keeps) = inl keeps
 begins_weaker a b weaker (inr (output, is, prefix)) = inr (output, weaker output is, prefix)
+
+-- what a call wrote of one kind it wrote of the other
+pub writes_as : {T E : Type 0} {P Q : List ℕ → Type 0} (r : Result T E) (a b : Option (List ℕ)) → ((output : List ℕ) → P output → Q output) → OnOk r (WritesOne P a b) → OnOk r (WritesOne Q a b)
+writes_as r a b weaker = on_ok_weaker r (writes_weaker a b weaker)
+
+-- and so of what it began
+pub begins_as : {T E : Type 0} {P Q : List ℕ → Type 0} (r : Result T E) (a b : Option (List ℕ)) → ((output : List ℕ) → P output → Q output) → OnErr r (BeginsOne P a b) → OnErr r (BeginsOne Q a b)
+begins_as r a b weaker = on_err_weaker r (begins_weaker a b weaker)
 
 -- ---- rounds
 
@@ -66,6 +76,20 @@ module _ {X : Type 0} (IsText : X → List ℕ → Type 0) (xs : List X) where
         subst (λ l. AppendsPrefix a c (us ++ l)) (append-nil vs) (appends_then_prefix a b c us vs [] first prefix),
       )
 
+-- the texts of items, which are of a round's shapes
+module _ {E : Type 0} (IsOf : List Cell → E → Type 0) (IsText : E → List ℕ → Type 0) (shapes : List (List Cell)) where
+  pub items_written : (items written : List E) (from until : ℕ) (a b c : Option (List ℕ)) → from ≤ until → written ≡ items → AllZip IsOf (take (until - from) (drop from shapes)) items
+      → WritesOne (AreTexts (IsItemText IsOf IsText) (take from shapes)) a b → WritesOne (AreTexts IsText written) b c → WritesOne (AreTexts (IsItemText IsOf IsText) (take until shapes)) a c
+  items_written items written from until a b c le same of_shapes first next =
+      round_written (IsItemText IsOf IsText) shapes from until a b c le first
+      (writes_weaker b c (texts_of_shapes IsOf IsText (take (until - from) (drop from shapes)) items of_shapes) (subst (λ es. WritesOne (AreTexts IsText es) b c) same next))
+
+  pub items_begun : (items written : List E) (from until : ℕ) (a b c : Option (List ℕ)) → from ≤ until → written ≡ items → AllZip IsOf (take (until - from) (drop from shapes)) items
+      → WritesOne (AreTexts (IsItemText IsOf IsText) (take from shapes)) a b → BeginsOne (AreTexts IsText written) b c → BeginsOne (AreBegunTexts (IsItemText IsOf IsText) shapes) a c
+  items_begun items written from until a b c le same of_shapes first next =
+      round_begun (IsItemText IsOf IsText) shapes from until a b c le first
+      (begins_weaker b c (texts_of_shapes IsOf IsText (take (until - from) (drop from shapes)) items of_shapes) (subst (λ es. BeginsOne (AreTexts IsText es) b c) same next))
+
 -- ---- head, rounds and end
 
 module _ {E : Type 0} (head : List ℕ) (IsOf : Geometry → List Cell → E → Type 0) (IsText : E → List ℕ → Type 0) (g : Geometry) (shapes : List (List Cell)) where
@@ -92,7 +116,7 @@ module _ {E : Type 0} (head : List ℕ) (IsOf : Geometry → List Cell → E →
       )
 
   -- behind all rounds the end's text is begun
-  pub end_begun : (count : ℕ) (a b c d : Option (List ℕ)) → count ≡ length shapes → Appends a b head → WritesOne Written b c → AppendsPrefix c d (end_text count)
+  end_begun : (count : ℕ) (a b c d : Option (List ℕ)) → count ≡ length shapes → Appends a b head → WritesOne Written b c → AppendsPrefix c d (end_text count)
       → BeginsOne (IsBegunText head IsOf IsText g shapes) a d
   end_begun count a b c d is_count first (texts, are, next) prefix =
       let whole : take (length shapes) shapes ≡ shapes = take_all (length shapes) shapes (omega arith) in
@@ -107,7 +131,7 @@ module _ {E : Type 0} (head : List ℕ) (IsOf : Geometry → List Cell → E →
       )
 
   -- head, rounds and end make the whole
-  pub whole_written : (count : ℕ) (a b c d : Option (List ℕ)) → count ≡ length shapes → Appends a b head → WritesOne Written b c → Appends c d (end_text count)
+  whole_written : (count : ℕ) (a b c d : Option (List ℕ)) → count ≡ length shapes → Appends a b head → WritesOne Written b c → Appends c d (end_text count)
       → WritesOne (IsWholeText head IsOf IsText g shapes) a d
   whole_written count a b c d is_count first (texts, are, next) last =
       let end : List ℕ = end_text (length shapes) in (
@@ -115,3 +139,8 @@ module _ {E : Type 0} (head : List ℕ) (IsOf : Geometry → List Cell → E →
         (texts, are, refl),
         appends_both a c d (head ++ texts) end (appends_both a b c head texts first next) (subst (λ n. Appends c d (end_text n)) is_count last),
       )
+
+  -- behind all rounds the end's text makes the whole, and what is begun of it begins the whole
+  pub end_written : (count : ℕ) (a b c d : Option (List ℕ)) → count ≡ length shapes → Appends a b head → WritesOne Written b c
+      → (Appends c d (end_text count) → WritesOne (IsWholeText head IsOf IsText g shapes) a d) × (AppendsPrefix c d (end_text count) → BeginsOne (IsBegunText head IsOf IsText g shapes) a d)
+  end_written count a b c d is_count first next = (whole_written count a b c d is_count first next, end_begun count a b c d is_count first next)

@@ -48,10 +48,7 @@ pub fn write_catalogue_of_size<T: Threads + Sync, W: Sink, H: Gate + Sync>(
     ensures later { W.faults sink.old ≤ W.faults sink.new }
 {
     let head = head_of(alloc, header)?;
-    let texts = EntryText {
-        brief: header.brief,
-        limits: header.limits,
-    };
+    let texts = texts_of(header);
     write_texts_of_size(
         rt,
         alloc,
@@ -92,10 +89,7 @@ pub fn write_catalogue<G: Grid + Send + Sync, T: Threads + Sync, W: Sink, H: Gat
     ensures later { W.faults sink.old ≤ W.faults sink.new }
 {
     let head = head_of(alloc, header)?;
-    let texts = EntryText {
-        brief: header.brief,
-        limits: header.limits,
-    };
+    let texts = texts_of(header);
     write_texts(rt, alloc, &head, &texts, shapes, workers, gate, sink)
 }
 
@@ -106,4 +100,14 @@ fn head_of(alloc: Global, header: &Header) -> Result<Vec<u8>, NoMemory>
     let mut text = Vec::new(alloc);
     write_header(header, &mut text)?;
     Ok(text)
+}
+
+/// The texts of entries, as the header asks for them.
+fn texts_of(header: &Header) -> EntryText
+    ensures { result ≡ record { brief = header.now.brief; limits = header.now.limits } }
+{
+    EntryText {
+        brief: header.brief,
+        limits: header.limits,
+    }
 }

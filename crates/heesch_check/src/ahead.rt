@@ -123,7 +123,8 @@ fn together(front: Seq<Item>, audits: Vec<bool>, rest: Round) -> Result<Round, N
     })
 }
 
-/// Audits the first items of a round, all of them, while the caller's thread gathers those that are left and audits them.
+/// Audits the first items of a round, all of them, while the caller's thread gathers those that are left and audits
+/// them.
 fn audit_and_gather<G: Grid + Send + Sync, T: Threads + Sync, R: Source, H: Gate + Sync>(
     rt: &T,
     alloc: Global,
@@ -184,8 +185,8 @@ fn audit_and_gather<G: Grid + Send + Sync, T: Threads + Sync, R: Source, H: Gate
     run_beside(rt, &mut fronts, &mut others)
 }
 
-/// Gathers the items that are lacking to a round, behind those at hand, and audits the entries that stand first. By several
-/// workers the first items are audited while the others are gathered.
+/// Gathers the items that are lacking to a round, behind those at hand, and audits the entries that stand first. By
+/// several workers the first items are audited while the others are gathered.
 pub(crate) fn round_from<G: Grid + Send + Sync, T: Threads + Sync, R: Source, H: Gate + Sync>(
     rt: &T,
     alloc: Global,

@@ -21,8 +21,8 @@ pub enum Checked {
     TooLong { line: u64 },
 }
 
-/// Appends the line of an answer: `valid COUNT`, `invalid header`, `invalid entry I` or `invalid end`, and nothing for an
-/// input that is too long, which has a fault's line.
+/// Appends the line of an answer: `valid COUNT`, `invalid header`, `invalid entry I` or `invalid end`, and nothing for
+/// an input that is too long, which has a fault's line.
 ///
 /// Errors: at `NoMemory` the text is as it was before.
 pub fn write_checked(checked: Checked, text: &mut Vec<u8>) -> Result<(), NoMemory>

@@ -37,22 +37,22 @@ use std::thread::Threads;
 ///
 /// `TooLong` comes where the first 2^40 bytes decide no invalid part and more follow.
 ///
-/// Entries are judged by rounds: items are gathered from as many pieces as that takes until there are 256, the input is at
-/// fault or ends, or as much is read as may be; the entries that are in their places are audited by the workers, each once,
-/// and the answer is that of the first item at fault. By one worker a round has 64 items. By more, the first 64 of a round
-/// are audited while the caller's thread gathers the others, which are audited beside them, so that there may be twice as many
-/// threads as workers.
+/// Entries are judged by rounds: items are gathered from as many pieces as that takes until there are 256, the input is
+/// at fault or ends, or as much is read as may be; the entries that are in their places are audited by the workers,
+/// each once, and the answer is that of the first item at fault. By one worker a round has 64 items. By more, the first
+/// 64 of a round are audited while the caller's thread gathers the others, which are audited beside them, so that there
+/// may be twice as many threads as workers.
 ///
 /// The gate is told of each entry's number, from 0. Where one of the entries that are audited at once has the proofs of
-/// several triples, these are audited in portions, and the gate is told of the portions' numbers, from that of the first of
-/// them on. Two threads that audit the two parts of a round may tell it of the same worker.
+/// several triples, these are audited in portions, and the gate is told of the portions' numbers, from that of the
+/// first of them on. Two threads that audit the two parts of a round may tell it of the same worker.
 ///
 /// Reading stops with the round that decides the answer, and no more is held than the items of a round and those of one
-/// piece. The free list of a size is made once, by the workers, before the first round, but where the input is at fault with
-/// nothing whole behind its header, or with a brief entry.
+/// piece. The free list of a size is made once, by the workers, before the first round, but where the input is at fault
+/// with nothing whole behind its header, or with a brief entry.
 ///
-/// Errors: `Failed` only where the source's count of faults rose; `NoMemory` where memory was refused. At an error too the
-/// source has given the bytes of some pieces, front first, and no piece beyond the round at hand.
+/// Errors: `Failed` only where the source's count of faults rose; `NoMemory` where memory was refused. At an error too
+/// the source has given the bytes of some pieces, front first, and no piece beyond the round at hand.
 pub fn check<T: Threads + Sync, R: Source, H: Gate + Sync>(
     rt: &T,
     alloc: Global,
@@ -102,8 +102,8 @@ fn header_of(items: &[Item]) -> Option<Header>
     }
 }
 
-/// The answer where what stands first behind the header is at fault whatever the free list: a brief entry, or a fault before
-/// anything whole.
+/// The answer where what stands first behind the header is at fault whatever the free list: a brief entry, or a fault
+/// before anything whole.
 fn first_fault(items: &[Item], reading: Reading) -> Option<Checked>
     ensures { IfSome result (FaultsFirst items.now reading) }
 {
@@ -220,7 +220,8 @@ fn behind_header(items: Seq<Item>) -> Seq<Item>
     Seq::from_vec(all)
 }
 
-/// The answer of a catalogue whose header was read, with the items so far, the first of which it is, and how far reading came.
+/// The answer of a catalogue whose header was read, with the items so far, the first of which it is, and how far
+/// reading came.
 fn check_behind<G: Grid + Send + Sync, T: Threads + Sync, R: Source, H: Gate + Sync>(
     rt: &T,
     alloc: Global,

@@ -41,7 +41,8 @@ pub(crate) fn fault_behind(entries: u32, part: Part) -> Checked
     }
 }
 
-/// A catalogue as far as it was judged: its header, the free list where it is of a size, and how many entries were good.
+/// A catalogue as far as it was judged: its header, the free list where it is of a size, and how many entries were
+/// good.
 #[derive(Drop)]
 pub(crate) struct Judge<G: Grid> {
     pub header: Header,
@@ -167,8 +168,8 @@ impl<G: Grid + Send + Sync> Judge<G> {
         entries
     }
 
-    /// Whether each entry of the numbers from `before` to before `until` is true, in order: those that stand first among the
-    /// items, each in its place.
+    /// Whether each entry of the numbers from `before` to before `until` is true, in order: those that stand first
+    /// among the items, each in its place.
     pub fn audits_between<T: Threads + Sync, H: Gate + Sync>(
         &self,
         rt: &T,
@@ -196,7 +197,8 @@ impl<G: Grid + Send + Sync> Judge<G> {
         )
     }
 
-    /// Judges items, up to the first at fault, and gives its answer, where those that stand first among them were audited.
+    /// Judges items, up to the first at fault, and gives its answer, where those that stand first among them were
+    /// audited.
     pub fn judge_audited<T: Threads + Sync>(
         &mut self,
         rt: &T,
@@ -243,8 +245,8 @@ impl<G: Grid + Send + Sync> Judge<G> {
         Ok(None)
     }
 
-    /// The answer where a line begins as the last one does in an input that is longer than is read. It comes too early, with
-    /// this answer, unless the entries so far are all.
+    /// The answer where a line begins as the last one does in an input that is longer than is read. It comes too early,
+    /// with this answer, unless the entries so far are all.
     fn answer_early(&self, line: u64, early: Checked) -> Checked
         requires { HasShapes self.now.header self.now.header.subject self.now.shapes }
         ensures { AnswersEarly self.now.header self.now.entries line early result }

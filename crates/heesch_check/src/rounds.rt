@@ -70,8 +70,8 @@ fn most_portions_of(item: &Item) -> usize {
     }
 }
 
-/// Into how many portions each of the first `count` items is split: as many as the most of one of them, up to `PORTIONS_MAX`,
-/// if no more than `left` numbers are wanted for all of them.
+/// Into how many portions each of the first `count` items is split: as many as the most of one of them, up to
+/// `PORTIONS_MAX`, if no more than `left` numbers are wanted for all of them.
 fn portions_of_each(items: &[Item], count: u32, left: u32) -> u32
     requires { count ≤ left }
     ensures some { 0 < result }
@@ -105,12 +105,12 @@ fn joined(alloc: Global, answers: &[bool], portions: usize) -> Result<Vec<bool>,
     Ok(answers.chunks(portions).map(all_hold).collect(alloc)?)
 }
 
-/// Whether each entry of the numbers from `from` to before `until` is true, in order, by as many workers as told. The first
-/// of the items has the number `from`.
+/// Whether each entry of the numbers from `from` to before `until` is true, in order, by as many workers as told. The
+/// first of the items has the number `from`.
 ///
-/// One ticket of the pool is one portion of an entry, and the gate is told its number. The portions are numbered from `from`
-/// on, one entry after the other, each entry in as many. Where no entry has the proofs of two triples, an entry is one
-/// portion, and its number is the entry's. A long log is split among more threads than the workers.
+/// One ticket of the pool is one portion of an entry, and the gate is told its number. The portions are numbered from
+/// `from` on, one entry after the other, each entry in as many. Where no entry has the proofs of two triples, an entry
+/// is one portion, and its number is the entry's. A long log is split among more threads than the workers.
 pub(crate) fn audits<G: Grid + Send + Sync, R: Threads + Sync + Copy, H: Gate + Sync>(
     rt: &R,
     alloc: Global,

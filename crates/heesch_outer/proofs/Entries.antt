@@ -29,26 +29,24 @@ use Rattle.heesch_cert.specs.Formulas.{IsCountedFormula}
 use Rattle.heesch_cert.specs.Limits.{AreLimits}
 use Rattle.heesch_cert.specs.Parts.{PartHolds, IsLeastFailing}
 use Rattle.heesch_cert.specs.Proofs.{RefutesCoronas, IsLawfulStep}
-use Rattle.heesch_cert.specs.TrueEntry.{Spells, IsAdmitted, HasNoPlain, FitsVerdict, FormFits, FreeHolds, ShapeHolds, FormHolds, CoverHolds, ClassesHold, WallHolds, first_number}
+use Rattle.heesch_cert.specs.TrueEntry.{Spells, IsAdmitted, HasNoPlain, FitsVerdict, FormFits, FreeHolds, first_number}
 use Rattle.heesch_near.specs.Statements.{IsNearPlace, IsNearLayer}
 use Rattle.heesch_near.proofs.Shapes.{shapes_are_near}
 use Rattle.heesch_near.proofs.Coronas.{coronas_are_near}
 use Rattle.heesch_near.proofs.Holes.{holes_are_near}
 use Rattle.heesch_audit.specs.Near.{IsNearIso, AreNearLayers, IsNearStep, IsNearProof, IsNearEntry}
 use Rattle.heesch_audit.specs.Shapes.{AreCanonical}
-use Rattle.heesch_outer.specs.Found.{IsFound, refuted_entry, spent_entry, open_entry, free_entry, with_levels}
+use Rattle.heesch_audit.proofs.Bounded.{search_form}
+use Rattle.heesch_audit.specs.declared.proof_end.ProofEnd.{ProofEnd}
+use Rattle.heesch_audit.specs.declared.proof_end.ProofEnd.TheVariants.{Refuted, Spent}
+use Rattle.heesch_audit.proofs.Parts.{before_wall, before_wider}
+use Rattle.heesch_levels.specs.UpTo.{HasCutsUpTo}
+use Rattle.heesch_outer.specs.Found.{IsFound, ended_entry, refuted_entry, spent_entry, open_entry, free_entry, with_levels}
+use Rattle.heesch_outer.specs.Proofs.{EndsOuter}
 
 -- ---- a true entry
 
 module _ (g : Geometry) (limits : Limits) (cells : List Cell) (free : Layers) (proof : Proof) (bare : Bare) (wider : Option Layers) (triples : List TripleProof) where
-  search_form : (verdict : Verdict) → FormFits g limits cells verdict (Search free (WallRefuted proof) bare wider triples) → HasNoPlain g limits cells × FitsVerdict limits (WallRefuted proof) bare wider verdict
-  search_form (Tiles kind domain classes) f = f
-  search_form (Heesch h m) f = f
-  search_form (Levels h) f = f
-  search_form (Holes h) f = f
-  search_form (Turns h phase at) f = f
-  search_form (Size h phase at) f = f
-
   level_of : (verdict : Verdict) → FitsVerdict limits (WallRefuted proof) bare wider verdict → first_number verdict + 1 ≤ limits.levels
   level_of (Tiles kind domain classes) f = absurd f
   level_of (Heesch h m) f = let low = f.0 in let high = f.1 in omega (arith, low, high)
@@ -62,7 +60,7 @@ module _ (g : Geometry) (limits : Limits) (cells : List Cell) (free : Layers) (p
   -- the layers, of which there are as many as the verdict says
   pub found_of : (verdict : Verdict) → AreCanonical g cells → FormFits g limits cells verdict (Search free (WallRefuted proof) bare wider triples) → FreeHolds g cells verdict (Search free (WallRefuted proof) bare wider triples) → IsFound g limits cells free.layers
   found_of verdict shape form holds =
-      let fits = search_form verdict form in
+      let fits = (search_form g limits cells verdict free (WallRefuted proof) bare wider triples).0 form in
       let level = level_of verdict fits.1 in
       let count = holds.0 in
       record {
@@ -115,11 +113,9 @@ module _ (g : Geometry) (law : IsGrid g) (cells : List Cell) (shape : AreCanonic
 
 -- the entries made of near things are near
 module _ (cells : List Cell) (free : List (List Iso)) (at : All (IsWithin 100000) cells) (near : AreNearLayers free) where
-  pub near_refuted : (proof : Proof) → IsNearProof proof → IsNearEntry (refuted_entry cells free proof)
-  near_refuted proof p = record { cells = at; evidence = (near, p, tt, tt, All-nil (λ (x : TripleProof). IsNearProof x.proof)) }
-
-  pub near_spent : (proof : Proof) → IsNearProof proof → IsNearEntry (spent_entry cells free proof)
-  near_spent proof p = record { cells = at; evidence = (near, p, tt, tt, All-nil (λ (x : TripleProof). IsNearProof x.proof)) }
+  pub near_ended : (end : ProofEnd) (proof : Proof) → IsNearProof proof → IsNearEntry (ended_entry end cells free proof)
+  near_ended Refuted proof p = record { cells = at; evidence = (near, p, tt, tt, All-nil (λ (x : TripleProof). IsNearProof x.proof)) }
+  near_ended Spent proof p = record { cells = at; evidence = (near, p, tt, tt, All-nil (λ (x : TripleProof). IsNearProof x.proof)) }
 
   pub near_open : (proof : Proof) (wider : List (List Iso)) → IsNearProof proof → AreNearLayers wider → IsNearEntry (open_entry cells free proof wider)
   near_open proof wider p more = record { cells = at; evidence = (near, p, tt, more, All-nil (λ (x : TripleProof). IsNearProof x.proof)) }
@@ -149,21 +145,29 @@ part_by_failing g limits entry part failing before f = (holds, other)
 
 -- ---- the parts before
 
-module _ (g : Geometry) (limits : Limits) (entry : Entry) (shape : ShapeHolds g entry) (form : FormHolds g limits entry) (cover : CoverHolds g entry.cells entry.evidence) (classes : ClassesHold g entry.cells entry.verdict entry.evidence) where
-  module _ (free : FreeHolds g entry.cells entry.verdict entry.evidence) where
-    pub before_seven : WallHolds g limits entry.cells entry.verdict entry.evidence → (k : ℕ) → k < 7 → PartHolds g limits entry k
-    before_seven wall zero l = tt
-    before_seven wall (suc zero) l = shape
-    before_seven wall (suc (suc zero)) l = form
-    before_seven wall (suc (suc (suc zero))) l = cover
-    before_seven wall (suc (suc (suc (suc zero)))) l = classes
-    before_seven wall (suc (suc (suc (suc (suc zero))))) l = free
-    before_seven wall (suc (suc (suc (suc (suc (suc zero)))))) l = wall
-    before_seven wall (suc (suc (suc (suc (suc (suc (suc n))))))) l = absurd (omega (arith, l))
-
 module _ (g : Geometry) (limits : Limits) (cells : List Cell) (free : List (List Iso)) (found : IsFound g limits cells free) where
+  pub before_ended : (end : ProofEnd) (proof : Proof) → (k : ℕ) → k < 6 → PartHolds g limits (ended_entry end cells free proof) k
+  before_ended Refuted proof =
+      before_wall g limits (refuted_entry cells free proof) found.shape (found.no_plain, (omega arith, found.level, tt, inl (refl, refl, refl))) tt tt
+      (refl, (found.tiles, found.spelled, found.coronas))
+  before_ended Spent proof =
+      before_wall g limits (spent_entry cells free proof) found.shape (found.no_plain, (refl, found.level, tt, refl, refl)) tt tt
+      (refl, (found.tiles, found.spelled, found.coronas))
+
   pub before_open : (proof : Proof) (wider : List (List Iso)) → length wider ≡ length free + 1 → RefutesCoronas limits.version g cells (length free + 1) limits.size proof
       → (k : ℕ) → k < 7 → PartHolds g (with_levels limits (length wider)) (open_entry cells free proof wider) k
   before_open proof wider more wall =
-      before_seven g (with_levels limits (length wider)) (open_entry cells free proof wider) found.shape (no_plain_still g limits cells (length wider) found.no_plain, (omega (arith, more), tt, refl, (record { layers = wider }, refl, refl))) tt tt
+      before_wider g (with_levels limits (length wider)) (open_entry cells free proof wider) found.shape (no_plain_still g limits cells (length wider) found.no_plain, (omega (arith, more), tt, refl, (record { layers = wider }, refl, refl))) tt tt
       (refl, (found.tiles, found.spelled, found.coronas)) wall
+
+-- ---- a proof that is outer
+
+module _ (g : Geometry) (limits : Limits) (cells : List Cell) (free : List (List Iso)) (proof : Proof) where
+  pub not_outer : (end : ProofEnd) → (¬ HasCutsUpTo (length free) proof) → ¬ EndsOuter end g limits cells (length free) proof
+  not_outer Refuted fails r = fails r.outer_cuts
+  not_outer Spent fails r = fails r.outer_cuts
+
+  -- it is where the wall of its entry holds
+  pub ended_outer : (end : ProofEnd) → HasCutsUpTo (length free) proof → PartHolds g limits (ended_entry end cells free proof) 6 ↔ EndsOuter end g limits cells (length free) proof
+  ended_outer Refuted cuts = ((λ w. record { refutes = w; outer_cuts = cuts }), (λ r. r.refutes))
+  ended_outer Spent cuts = ((λ w. record { is_spent = w; outer_cuts = cuts }), (λ r. r.is_spent))

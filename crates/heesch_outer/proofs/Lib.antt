@@ -3,5 +3,4 @@ pub mod OuterSound
 pub mod OuterRight
 pub mod Entries
 pub mod OuterLayers
-pub mod CanonicalCells
 pub mod OuterAnswers

@@ -19,12 +19,12 @@ use Rattle.heesch_cert.specs.Limits.{AreLimits}
 use Rattle.heesch_cert.specs.Proofs.{RefutesCoronas, IsTooLarge}
 use Rattle.heesch_cert.proofs.Exactly.{too_large_exactly}
 use Rattle.heesch_cert.specs.TrueEntry.{FormFits, FreeHolds, WallHolds, IsTrueEntry, first_number}
+use Rattle.heesch_audit.proofs.Canonical.{form_of}
 use Rattle.heesch_outer.specs.declared.answer.OuterAnswer.{OuterAnswer}
 use Rattle.heesch_outer.specs.declared.answer.OuterAnswer.TheVariants.{Tiles, Unknown, More, Same, Spent}
 use Rattle.heesch_outer.specs.Answer.{FitsOuter, IsBeyondWall, IsOuterAnswer, IsSearched}
 use Rattle.heesch_outer.specs.Found.{IsFound, IsNearAnswer}
 use Rattle.heesch_outer.specs.Statements.{TellsNumber}
-use Rattle.heesch_outer.proofs.CanonicalCells.{form_of}
 use Rattle.heesch_outer.proofs.Entries.{found_of, layers_near, proof_near, steps_near}
 use Rattle.heesch_outer.proofs.OuterRight.{outer_answers_are_right}
 
@@ -83,7 +83,7 @@ module _ (g : Geometry) (limits : Limits) (entry : Entry) (true_entry : IsTrueEn
   pub fits_in : IsGrid g → ¬ IsTooLarge limits.version g entry.cells (length free.layers + 1) limits.size
   fits_in law large =
       let r = wall_in in
-      let above = (too_large_exactly limits.version g law entry.cells (form_of g law entry.cells true_entry.shape).0 (length free.layers + 1) r.vars r.count r.clauses r.formula limits.size).0 large in
+      let above = (too_large_exactly limits.version g law entry.cells (form_of g law entry.cells true_entry.shape).polyform (length free.layers + 1) r.vars r.count r.clauses r.formula limits.size).0 large in
       let fits = r.fits in
       omega (arith, above, fits)
 

@@ -19,32 +19,25 @@ use Rattle.heesch_outer.specs.Coronas.{inner_layers}
 use Rattle.heesch_outer.specs.Answer.{SpellsOuterCoronas}
 use Rattle.heesch_outer.proofs.OuterNumbers.{first_coronas}
 
+-- where each item has one other, so have items their others
+one_zip : {X Y : Type 0} (R : X → Y → Type 0) → ((x : X) (y z : Y) → R x y → R x z → y ≡ z) → (xs : List X) (ys zs : List Y) → AllZip R xs ys → AllZip R xs zs → ys ≡ zs
+one_zip R one [] [] [] p q = refl
+one_zip R one [] [] (z ∷ zs) p q = absurd q
+one_zip R one [] (y ∷ ys) zs p q = absurd p
+one_zip R one (x ∷ xs) [] zs p q = absurd p
+one_zip R one (x ∷ xs) (y ∷ ys) [] p q = absurd q
+one_zip R one (x ∷ xs) (y ∷ ys) (z ∷ zs) p q =
+    let first : y ≡ z = one x y z p.0 q.0 in
+    let rest : ys ≡ zs = one_zip R one xs ys zs p.1 q.1 in
+    λ i. first i ∷ rest i
+
 module _ (g : Geometry) (shape : List Cell) where
   abbrev AreTiles : List Iso → List (List Cell) → Type 0
   AreTiles layer placed = AllZip (λ by tile. IsLeastIsometry g shape tile by) layer placed
 
   -- isometries give one list of tiles, and layers of them one list of layers
-  one_layer : (layer : List Iso) (tiles others : List (List Cell)) → AreTiles layer tiles → AreTiles layer others → tiles ≡ others
-  one_layer [] [] [] p q = refl
-  one_layer [] [] (o ∷ os) p q = absurd q
-  one_layer [] (t ∷ ts) others p q = absurd p
-  one_layer (by ∷ layer) [] others p q = absurd p
-  one_layer (by ∷ layer) (t ∷ ts) [] p q = absurd q
-  one_layer (by ∷ layer) (t ∷ ts) (o ∷ os) p q =
-      let first : t ≡ o = one_cell_list (image g by shape) t o p.0.gives q.0.gives in
-      let rest : ts ≡ os = one_layer layer ts os p.1 q.1 in
-      λ i. first i ∷ rest i
-
   one_spelling : (layers : List (List Iso)) (tiles others : List (List (List Cell))) → AllZip AreTiles layers tiles → AllZip AreTiles layers others → tiles ≡ others
-  one_spelling [] [] [] p q = refl
-  one_spelling [] [] (o ∷ os) p q = absurd q
-  one_spelling [] (t ∷ ts) others p q = absurd p
-  one_spelling (layer ∷ layers) [] others p q = absurd p
-  one_spelling (layer ∷ layers) (t ∷ ts) [] p q = absurd q
-  one_spelling (layer ∷ layers) (t ∷ ts) (o ∷ os) p q =
-      let first : t ≡ o = one_layer layer t o p.0 q.0 in
-      let rest : ts ≡ os = one_spelling layers ts os p.1 q.1 in
-      λ i. first i ∷ rest i
+  one_spelling layers tiles others p q = one_zip AreTiles (one_zip (λ by tile. IsLeastIsometry g shape tile by) (λ by t o p q. one_cell_list (image g by shape) t o p.gives q.gives)) layers tiles others p q
 
   -- the first layers spell the first layers of tiles
   first_spelled : (layers : List (List Iso)) (tiles : List (List (List Cell))) (n : ℕ) → Spells g shape layers tiles → Spells g shape (take n layers) (take n tiles)

@@ -1,6 +1,6 @@
 -- Outer coronas and outer numbers, from their definitions.
 use Rattle.std.proofs.Common.{◌≡◌, refl, sym, ap, subst, ◌∙◌, ℕ, zero, suc, ◌+◌, ◌-◌, ◌≤◌, not-suc-le-zero, le_of_suc-le-suc, List, [], ◌∷◌, ◌++◌, length, take, ◌⊎◌, inl, inr, arith}
-use Rattle.std.proofs.lemmas.Bool.{cases_order}
+use Rattle.std.proofs.lemmas.Bool.{cases_lt, cases_order}
 use Rattle.std.proofs.lemmas.List.{length-take-le, take_all}
 use Rattle.heesch_grid.specs.declared.Cell.{Cell}
 use Rattle.heesch_grid.specs.Geometry.{Geometry}
@@ -92,10 +92,7 @@ outer_numbers_are_next g shape h number = record { more = λ o. (o, none_above);
 
 pub outer_numbers_lie_below : OuterNumbersLieBelow
 outer_numbers_lie_below g shape k m p none =
-    elim (cases_order k m) [
-      | inl e ↦ absurd (refuted (omega arith))
-      | inr o ↦ elim o [ inl less ↦ less | inr more ↦ absurd (refuted (omega arith)) ]
+    elim (cases_lt k m) [
+      | inl less ↦ less
+      | inr from ↦ absurd (none ((fewer_coronas_exist g shape m k from).0 ((outer_coronas_lie_between g shape k).1 p.0)))
     ]
-  where
-    refuted : m ≤ k → ⊥
-    refuted l = none ((fewer_coronas_exist g shape m k l).0 ((outer_coronas_lie_between g shape k).1 p.0))

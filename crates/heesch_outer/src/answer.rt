@@ -9,8 +9,8 @@ pub enum OuterAnswer {
     Tiles,
     /// The entry doesn't know the Heesch number.
     Unknown,
-    /// It is h + 1: a layer for each outer corona, with its tiles in rising order of their cell lists, each by its least
-    /// isometry.
+    /// It is h + 1: a layer for each outer corona, with its tiles in rising order of their cell lists, each by its
+    /// least isometry.
     More { layers: Layers },
     /// It is h: the proof refutes the corona formula of level h + 1, with cuts of the levels 1 to h alone.
     Same { proof: Proof },

@@ -49,14 +49,16 @@ fn search_outer<G: Grid>(
     }
 }
 
-/// The outer number of an entry's shape: Tiles exactly for a tiling, Unknown exactly where the Heesch number isn't known.
-/// Else h is the entry's number. Where the wall's proof has no cut the answer is Same with that proof. Elsewhere h + 1 outer
-/// coronas are sought, with cuts of the levels 1 to h and turns of its own: More has them, spelled as the layers of a true
-/// entry, Same has a proof that there are none, and Spent one with as many steps as the limit on turns, each of them new.
+/// The outer number of an entry's shape: Tiles exactly for a tiling, Unknown exactly where the Heesch number isn't
+/// known. Else h is the entry's number. Where the wall's proof has no cut the answer is Same with that proof. Elsewhere
+/// h + 1 outer coronas are sought, with cuts of the levels 1 to h and turns of its own: More has them, spelled as the
+/// layers of a true entry, Same has a proof that there are none, and Spent one with as many steps as the limit on
+/// turns, each of them new.
 ///
 /// Where the answer is More the outer number is h + 1, and where it is Same it is h.
 ///
-/// Condition: the limits lie in their ranges, and the entry is true under them. The cost is that of `level` at level h + 1.
+/// Condition: the limits lie in their ranges, and the entry is true under them. The cost is that of `level` at level
+/// h + 1.
 pub fn outer<G: Grid>(alloc: Global, entry: &Entry, limits: Limits) -> Result<OuterAnswer, NoMemory>
     requires limits { AreLimits limits }
     requires entry { IsTrueEntry G.geometry limits entry.now }

@@ -7,11 +7,12 @@ ghost use Rattle.heesch_cert.specs.TrueEntry.{IsTrueEntry};
 ghost use Rattle.heesch_levels.specs.UpTo.{HasCutsUpTo};
 ghost use Rattle.heesch_outer.specs.Answer.{IsOuterAnswer, IsSearched};
 ghost use Rattle.heesch_outer.specs.Found.{IsFound, IsNearAnswer};
-ghost use Rattle.heesch_outer.specs.Proofs.{RefutesOuter, IsSpentOuter};
+ghost use Rattle.heesch_outer.specs.Proofs.{EndsOuter};
 
 use crate::OuterAnswer;
 use crate::copies::is_same_proof;
-use crate::parts::{are_outer, is_refuted, is_spent};
+use crate::parts::{are_outer, ended_entry, part_holds};
+use heesch_audit::ProofEnd;
 use heesch_cert::{Bare, Entry, Evidence, Isos, Limits, Proof, Step, Verdict, Wall};
 use heesch_grid::{Cell, Grid};
 use heesch_io::NoMemory;
@@ -60,47 +61,30 @@ fn is_same_by(answer: &OuterAnswer, wall: &Proof) -> bool
     }
 }
 
-/// Whether the proof is outer for the number of the layers, and refutes.
-fn refutes_outer<G: Grid, T: Threads + Sync>(
+/// Whether the proof is outer for the number of the layers, and refutes or is spent, as asked.
+fn is_ended_outer<G: Grid, T: Threads + Sync>(
     rt: &T,
     alloc: Global,
     cells: &[Cell],
     free: &[Isos],
+    end: ProofEnd,
     proof: &Proof,
     limits: Limits,
 ) -> Result<bool, NoMemory>
     requires limits { AreLimits limits }
     requires found { IsFound G.geometry limits cells.now free.now }
     requires near { IsNearProof proof.now }
-    ensures { IfOk result (λ yes. IsTrue yes ↔ RefutesOuter G.geometry limits cells.now (length free.now) proof.now) }
+    ensures { IfOk result (λ yes. IsTrue yes ↔ EndsOuter end G.geometry limits cells.now (length free.now) proof.now) }
 {
     if !has_cuts_up_to(proof, free.len()) {
         return Ok(false);
     }
-    is_refuted::<G, T>(rt, alloc, cells, free, proof, limits)
+    let entry = ended_entry(alloc, cells, free, end, proof)?;
+    part_holds::<G, T>(rt, alloc, &entry, limits, 6)
 }
 
-/// Whether the proof is outer for the number of the layers, and spent.
-fn is_spent_outer<G: Grid, T: Threads + Sync>(
-    rt: &T,
-    alloc: Global,
-    cells: &[Cell],
-    free: &[Isos],
-    proof: &Proof,
-    limits: Limits,
-) -> Result<bool, NoMemory>
-    requires limits { AreLimits limits }
-    requires found { IsFound G.geometry limits cells.now free.now }
-    requires near { IsNearProof proof.now }
-    ensures { IfOk result (λ yes. IsTrue yes ↔ IsSpentOuter G.geometry limits cells.now (length free.now) proof.now) }
-{
-    if !has_cuts_up_to(proof, free.len()) {
-        return Ok(false);
-    }
-    is_spent::<G, T>(rt, alloc, cells, free, proof, limits)
-}
-
-/// Whether a search of its own may end with the answer, behind layers that were found and a wall that the proof refutes.
+/// Whether a search of its own may end with the answer, behind layers that were found and a wall that the proof
+/// refutes.
 fn is_searched<G: Grid, T: Threads + Sync>(
     rt: &T,
     alloc: Global,
@@ -121,23 +105,27 @@ fn is_searched<G: Grid, T: Threads + Sync>(
         OuterAnswer::More { layers } => are_outer::<G, T>(
             rt, alloc, cells, free, wall, layers, limits,
         ),
-        OuterAnswer::Same { proof } => refutes_outer::<G, T>(rt, alloc, cells, free, proof, limits),
-        OuterAnswer::Spent { proof } => is_spent_outer::<G, T>(
-            rt, alloc, cells, free, proof, limits,
-        ),
+        OuterAnswer::Same { proof } => {
+            let end = ProofEnd::Refuted;
+            is_ended_outer::<G, T>(rt, alloc, cells, free, end, proof, limits)
+        }
+        OuterAnswer::Spent { proof } => {
+            let end = ProofEnd::Spent;
+            is_ended_outer::<G, T>(rt, alloc, cells, free, end, proof, limits)
+        }
     }
 }
 
-/// Whether the answer is one that is allowed for the entry: Tiles exactly for a tiling, Unknown exactly where the Heesch
-/// number isn't known; the wall's own proof where that has no cut; else h + 1 outer coronas, spelled as the layers of a true
-/// entry, or a proof with lawful cuts of the levels 1 to h that refutes the corona formula of level h + 1, or is spent for
-/// the limit on turns over it, where h is the entry's number.
+/// Whether the answer is one that is allowed for the entry: Tiles exactly for a tiling, Unknown exactly where the
+/// Heesch number isn't known; the wall's own proof where that has no cut; else h + 1 outer coronas, spelled as the
+/// layers of a true entry, or a proof with lawful cuts of the levels 1 to h that refutes the corona formula of level
+/// h + 1, or is spent for the limit on turns over it, where h is the entry's number.
 ///
-/// Condition: the limits lie in their ranges, the entry is true under them, and the answer's translations and the cells of
-/// its cuts' holes lie within 100,000 of 0. Its turns and numbers may be any.
+/// Condition: the limits lie in their ranges, the entry is true under them, and the answer's translations and the cells
+/// of its cuts' holes lie within 100,000 of 0. Its turns and numbers may be any.
 ///
-/// Proofs and layers are copied, and looked at as parts of an entry by `audit`, which has its cost; for More it checks the
-/// wall's proof once more.
+/// Proofs and layers are copied, and looked at as parts of an entry by `audit`, which has its cost; for More it checks
+/// the wall's proof once more.
 pub fn check_outer<G: Grid, T: Threads + Sync>(
     rt: &T,
     alloc: Global,

@@ -1,17 +1,17 @@
 //! The parts of a true entry that answers are checked by.
 ghost use Rattle.std.specs.Prelude.{◌≡◌, ◌↔◌, ◌+◌, ◌≤◌, ◌<◌, ℕ, true, false, length, IfOk, IsTrue};
-ghost use Rattle.heesch_audit.specs.Near.{AreNearLayers, IsNearEntry, IsNearProof};
+ghost use Rattle.heesch_audit.specs.Near.{AreNearLayers, IsNearEntry};
 ghost use Rattle.heesch_audit.specs.Shapes.{AreCanonical};
 ghost use Rattle.heesch_audit.specs.Spelling.{SpellCoronas};
 ghost use Rattle.heesch_cert.specs.Limits.{AreLimits};
 ghost use Rattle.heesch_cert.specs.Parts.{PartHolds};
-ghost use Rattle.heesch_cert.specs.Proofs.{RefutesCoronas, IsSpentOnCoronas};
+ghost use Rattle.heesch_cert.specs.Proofs.{RefutesCoronas};
 ghost use Rattle.heesch_cert.specs.TrueEntry.{HasNoPlain};
 ghost use Rattle.heesch_outer.specs.Answer.{SpellsOuterCoronas};
-ghost use Rattle.heesch_outer.specs.Found.{IsFound, free_entry, open_entry, refuted_entry, spent_entry, with_levels};
+ghost use Rattle.heesch_outer.specs.Found.{IsFound, ended_entry, free_entry, open_entry, search_entry, with_levels};
 
 use crate::copies::{copy_items, copy_layers, copy_proof};
-use heesch_audit::{EntryAnswer, audit};
+use heesch_audit::{EntryAnswer, ProofEnd, audit};
 use heesch_cert::{Bare, Entry, Evidence, Isos, Layers, Limits, Phase, Proof, Verdict, Wall};
 use heesch_grid::{Cell, Grid};
 use heesch_io::{NoMemory, Seq};
@@ -19,7 +19,7 @@ use std::alloc::Global;
 use std::thread::Threads;
 
 /// Whether a part of the entry holds, where those before it do.
-fn part_holds<G: Grid, T: Threads + Sync>(
+pub(crate) fn part_holds<G: Grid, T: Threads + Sync>(
     rt: &T,
     alloc: Global,
     entry: &Entry,
@@ -44,62 +44,61 @@ fn with_levels(limits: Limits, levels: u32) -> Limits
     Limits { levels, ..limits }
 }
 
-/// The entry of so many layers whose wall the proof refutes.
-fn refuted_entry(
+/// The entry of so many layers whose searches ended so.
+fn search_entry(
     alloc: Global,
     cells: &[Cell],
     free: &[Isos],
-    proof: &Proof,
+    verdict: Verdict,
+    wall: Wall,
+    bare: Bare,
+    wider: Option<Layers>,
 ) -> Result<Entry, NoMemory>
-    requires { length free.now ≤ 6 }
-    ensures { IfOk result (λ entry. entry ≡ refuted_entry cells.now free.now proof.now) }
+    ensures { IfOk result (λ entry. entry ≡ search_entry cells.now free.now verdict wall bare wider) }
 {
-    let h = free.len() as u32;
     let evidence = Evidence::Search {
         free: copy_layers(alloc, free)?,
-        wall: Wall::Refuted {
-            proof: copy_proof(alloc, proof)?,
-        },
-        bare: Bare::Same,
-        wider: None,
+        wall,
+        bare,
+        wider,
         triples: Seq::new(alloc),
     };
     Ok(Entry {
         cells: copy_items(alloc, cells)?,
-        verdict: Verdict::Heesch { h, m: h + 1 },
+        verdict,
         evidence,
     })
 }
 
-/// The entry of so many layers whose search for more ended with the proof.
-fn spent_entry(
+/// The entry of so many layers whose search for more ended so with the proof.
+pub(crate) fn ended_entry(
     alloc: Global,
     cells: &[Cell],
     free: &[Isos],
+    end: ProofEnd,
     proof: &Proof,
 ) -> Result<Entry, NoMemory>
     requires { length free.now ≤ 6 }
-    ensures { IfOk result (λ entry. entry ≡ spent_entry cells.now free.now proof.now) }
+    ensures { IfOk result (λ entry. entry ≡ ended_entry end cells.now free.now proof.now) }
 {
     let h = free.len() as u32;
-    let evidence = Evidence::Search {
-        free: copy_layers(alloc, free)?,
-        wall: Wall::Spent {
-            proof: copy_proof(alloc, proof)?,
-        },
-        bare: Bare::Absent,
-        wider: None,
-        triples: Seq::new(alloc),
-    };
-    Ok(Entry {
-        cells: copy_items(alloc, cells)?,
-        verdict: Verdict::Turns {
-            h,
-            phase: Phase::Free,
-            at: h + 1,
-        },
-        evidence,
-    })
+    let proof = copy_proof(alloc, proof)?;
+    match end {
+        ProofEnd::Refuted => {
+            let verdict = Verdict::Heesch { h, m: h + 1 };
+            let wall = Wall::Refuted { proof };
+            search_entry(alloc, cells, free, verdict, wall, Bare::Same, None)
+        }
+        ProofEnd::Spent => {
+            let verdict = Verdict::Turns {
+                h,
+                phase: Phase::Free,
+                at: h + 1,
+            };
+            let wall = Wall::Spent { proof };
+            search_entry(alloc, cells, free, verdict, wall, Bare::Absent, None)
+        }
+    }
 }
 
 /// The entry of so many layers with wider ones, behind a wall that the proof refutes.
@@ -113,22 +112,19 @@ fn open_entry(
     requires { length free.now ≤ 6 }
     ensures { IfOk result (λ entry. entry ≡ open_entry cells.now free.now wall.now wider.now) }
 {
-    let evidence = Evidence::Search {
-        free: copy_layers(alloc, free)?,
-        wall: Wall::Refuted {
-            proof: copy_proof(alloc, wall)?,
-        },
-        bare: Bare::Open,
-        wider: Some(copy_layers(alloc, wider)?),
-        triples: Seq::new(alloc),
-    };
-    Ok(Entry {
-        cells: copy_items(alloc, cells)?,
-        verdict: Verdict::Holes {
-            h: free.len() as u32,
-        },
-        evidence,
-    })
+    let h = free.len() as u32;
+    let proof = copy_proof(alloc, wall)?;
+    let wall = Wall::Refuted { proof };
+    let wider = copy_layers(alloc, wider)?;
+    search_entry(
+        alloc,
+        cells,
+        free,
+        Verdict::Holes { h },
+        wall,
+        Bare::Open,
+        Some(wider),
+    )
 }
 
 /// The entry of so many layers, which are as many as are sought.
@@ -136,56 +132,16 @@ fn free_entry(alloc: Global, cells: &[Cell], free: &[Isos]) -> Result<Entry, NoM
     requires { length free.now ≤ 6 }
     ensures { IfOk result (λ entry. entry ≡ free_entry cells.now free.now) }
 {
-    let evidence = Evidence::Search {
-        free: copy_layers(alloc, free)?,
-        wall: Wall::Absent,
-        bare: Bare::Absent,
-        wider: None,
-        triples: Seq::new(alloc),
-    };
-    Ok(Entry {
-        cells: copy_items(alloc, cells)?,
-        verdict: Verdict::Levels {
-            h: free.len() as u32,
-        },
-        evidence,
-    })
-}
-
-/// Whether the proof refutes the corona formula of the level after the layers, and its cuts are lawful.
-pub(crate) fn is_refuted<G: Grid, T: Threads + Sync>(
-    rt: &T,
-    alloc: Global,
-    cells: &[Cell],
-    free: &[Isos],
-    proof: &Proof,
-    limits: Limits,
-) -> Result<bool, NoMemory>
-    requires limits { AreLimits limits }
-    requires found { IsFound G.geometry limits cells.now free.now }
-    requires near { IsNearProof proof.now }
-    ensures { IfOk result (λ yes. IsTrue yes ↔ RefutesCoronas limits.version G.geometry cells.now (length free.now + 1) limits.size proof.now) }
-{
-    let entry = refuted_entry(alloc, cells, free, proof)?;
-    part_holds::<G, T>(rt, alloc, &entry, limits, 6)
-}
-
-/// Whether the proof is spent for the limit on turns over that formula, and its cuts are lawful.
-pub(crate) fn is_spent<G: Grid, T: Threads + Sync>(
-    rt: &T,
-    alloc: Global,
-    cells: &[Cell],
-    free: &[Isos],
-    proof: &Proof,
-    limits: Limits,
-) -> Result<bool, NoMemory>
-    requires limits { AreLimits limits }
-    requires found { IsFound G.geometry limits cells.now free.now }
-    requires near { IsNearProof proof.now }
-    ensures { IfOk result (λ yes. IsTrue yes ↔ IsSpentOnCoronas limits.version G.geometry cells.now (length free.now + 1) limits.turns limits.size proof.now) }
-{
-    let entry = spent_entry(alloc, cells, free, proof)?;
-    part_holds::<G, T>(rt, alloc, &entry, limits, 6)
+    let h = free.len() as u32;
+    search_entry(
+        alloc,
+        cells,
+        free,
+        Verdict::Levels { h },
+        Wall::Absent,
+        Bare::Absent,
+        None,
+    )
 }
 
 /// Whether the layers without the outermost are hole-free coronas.
@@ -207,16 +163,12 @@ fn is_inner_free<G: Grid, T: Threads + Sync>(
         return Ok(true);
     }
     let entry = free_entry(alloc, cells, inner)?;
-    part_holds::<G, T>(
-        rt,
-        alloc,
-        &entry,
-        with_levels(limits, inner.len() as u32),
-        5,
-    )
+    let limits = with_levels(limits, inner.len() as u32);
+    part_holds::<G, T>(rt, alloc, &entry, limits, 5)
 }
 
-/// Whether the layers are coronas, holes allowed, one more than were found hole-free, behind a wall that the proof refutes.
+/// Whether the layers are coronas, holes allowed, one more than were found hole-free, behind a wall that the proof
+/// refutes.
 fn is_wider<G: Grid, T: Threads + Sync>(
     rt: &T,
     alloc: Global,
@@ -234,13 +186,8 @@ fn is_wider<G: Grid, T: Threads + Sync>(
     ensures { IfOk result (λ yes. IsTrue yes ↔ SpellCoronas G.geometry cells.now false layers.now) }
 {
     let entry = open_entry(alloc, cells, free, wall, layers)?;
-    part_holds::<G, T>(
-        rt,
-        alloc,
-        &entry,
-        with_levels(limits, layers.len() as u32),
-        7,
-    )
+    let limits = with_levels(limits, layers.len() as u32);
+    part_holds::<G, T>(rt, alloc, &entry, limits, 7)
 }
 
 /// Whether the layers are outer coronas, one more than were found hole-free, behind a wall that the proof refutes.

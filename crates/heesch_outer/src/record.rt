@@ -4,7 +4,8 @@ ghost use Rattle.heesch_cert.specs.TrueEntry.{first_number};
 ghost use Rattle.heesch_outer.specs.Record.{answer_text, number_line};
 
 use crate::OuterAnswer;
-use heesch_cert::{Entry, Verdict};
+use heesch_audit::first_number;
+use heesch_cert::Entry;
 use heesch_io::NoMemory;
 use heesch_text::fields::append_bytes;
 use heesch_text::{append_layers, append_proof};
@@ -46,22 +47,9 @@ fn append_answer(h: u32, answer: &OuterAnswer, out: &mut Vec<u8>) -> Result<(), 
     }
 }
 
-/// The number of hole-free coronas of a verdict; a tiling has none.
-fn number_of(verdict: Verdict) -> u32
-    ensures { result ≡ first_number verdict }
-{
-    match verdict {
-        Verdict::Tiles { .. } => 0,
-        Verdict::Heesch { h, .. }
-        | Verdict::Levels { h }
-        | Verdict::Holes { h }
-        | Verdict::Turns { h, .. }
-        | Verdict::Size { h, .. } => h,
-    }
-}
-
-/// Appends what is known of the outer number of the entry's shape: `hh tiles`; `hh undecided`; `hc H` and `hh K` with K = H + 1
-/// and a line for each layer; `hc H`, `hh H` and the lines of the refutation; or `hc H`, `hh spent` and the lines of the proof.
+/// Appends what is known of the outer number of the entry's shape: `hh tiles`; `hh undecided`; `hc H` and `hh K` with
+/// K = H + 1 and a line for each layer; `hc H`, `hh H` and the lines of the refutation; or `hc H`, `hh spent` and the
+/// lines of the proof.
 ///
 /// Errors: at `NoMemory` the text is as it was before. Its cost is the length of what it appends.
 pub fn write_answer(entry: &Entry, answer: &OuterAnswer, out: &mut Vec<u8>) -> Result<(), NoMemory>
@@ -69,7 +57,7 @@ pub fn write_answer(entry: &Entry, answer: &OuterAnswer, out: &mut Vec<u8>) -> R
     ensures err { OnErr result (out.new.items ≡ out.old.items) }
 {
     let before = out.len();
-    let written = append_answer(number_of(entry.verdict), answer, out);
+    let written = append_answer(first_number(entry.verdict), answer, out);
     if written.is_err() {
         out.truncate(before);
     }

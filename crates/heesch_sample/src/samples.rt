@@ -42,45 +42,48 @@ pub fn sample<T: Threads + Sync, H: Gate + Sync>(
     requires workers { (1 ≤ workers) × (workers ≤ 64) }
     ensures { IfOk result (λ text. IsSample (geometry_of grid) n count seed limits text.items) }
 {
+    let growth = Growth { n, count, seed };
     on_grid!(
         grid,
-        sample_of::<_, T, H>(rt, alloc, n, count, seed, limits, workers, gate)
+        sample_of::<_, T, H>(rt, alloc, growth, limits, workers, gate)
     )
+}
+
+/// What is grown: so many polyforms of n cells, one after the other, from one state that starts at the seed.
+#[derive(Clone, Copy)]
+struct Growth {
+    n: u32,
+    count: u32,
+    seed: u64,
 }
 
 fn sample_of<G: Grid + Send + Sync, T: Threads + Sync, H: Gate + Sync>(
     rt: &T,
     alloc: Global,
-    n: u32,
-    count: u32,
-    seed: u64,
+    growth: Growth,
     limits: Limits,
     workers: u32,
     gate: &H,
 ) -> Result<Vec<u8>, NoMemory>
-    requires size { (1 ≤ n) × (n ≤ 32) }
-    requires few { count ≤ 1000 }
+    requires size { (1 ≤ growth.n) × (growth.n ≤ 32) }
+    requires few { growth.count ≤ 1000 }
     requires limits { AreLimits limits }
     requires workers { (1 ≤ workers) × (workers ≤ 64) }
-    ensures { IfOk result (λ text. IsSample G.geometry n count seed limits text.items) }
+    ensures { IfOk result (λ text. IsSample G.geometry growth.n growth.count growth.seed limits text.items) }
 {
-    let shapes = grown_shapes::<G>(alloc, n, count, seed)?;
-    let tally = tally_of(rt, alloc, &shapes, count, limits, workers, gate)?;
+    let shapes = grown_shapes::<G>(alloc, growth)?;
+    let tally = tally_of(rt, alloc, &shapes, growth.count, limits, workers, gate)?;
     let mut text = Vec::new(alloc);
     tally.write(&mut text)?;
     Ok(text)
 }
 
 /// The canonical shapes of the polyforms that are grown one after the other.
-fn grown_shapes<G: Grid>(
-    alloc: Global,
-    n: u32,
-    count: u32,
-    seed: u64,
-) -> Result<Vec<Shape<G>>, NoMemory>
-    requires size { (1 ≤ n) × (n ≤ 32) }
-    ensures { IfOk result (λ shapes. AreGrown G.geometry n seed count shapes.items) }
+fn grown_shapes<G: Grid>(alloc: Global, growth: Growth) -> Result<Vec<Shape<G>>, NoMemory>
+    requires size { (1 ≤ growth.n) × (growth.n ≤ 32) }
+    ensures { IfOk result (λ shapes. AreGrown G.geometry growth.n growth.seed growth.count shapes.items) }
 {
+    let Growth { n, count, seed } = growth;
     let mut draws = Draws::new(seed);
     let mut shapes = Vec::new(alloc);
     for _made in 0..count {

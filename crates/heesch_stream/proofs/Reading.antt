@@ -1,5 +1,5 @@
 -- What the reader's answers say of the whole input.
-use Rattle.std.proofs.Common.{◌≡◌, inl, inr, ℕ, ◌+◌, ◌<◌, ◌≤◌, ◌==◌, List, [], ◌∷◌, ◌++◌, length, Option, Some, None, Result, Ok, Err, refl, sym, ap, subst, ◌∙◌, append_assoc, arith}
+use Rattle.std.proofs.Common.{◌≡◌, ◌⊎◌, inl, inr, ℕ, ◌+◌, ◌<◌, ◌≤◌, ◌==◌, List, [], ◌∷◌, ◌++◌, length, Option, Some, None, Result, Ok, Err, refl, sym, ap, subst, ◌∙◌, append_assoc, arith}
 use Rattle.std.specs.Prelude.{if◌then◌else◌}
 use Rattle.std.specs.Io.KnownBytes.{Consumes, IsAtEnd}
 use Rattle.heesch_io.proofs.KnownBytes.{consumes_both, consumes_none}
@@ -13,7 +13,7 @@ use Rattle.heesch_reader.specs.declared.item.Stop.{Stop}
 use Rattle.heesch_reader.specs.declared.item.Stop.TheVariants as reader_stops
 use Rattle.heesch_reader.specs.declared.progress.Progress.TheVariants as stages
 use Rattle.heesch_reader.specs.Items.{Kept, none_appended}
-use Rattle.heesch_reader.specs.Feeding.{Takes, Finishes, FeedFrom, FeedResult, FinishFrom, FinishResult}
+use Rattle.heesch_reader.specs.Feeding.{Takes, Finishes, Refuses, FallsShort, RunsOut, FeedFrom, FeedResult, FinishFrom, FinishResult}
 use Rattle.heesch_reader.proofs.Following.{takes_room}
 use Rattle.heesch_stream.specs.declared.answers.Taken.{Taken}
 use Rattle.heesch_stream.specs.declared.answers.Taken.TheVariants as takens
@@ -21,7 +21,7 @@ use Rattle.heesch_stream.specs.declared.answers.StreamStop.{StreamStop}
 use Rattle.heesch_stream.specs.declared.answers.StreamStop.TheVariants as stops
 use Rattle.heesch_stream.specs.Answers.{stop_of}
 use Rattle.heesch_stream.specs.Input.{newlines}
-use Rattle.heesch_stream.specs.Taking.{Streamed, Begins, HasRead, TakesPiece, TakesEnd, TellsFault, TellsTooLong, RunsOutOfMemory, TakeResult, FeedsPiece, FinishesAll}
+use Rattle.heesch_stream.specs.Taking.{Streamed, Begins, HasFault, HasRead, HasWhole, TakesPiece, TakesEnd, TellsFault, TellsTooLong, RunsOutOfMemory, TakeResult, FeedsPiece, FinishesAll}
 use Rattle.heesch_stream.proofs.Joining.{takes_on, refuses_on, falls_short_on, finishes_on, runs_out_on, none_on}
 
 -- ---- known bytes
@@ -101,6 +101,31 @@ took_piece old new items after piece before now t count most line some c = recor
       };
 }
 
+-- the input is these bytes and those behind them
+record IsSplit (first : Option (List ℕ)) (front behind : List ℕ) : Type 0 where
+  pub all_of : IsAllOf first (front ++ behind)
+  pub few : length front ≤ 1099511627776
+
+with_fault : (first : Option (List ℕ)) (front behind : List ℕ) (all : List Item) (line : ℕ) (part : Part) → IsSplit first front behind
+    → Refuses none_appended [] all front line part ⊎ (FallsShort none_appended [] all front line part × (behind ≡ [])) → HasFault first all line part
+with_fault first front behind all line part i fault = record { input = front ++ behind; all_of = i.all_of; front = front; behind = behind; split = refl; few = i.few; fault = fault }
+
+with_whole : (first : Option (List ℕ)) (front behind : List ℕ) (all : List Item) → IsSplit first front behind → RunsOut none_appended [] all front → HasWhole first all
+with_whole first front behind all i whole = record { input = front ++ behind; all_of = i.all_of; front = front; behind = behind; split = refl; few = i.few; whole = whole }
+
+-- up to a piece, or to the end
+piece_split : (first before now : Option (List ℕ)) (found : List Item) (old : Streamed) (piece : List ℕ) → (h : HasRead first before found old) → Consumes before now piece → old.count + length piece ≤ 1099511627776 → IsSplit first (h.bytes ++ piece) (unread now)
+piece_split first before now found old piece h c few = record {
+  all_of = all_of_both first before now h.bytes piece h.consumed c;
+  few = omega (arith, few, h.count_is, length-append h.bytes piece);
+}
+
+end_split : (first before : Option (List ℕ)) (found : List Item) (old : Streamed) → (h : HasRead first before found old) → IsAtEnd before → IsSplit first (h.bytes ++ []) []
+end_split first before found old h end = record {
+  all_of = subst (IsAllOf first) (sym (append-nil (h.bytes ++ []))) (all_at_end first before h.bytes h.consumed end);
+  few = omega (arith, h.at_most, length-append h.bytes []);
+}
+
 pub refused_piece : (old : Streamed) (new : Kept) (items after : List Item) (piece : List ℕ) (line : ℕ) (part : Part) (before now : Option (List ℕ)) → old.kept.refusal ≡ None
     → FeedResult old.kept new items after piece (Err (reader_stops.NotText line part)) → Consumes before now piece → old.count + length piece ≤ 1099511627776 → TellsFault before old items after line part
 refused_piece old new items after piece line part before now e f c few =
@@ -108,16 +133,7 @@ refused_piece old new items after piece line part before now e f c few =
     record {
       more = t.found;
       after_is = t.after_is;
-      fault = λ first found h.
-          record {
-            input = (h.bytes ++ piece) ++ unread now;
-            all_of = all_of_both first before now h.bytes piece h.consumed c;
-            front = h.bytes ++ piece;
-            behind = unread now;
-            split = refl;
-            few = omega (arith, few, h.count_is, length-append h.bytes piece);
-            fault = inl (refuses_on h.bytes piece found h.begins old.kept items after line part h.kept_is t);
-          };
+      fault = λ first found h. with_fault first (h.bytes ++ piece) (unread now) (found ++ t.found) line part (piece_split first before now found old piece h c few) (inl (refuses_on h.bytes piece found h.begins old.kept items after line part h.kept_is t));
     }
 
 pub starved_piece : (old : Streamed) (new : Kept) (items after : List Item) (piece : List ℕ) (before now : Option (List ℕ)) → old.kept.refusal ≡ None
@@ -127,16 +143,7 @@ starved_piece old new items after piece before now e f c few =
     record {
       more = t.found;
       after_is = t.after_is;
-      whole = λ first found h.
-          record {
-            input = (h.bytes ++ piece) ++ unread now;
-            all_of = all_of_both first before now h.bytes piece h.consumed c;
-            front = h.bytes ++ piece;
-            behind = unread now;
-            split = refl;
-            few = omega (arith, few, h.count_is, length-append h.bytes piece);
-            whole = runs_out_on h.bytes piece found h.begins old.kept items after h.kept_is t;
-          };
+      whole = λ first found h. with_whole first (h.bytes ++ piece) (unread now) (found ++ t.found) (piece_split first before now found old piece h c few) (runs_out_on h.bytes piece found h.begins old.kept items after h.kept_is t);
     }
 
 -- ---- the end
@@ -166,16 +173,7 @@ fell_short old new items after line part before e f end =
     record {
       more = t.found;
       after_is = t.after_is;
-      fault = λ first found h.
-          record {
-            input = h.bytes ++ [];
-            all_of = all_at_end first before h.bytes h.consumed end;
-            front = h.bytes ++ [];
-            behind = [];
-            split = sym (append-nil (h.bytes ++ []));
-            few = omega (arith, h.at_most, length-append h.bytes []);
-            fault = inr (falls_short_on h.bytes found h.begins old.kept items after line part h.kept_is t, refl);
-          };
+      fault = λ first found h. with_fault first (h.bytes ++ []) [] (found ++ t.found) line part (end_split first before found old h end) (inr (falls_short_on h.bytes found h.begins old.kept items after line part h.kept_is t, refl));
     }
 
 pub starved_end : (old : Streamed) (new : Kept) (items after : List Item) (before : Option (List ℕ)) → old.kept.refusal ≡ None
@@ -185,16 +183,7 @@ starved_end old new items after before e f end =
     record {
       more = [];
       after_is = same ∙ sym (append-nil items);
-      whole = λ first found h.
-          record {
-            input = h.bytes ++ [];
-            all_of = all_at_end first before h.bytes h.consumed end;
-            front = h.bytes ++ [];
-            behind = [];
-            split = sym (append-nil (h.bytes ++ []));
-            few = omega (arith, h.at_most, length-append h.bytes []);
-            whole = none_on h.bytes found h.begins old.kept h.kept_is;
-          };
+      whole = λ first found h. with_whole first (h.bytes ++ []) [] (found ++ []) (end_split first before found old h end) (none_on h.bytes found h.begins old.kept h.kept_is);
     }
 
 -- ---- the answers

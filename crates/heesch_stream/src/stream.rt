@@ -17,8 +17,8 @@ pub const INPUT_MAX: u64 = 1_099_511_627_776;
 /// The most bytes of a piece.
 const PIECE_MAX: usize = 4096;
 
-/// Reads a catalogue from a source piece by piece. Contracts see what its reader keeps, the number of bytes that were read,
-/// and the number of the line that the next byte is on.
+/// Reads a catalogue from a source piece by piece. Contracts see what its reader keeps, the number of bytes that were
+/// read, and the number of the line that the next byte is on.
 #[derive(Drop)]
 pub struct Stream {
     reader: Reader,
@@ -50,15 +50,16 @@ impl Stream {
         }
     }
 
-    /// Reads one piece, at most 4,096 bytes and none beyond the first `INPUT_MAX` of the input, and appends the items that
-    /// are whole by now.
+    /// Reads one piece, at most 4,096 bytes and none beyond the first `INPUT_MAX` of the input, and appends the items
+    /// that are whole by now.
     ///
-    /// `End` comes where the bytes ended and are a whole catalogue. Errors: `NotText` with the first line that can't stand in
-    /// a catalogue; the items that are whole before it are appended. `TooLong` where the first `INPUT_MAX` bytes begin a
-    /// catalogue and one more byte follows; nothing is appended, and the stream keeps what it did. `Failed` only where the
-    /// source's count of faults rose; no byte is read, nothing is appended, and the stream keeps what it did, so that reading
-    /// may go on. `NoMemory` where memory was refused; the first of the items that are whole by now may be appended. After
-    /// `NotText` and `NoMemory` the stream answers the same for good, and reads nothing. Each byte is looked at twice.
+    /// `End` comes where the bytes ended and are a whole catalogue. Errors: `NotText` with the first line that can't
+    /// stand in a catalogue; the items that are whole before it are appended. `TooLong` where the first `INPUT_MAX`
+    /// bytes begin a catalogue and one more byte follows; nothing is appended, and the stream keeps what it did.
+    /// `Failed` only where the source's count of faults rose; no byte is read, nothing is appended, and the stream
+    /// keeps what it did, so that reading may go on. `NoMemory` where memory was refused; the first of the items that
+    /// are whole by now may be appended. After `NotText` and `NoMemory` the stream answers the same for good, and reads
+    /// nothing. Each byte is looked at twice.
     pub fn take<R: Source>(
         &mut self,
         source: &mut R,

@@ -2,8 +2,8 @@ use Rattle.std.proofs.Common.{sym, subst}
 use Rattle.std.specs.Prelude.{◌↔◌, IsTrue}
 use Rattle.heesch_cert.specs.declared.entry.Evidence.{Evidence}
 use Rattle.heesch_cert.specs.TrueEntry.{FormFits}
-use Rattle.heesch_audit.proofs.Bounded.{form_search, search_form}
-use Rattle.heesch_audit.proofs.Equal.{through}
+use Rattle.heesch_audit.proofs.Bounded.{search_form}
+use Rattle.heesch_audit.proofs.Equal.{back, through}
 use Rattle.heesch_audit.proofs.form.form_fits.Goals as goal
 
 pub returns-in-Cover : goal.returns-in-Cover
@@ -15,4 +15,4 @@ returns-in-Search g c =
     let geometry = g.G.Grid.geometry in
     let arm = c.in-Search in
     subst (λ (e : Evidence). IsTrue c.search_fits.result ↔ FormFits geometry c.args.limits c.args.shape.now c.args.verdict e) (sym arm.is)
-    (through c.search_fits.ensures (form_search geometry c.args.limits c.args.shape.now c.args.verdict arm.free arm.wall arm.bare arm.wider arm.triples, search_form geometry c.args.limits c.args.shape.now c.args.verdict arm.free arm.wall arm.bare arm.wider arm.triples))
+    (through c.search_fits.ensures (back (search_form geometry c.args.limits c.args.shape.now c.args.verdict arm.free arm.wall arm.bare arm.wider arm.triples)))

@@ -1,10 +1,10 @@
-use Rattle.std.proofs.Common.{◌≡◌, [], Bool, subst}
-use Rattle.std.specs.Prelude.{◌↔◌, ◌⊎◌, IsTrue, Option, MatchOption}
+use Rattle.std.proofs.Common.{◌≡◌, [], subst}
+use Rattle.std.specs.Prelude.{Option, MatchOption}
+use Rattle.std.proofs.lemmas.Result.{IfOk-weaker}
 use Rattle.heesch_cnf.specs.declared.log.Log.{Log}
-use Rattle.heesch_cnf.specs.Lines.{IsSpent, Refutes}
-use Rattle.heesch_cert.specs.Proofs.{HasNoCut, SettlesTriple, log_of}
-use Rattle.heesch_audit.proofs.Equal.{refused}
-use Rattle.heesch_audit.proofs.Proofs.{if_ok_more, settles}
+use Rattle.heesch_cert.specs.Proofs.{HasNoCut, log_of}
+use Rattle.heesch_audit.proofs.Equal.{refused, through}
+use Rattle.heesch_audit.proofs.Proofs.{settles}
 use Rattle.heesch_audit.proofs.triples.is_settled.Goals as goal
 
 pub returns-in_default : goal.returns-in_default
@@ -15,12 +15,7 @@ returns-in_default g c =
 
 pub returns : goal.returns
 returns g c =
-    let geometry = g.G.Grid.geometry in
-    let shape = c.args.shape.now in
-    let turns = c.args.turns in
     let written = c.args.written.now in
-    let log = c.in-Some.log in
-    let f = c.in_ok-formula.formula in
     let is = subst (λ (o : Option Log). MatchOption o (¬ HasNoCut written.proof) (λ l. HasNoCut written.proof × (l ≡ log_of [] written.proof))) c.in-Some.is c.learnt_log.ensures in
-    let both = settles geometry shape turns written.triple written.proof f c.in_ok-formula.ensures.is log is.0 is.1 in
-    if_ok_more (λ (yes : Bool). IsTrue yes ↔ (Refutes f.vars f.clauses log ⊎ IsSpent f.vars f.clauses turns log)) (λ (yes : Bool). IsTrue yes ↔ SettlesTriple geometry shape turns written.triple written.proof) (λ yes h. ((λ t. both.0 (h.0 t)), (λ s. h.1 (both.1 s)))) c.is_ended.result c.is_ended.ensures
+    let both = settles g.G.Grid.geometry c.args.shape.now c.args.turns written.triple written.proof c.in_ok-formula.formula c.in_ok-formula.ensures.is c.in-Some.log is.0 is.1 c.end_of.result c.end_of.ensures in
+    IfOk-weaker c.is_ended.result _ _ (λ yes h. through h both) c.is_ended.ensures

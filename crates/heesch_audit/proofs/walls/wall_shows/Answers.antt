@@ -9,10 +9,10 @@ pub returns-in-Absent : goal.returns-in-Absent
 returns-in-Absent g c = let f = c.args.formula.now in granted (subst (λ (w : Wall). WallShows g.G.Grid.geometry f.limits c.args.shape.now f.level w) (sym c.in-Absent.is) tt)
 
 pub returns-in-Refuted : goal.returns-in-Refuted
-returns-in-Refuted g c = let f = c.args.formula.now in subst (λ (w : Wall). IfOk c.is_refuted_by.result (λ (yes : Bool). IsTrue yes ↔ WallShows g.G.Grid.geometry f.limits c.args.shape.now f.level w)) (sym c.in-Refuted.is) c.is_refuted_by.ensures
+returns-in-Refuted g c = let f = c.args.formula.now in subst (λ (w : Wall). IfOk c.is_ended_by.result (λ (yes : Bool). IsTrue yes ↔ WallShows g.G.Grid.geometry f.limits c.args.shape.now f.level w)) (sym c.in-Refuted.is) c.is_ended_by.ensures
 
 pub returns-in-Spent : goal.returns-in-Spent
-returns-in-Spent g c = let f = c.args.formula.now in subst (λ (w : Wall). IfOk c.is_spent_by.result (λ (yes : Bool). IsTrue yes ↔ WallShows g.G.Grid.geometry f.limits c.args.shape.now f.level w)) (sym c.in-Spent.is) c.is_spent_by.ensures
+returns-in-Spent g c = let f = c.args.formula.now in subst (λ (w : Wall). IfOk c.is_ended_by-in-Spent.result (λ (yes : Bool). IsTrue yes ↔ WallShows g.G.Grid.geometry f.limits c.args.shape.now f.level w)) (sym c.in-Spent.is) c.is_ended_by-in-Spent.ensures
 
 pub returns-in-Size : goal.returns-in-Size
 returns-in-Size g c = let f = c.args.formula.now in subst (λ (w : Wall). IsTrue c.is_too_large.result ↔ WallShows g.G.Grid.geometry f.limits c.args.shape.now f.level w) (sym c.in-Size.is) c.is_too_large.ensures

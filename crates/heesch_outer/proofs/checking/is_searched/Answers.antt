@@ -11,9 +11,9 @@ returns-in-More g c =
 pub returns-in-Same : goal.returns-in-Same
 returns-in-Same g c =
     let a = c.args in
-    subst (λ answer. IfOk c.refutes_outer.result (λ yes. IsTrue yes ↔ IsSearched g.G.Grid.geometry a.limits a.cells.now (length a.free.now) answer)) (sym c.in-Same.is) c.refutes_outer.ensures
+    subst (λ answer. IfOk c.is_ended_outer.result (λ yes. IsTrue yes ↔ IsSearched g.G.Grid.geometry a.limits a.cells.now (length a.free.now) answer)) (sym c.in-Same.is) c.is_ended_outer.ensures
 
 pub returns-in-Spent : goal.returns-in-Spent
 returns-in-Spent g c =
     let a = c.args in
-    subst (λ answer. IfOk c.is_spent_outer.result (λ yes. IsTrue yes ↔ IsSearched g.G.Grid.geometry a.limits a.cells.now (length a.free.now) answer)) (sym c.in-Spent.is) c.is_spent_outer.ensures
+    subst (λ answer. IfOk c.is_ended_outer-in-Spent.result (λ yes. IsTrue yes ↔ IsSearched g.G.Grid.geometry a.limits a.cells.now (length a.free.now) answer)) (sym c.in-Spent.is) c.is_ended_outer-in-Spent.ensures

@@ -23,6 +23,6 @@ pub part_holds-requires-clause-before : goal.part_holds-requires-clause-before
 part_holds-requires-clause-before g c κs within =
     let a = c.args in
     let geometry = g.G.Grid.geometry in
-    subst (λ (limits : Limits). (k : ℕ) → k < 7 → PartHolds geometry limits c.in_ok-entry.entry k) (sym c.with_levels.ensures)
+    subst (λ (limits : Limits). (k : ℕ) → k < 7 → PartHolds geometry limits c.in_ok-entry.entry k) (sym c.with_levels-limits.ensures)
     (subst (λ (entry : Entry). (k : ℕ) → k < 7 → PartHolds geometry (with_levels a.limits (length a.layers.now)) entry k) (sym c.in_ok-entry.ensures)
     (before_open geometry a.limits a.cells.now a.free.now c.requires.found a.wall.now a.layers.now c.requires.one_more c.requires.wall))

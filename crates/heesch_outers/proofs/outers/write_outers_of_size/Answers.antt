@@ -1,8 +1,7 @@
-use Rattle.std.proofs.lemmas.Result.{on_err_weaker, on_ok_weaker}
 use Rattle.heesch_grid.specs.Names.{geometry_of}
 use Rattle.heesch_catalogue.proofs.GridLaws.{laws_of}
 use Rattle.heesch_catalogue.proofs.LimitTests.{limits_pass}
-use Rattle.heesch_catalogue.proofs.RoundTexts.{begins_weaker, writes_weaker}
+use Rattle.heesch_catalogue.proofs.RoundTexts.{begins_as, writes_as}
 use Rattle.heesch_outers.proofs.OuterTexts.{begun_of_size, whole_of_size}
 use Rattle.heesch_outers.proofs.outers.write_outers_of_size.Goals as goal
 
@@ -11,14 +10,12 @@ write_texts_of_size-requires-clause-accepted g c κs within = limits_pass c.args
 
 pub returns-clause-ok : goal.returns-clause-ok
 returns-clause-ok g c =
-    let held = g.W.Sink.held in
-    on_ok_weaker c.write_texts_of_size.result
-    (writes_weaker (held c.args.sink.now) (held c.write_texts_of_size.new.sink) (whole_of_size (geometry_of c.args.grid) (laws_of c.args.grid) c.args.limits c.requires.limits c.args.n))
+    writes_as c.write_texts_of_size.result (g.W.Sink.held c.args.sink.now) (g.W.Sink.held c.write_texts_of_size.new.sink)
+    (whole_of_size (geometry_of c.args.grid) (laws_of c.args.grid) c.args.limits c.requires.limits c.args.n)
     c.write_texts_of_size.ensures.ok
 
 pub returns-clause-err : goal.returns-clause-err
 returns-clause-err g c =
-    let held = g.W.Sink.held in
-    on_err_weaker c.write_texts_of_size.result
-    (begins_weaker (held c.args.sink.now) (held c.write_texts_of_size.new.sink) (begun_of_size (geometry_of c.args.grid) (laws_of c.args.grid) c.args.limits c.requires.limits c.args.n))
+    begins_as c.write_texts_of_size.result (g.W.Sink.held c.args.sink.now) (g.W.Sink.held c.write_texts_of_size.new.sink)
+    (begun_of_size (geometry_of c.args.grid) (laws_of c.args.grid) c.args.limits c.requires.limits c.args.n)
     c.write_texts_of_size.ensures.err

@@ -11,11 +11,11 @@ tally_of-requires-clause-canonical g c κs within =
     let geometry = g.G.Grid.geometry in
     let laws = (g.met.G.Grid g.world.𝓛 g.world.𝓜 g.world.𝓡 ((λ s x. x), (λ x. x), (λ x. x), λ x. x)).laws in
     subst (λ xs. All (λ s. IsCanonicalListOf geometry s s) xs) (sym c.deref.ensures.value)
-    (grown_are_canonical geometry laws c.args.n c.args.seed c.args.count c.in_ok-shapes.shapes.items c.in_ok-shapes.ensures)
+    (grown_are_canonical geometry laws c.args.growth.n c.args.growth.seed c.args.growth.count c.in_ok-shapes.shapes.items c.in_ok-shapes.ensures)
 
 pub tally_of-requires-clause-count : goal.tally_of-requires-clause-count
 tally_of-requires-clause-count g c κs within =
-    sym (ap length c.deref.ensures.value ∙ grown_length g.G.Grid.geometry c.args.n c.args.seed c.args.count c.in_ok-shapes.shapes.items c.in_ok-shapes.ensures)
+    sym (ap length c.deref.ensures.value ∙ grown_length g.G.Grid.geometry c.args.growth.n c.args.growth.seed c.args.growth.count c.in_ok-shapes.shapes.items c.in_ok-shapes.ensures)
 
 pub returns : goal.returns
 returns g c =

@@ -11,4 +11,4 @@ returns-in-Some g c =
     let self = c.args.self.now in
     let e = c.in-Some.field-0 in
     let at : IsFormulaAt self.limits.version geometry shape self.level self.limits.size e.universe e.formula = search rules in
-    refused (not_too_large self.limits.version geometry g.met.G.Grid.laws shape c.requires.shape.is_shape.polyform self.level self.limits.size e.universe e.formula at)
+    refused (not_too_large self.limits geometry g.met.G.Grid.laws shape c.requires.shape.is_shape.polyform self.level e.universe e.formula at)

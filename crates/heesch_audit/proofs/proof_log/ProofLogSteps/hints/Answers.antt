@@ -1,11 +1,5 @@
-use Rattle.std.proofs.Common.{◌≡◌, length, ap, arith}
-use Rattle.heesch_audit.proofs.LogLines.{count_of}
+use Rattle.heesch_audit.proofs.LogLines.{step_at}
 use Rattle.heesch_audit.proofs.proof_log.ProofLogSteps.hints.Goals as goal
 
 pub hints_at-requires : goal.hints_at-requires
-hints_at-requires c =
-    let proof = c.self.inside.proof.now in
-    let count = count_of proof c.self.inside.given c.args.self.now c.self.view_is in
-    let same : length c.as_slice.result.now ≡ length proof.steps = ap length c.as_slice.ensures in
-    let below = c.requires in
-    omega (arith, count, same, below)
+hints_at-requires c = step_at c.self.inside.proof.now c.self.inside.given c.args.self.now c.self.view_is c.as_slice.result.now c.args.index c.as_slice.ensures c.requires

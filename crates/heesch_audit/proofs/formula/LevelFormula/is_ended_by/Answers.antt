@@ -1,13 +1,13 @@
-use Rattle.std.proofs.Common.{Bool, All, subst, rules}
-use Rattle.std.specs.Prelude.{◌↔◌, IsTrue, Option, MatchOption}
+use Rattle.std.proofs.Common.{All, subst, rules}
+use Rattle.std.specs.Prelude.{Option, MatchOption}
+use Rattle.std.proofs.lemmas.Result.{IfOk-weaker}
 use Rattle.heesch_cnf.specs.declared.log.Log.{Log}
-use Rattle.heesch_cnf.specs.Lines.{IsSpent}
-use Rattle.heesch_cert.specs.Proofs.{IsLawfulStep, IsSpentOnCoronas, IsTooLarge}
+use Rattle.heesch_cert.specs.Proofs.{IsLawfulStep, IsTooLarge}
 use Rattle.heesch_audit.specs.Formulas.{IsFormulaAt}
 use Rattle.heesch_audit.specs.Logs.{IsLogOf}
-use Rattle.heesch_audit.proofs.Equal.{refused}
-use Rattle.heesch_audit.proofs.Proofs.{if_ok_more, too_large_not_spent, unlawful_not_spent, spent_on_coronas}
-use Rattle.heesch_audit.proofs.formula.LevelFormula.is_spent_by.Goals as goal
+use Rattle.heesch_audit.proofs.Equal.{refused, through}
+use Rattle.heesch_audit.proofs.Proofs.{ends_coronas, too_large_not_ended, unlawful_not_ended}
+use Rattle.heesch_audit.proofs.formula.LevelFormula.is_ended_by.Goals as goal
 
 pub returns-in_default : goal.returns-in_default
 returns-in_default g c =
@@ -15,7 +15,7 @@ returns-in_default g c =
     let shape = c.args.shape.now in
     let self = c.args.self.now in
     let large : IsTooLarge self.limits.version geometry shape self.level self.limits.size = search rules in
-    refused (too_large_not_spent self.limits.version geometry g.met.G.Grid.laws shape c.requires.shape.is_shape.polyform self.level self.limits.size self.limits.turns c.args.proof.now large)
+    refused (too_large_not_ended self.limits geometry g.met.G.Grid.laws shape c.requires.shape.is_shape.polyform self.level c.args.end c.args.proof.now large)
 
 pub returns-in_default-2 : goal.returns-in_default-2
 returns-in_default-2 g c =
@@ -26,7 +26,7 @@ returns-in_default-2 g c =
     let e = c.in-Some.encoded in
     let at : IsFormulaAt self.limits.version geometry shape self.level self.limits.size e.universe e.formula = search rules in
     let unlawful = subst (λ (o : Option Log). MatchOption o (¬ All (IsLawfulStep geometry shape e.universe.level e.universe.vars) proof.steps) (IsLogOf geometry shape e.universe.level e.universe.vars proof)) c.in_default-2.is c.in_ok-log.ensures in
-    refused (unlawful_not_spent self.limits.version geometry g.met.G.Grid.laws shape c.requires.shape.is_shape.polyform self.level self.limits.size e.universe e.formula at proof self.limits.turns unlawful)
+    refused (unlawful_not_ended self.limits geometry g.met.G.Grid.laws shape c.requires.shape.is_shape.polyform self.level e.universe e.formula at proof c.args.end unlawful)
 
 pub returns : goal.returns
 returns g c =
@@ -38,5 +38,5 @@ returns g c =
     let log = c.in-Some-2.log in
     let at : IsFormulaAt self.limits.version geometry shape self.level self.limits.size e.universe e.formula = search rules in
     let is = subst (λ (o : Option Log). MatchOption o (¬ All (IsLawfulStep geometry shape e.universe.level e.universe.vars) proof.steps) (IsLogOf geometry shape e.universe.level e.universe.vars proof)) c.in-Some-2.is c.in_ok-log.ensures in
-    let both = spent_on_coronas self.limits.version geometry g.met.G.Grid.laws shape c.requires.shape.is_shape.polyform self.level self.limits.size e.universe e.formula at proof log is self.limits.turns in
-    if_ok_more (λ (yes : Bool). IsTrue yes ↔ IsSpent e.formula.vars e.formula.clauses self.limits.turns log) (λ (yes : Bool). IsTrue yes ↔ IsSpentOnCoronas self.limits.version geometry shape self.level self.limits.turns self.limits.size proof) (λ yes h. ((λ t. both.0 (h.0 t)), (λ s. h.1 (both.1 s)))) c.is_spent.result c.is_spent.ensures
+    let both = ends_coronas self.limits geometry g.met.G.Grid.laws shape c.requires.shape.is_shape.polyform self.level e.universe e.formula at proof log is c.args.end in
+    IfOk-weaker c.is_ended.result _ _ (λ yes h. through h both) c.is_ended.ensures
