@@ -173,8 +173,9 @@ module _ (g : Geometry) (law : IsGrid g) (shape : List Cell) (tiles : List (List
         apart_from none i (slice_index ends level) (omega (arith, end, from)) less t m,
       ))
 
-  pub none_loose : NoneMeet shape tiles → ((level : ℕ) → 1 ≤ level → level < length ends → DoReach g sets ends level) → NoneLoose g shape tiles
-  none_loose none reach i l =
+  -- so not all sets of its level reach those before it
+  loose_refutes : NoneMeet shape tiles → (i : ℕ) (l : IsLoose g shape tiles i) → DoReach g sets ends (l.level + 1) → ⊥
+  loose_refutes none i l reach =
       let is_level = l.is_level in
       let from = l.from in
       let to = l.to in
@@ -183,8 +184,13 @@ module _ (g : Geometry) (law : IsGrid g) (shape : List Cell) (tiles : List (List
       let low = p.sizes l.level (omega (arith, is_level)) in
       let high = p.sizes (l.level + 1) (omega (arith, is_level)) in
       let back : l.level + 1 - 1 ≡ l.level = omega arith in
-      let yes = reach (l.level + 1) (omega arith) (level_there shape tiles sets ends p (l.level + 1) (omega (arith, is_level))) (suc i) (let e = ap (slice_index ends) back in omega (arith, e, low, from)) (omega (arith, high, to)) in
+      let yes = reach (suc i) (let e = ap (slice_index ends) back in omega (arith, e, low, from)) (omega (arith, high, to)) in
       true≢false (sym yes ∙ ap (λ k. does_reach g sets (set_of sets (suc i)) (slice_index ends k)) back ∙ no)
+
+  pub none_loose : NoneMeet shape tiles → ((level : ℕ) → 1 ≤ level → level < length ends → DoReach g sets ends level) → NoneLoose g shape tiles
+  none_loose none reach i l =
+      let is_level = l.is_level in
+      loose_refutes none i l (reach (l.level + 1) (omega arith) (level_there shape tiles sets ends p (l.level + 1) (omega (arith, is_level))))
 
   pub first_loose : NoneMeet shape tiles → (n : ℕ) → IsFirstLoose g sets ends n → IsFirst (λ x y. x < y) (IsLoose g shape tiles) (n - 1)
   first_loose none n h =
@@ -212,16 +218,9 @@ module _ (g : Geometry) (law : IsGrid g) (shape : List Cell) (tiles : List (List
         first = λ y l less.
             let y_level = l.is_level in
             let y_from = l.from in
-            let y_to = l.to in
-            let y_fits = patch_fits shape tiles (l.level + 1) in
-            let no = loose_no_reach none y l.level y_level y_from (omega (arith, y_to, y_fits)) l.loose in
             let y_low = p.sizes l.level (omega (arith, y_level)) in
-            let y_high = p.sizes (l.level + 1) (omega (arith, y_level)) in
-            let back : l.level + 1 - 1 ≡ l.level = omega arith in
             elim (cases_Bool (nat_lt (l.level + 1) h.level)) [
-              | inl t ↦
-                  let yes = h.below (l.level + 1) (omega arith) (is_less (l.level + 1) h.level t) (suc y) (let e = ap (slice_index ends) back in omega (arith, e, y_low, y_from)) (omega (arith, y_high, y_to)) in
-                  true≢false (sym yes ∙ ap (λ j. does_reach g sets (set_of sets (suc y)) (slice_index ends j)) back ∙ no)
+              | inl t ↦ loose_refutes none y l (h.below (l.level + 1) (omega arith) (is_less (l.level + 1) h.level t))
               | inr f ↦ elim (cases_Bool (nat_lt h.level (l.level + 1))) [
                 | inl t ↦
                     let grows = patch_grows shape tiles h.level l.level (let m = is_less h.level (l.level + 1) t in omega (arith, m)) in
@@ -230,6 +229,9 @@ module _ (g : Geometry) (law : IsGrid g) (shape : List Cell) (tiles : List (List
                     let same : l.level ≡ k = let a = at_least (l.level + 1) h.level f in let b = at_least h.level (l.level + 1) e in omega (arith, a, b, from) in
                     let at = ap (slice_index ends) same in
                     let yes = h.before (suc y) (omega (arith, at, y_low, y_from)) (omega (arith, less)) in
+                    let y_to = l.to in
+                    let y_fits = patch_fits shape tiles (l.level + 1) in
+                    let no = loose_no_reach none y l.level y_level y_from (omega (arith, y_to, y_fits)) l.loose in
                     true≢false (sym yes ∙ ap (λ j. does_reach g sets (set_of sets (suc y)) (slice_index ends j)) (sym same) ∙ no)
               ]
             ];

@@ -1,4 +1,5 @@
 pub mod Rising
+pub mod Neighbours
 pub mod Marking
 pub mod Covering
 pub mod CutClause

@@ -5,7 +5,7 @@ use Rattle.std.specs.List.{enumerate_from, slice_get}
 use Rattle.std.proofs.lemmas.Bool.{cases_Bool}
 use Rattle.std.proofs.lemmas.List.{length-set, length_push, take_more, take_all, map-append}
 use Rattle.std.proofs.lemmas.List.Sums.{sum_by-set}
-use Rattle.std.proofs.lemmas.List.Elements.{All-contains, All-weaker, All-push, filter-append, Contains-append_left, Contains-push, Contains-push_cases}
+use Rattle.std.proofs.lemmas.List.Elements.{All-contains, All-weaker, All-push, filter-append, Contains-append_left, Contains-get_or, Contains-push, Contains-push_cases}
 use Rattle.std.proofs.lemmas.List.FromFn.{length-enumerate_from, get_or-enumerate_from}
 use Rattle.std.proofs.lemmas.Option.{get_or_from_slice_get}
 use Rattle.heesch_grid.specs.declared.Cell.{Cell}
@@ -15,7 +15,7 @@ use Rattle.heesch_grid.specs.Pairs.{has-true}
 use Rattle.heesch_grid.specs.Geometry.{Geometry, IsGrid, IsCell, Adjacent}
 use Rattle.heesch_grid.proofs.CellFacts.{has-false, cell_before-irreflexive}
 use Rattle.heesch_grid.proofs.GridFacts.{adjacent_exact}
-use Rattle.heesch_grid.proofs.ListFacts.{member_here, member_there, member_at, All-from_members, rising_filter, member_filter, filter_member}
+use Rattle.heesch_grid.proofs.ListFacts.{member_at, All-from_members, rising_filter, member_filter, filter_member}
 use Rattle.heesch_grid.proofs.ClauseFacts.{entry_at, entry_variable}
 use Rattle.heesch_grid.proofs.WindowFacts.{member_map, map_member}
 use Rattle.heesch_cuts.specs.Marks.{is_marked}
@@ -23,7 +23,7 @@ use Rattle.heesch_cuts.specs.Patches.{Grows}
 use Rattle.heesch_cuts.specs.Parts.{IsClosedPart, IsReached, IsSurrounded, IsClosed, WentOn, IsSpread, marked_cells}
 use Rattle.heesch_cuts.proofs.Marking.{marked-set_other}
 use Rattle.heesch_cuts.proofs.Bordering.{grows_set}
-use Rattle.heesch_cuts.proofs.Covering.{get_at}
+use Rattle.heesch_cuts.proofs.Covering.{get_at, get_below}
 
 -- ---- places
 
@@ -144,14 +144,11 @@ pub marked_end : (reached : List Bool) (hole : List Cell) (i : ℕ) → length h
 marked_end reached hole i past = let long : length (enumerate_from 0 hole) ≡ length hole = length-enumerate_from 0 hole in ap (λ ys. map (λ (x : Place). x.1) (filter (λ (x : Place). is_marked reached x.0) ys)) (take_all i (enumerate_from 0 hole) (omega arith))
 
 place_from : (hole : List Cell) (n k : ℕ) (c : Cell) → slice_get hole k ≡ Some c → Contains (enumerate_from n hole) (n + k, c)
-place_from [] n k c e = absurd (none_some e)
-  where
-    none_some : None ≡ Some c → ⊥
-    none_some e = cc
-place_from (x ∷ xs) n zero c e =
-    subst (λ z. Contains ((n, x) ∷ enumerate_from (n + 1) xs) z) (λ i. ((let p : n ≡ n + 0 = omega arith in p) i, ap (λ o. unwrap_or o x) e i)) (member_here (n, x) (enumerate_from (n + 1) xs))
-place_from (x ∷ xs) n (suc k) c e =
-    subst (λ m. Contains ((n, x) ∷ enumerate_from (n + 1) xs) (m, c)) (omega arith) (member_there (n, x) (enumerate_from (n + 1) xs) (n + 1 + k, c) (place_from xs (n + 1) k c e))
+place_from hole n k c e =
+    let less : k < length hole = get_below hole k c e in
+    let long : length (enumerate_from n hole) ≡ length hole = length-enumerate_from n hole in
+    let is : get_or hole k c ≡ c = get_or_from_slice_get hole k c c e in
+    subst (Contains (enumerate_from n hole)) (get_or-enumerate_from n hole k (0, c) less ∙ (λ i. (n + k, is i))) (Contains-get_or (enumerate_from n hole) k (0, c) (omega (arith, less, long)))
 
 places_rising : (xs : List Cell) (n : ℕ) → IsRising cell_before xs → IsRising (λ (x y : Place). cell_before x.1 y.1) (enumerate_from n xs)
 places_rising [] n r = tt

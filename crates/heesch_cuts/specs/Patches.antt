@@ -1,5 +1,5 @@
 -- The patch of a level, the variables chosen in it, and the border of a hole of it.
-use Rattle.std.specs.Prelude.{◌≡◌, ℕ, zero, suc, ◌≤◌, ◌⊎◌, Bool, true, false, ◌&&◌, ◌==◌, nat_lt, if◌then◌else◌, List, [], ◌++◌, All, Contains}
+use Rattle.std.specs.Prelude.{◌≡◌, ℕ, zero, suc, ◌≤◌, ◌⊎◌, Bool, true, false, ◌&&◌, ◌==◌, nat_lt, if◌then◌else◌, List, [], ◌++◌, length, All, Contains}
 use Rattle.heesch_grid.specs.declared.Cell.{Cell}
 use Rattle.heesch_grid.specs.Listing.{IsRising}
 use Rattle.heesch_grid.specs.Cells.{has}
@@ -17,6 +17,12 @@ use Rattle.heesch_cuts.specs.Enclosing.{is_covered}
 abbrev pub patch_cells : Levels → List Bool → ℕ → List Cell
 patch_cells u values zero = u.shape
 patch_cells u values (suc k) = patch_cells u values k ++ cells_of (chosen_layer (assignment_of values) u.vars (suc k))
+
+-- the cells are those of the patch of level k of a model of all variables of the universe, which is of the shape
+pub record IsPatchOf (u : Levels) (shape : List Cell) (values : List Bool) (k : ℕ) (cells : List Cell) : Type 0 where
+  pub shape_is : u.shape ≡ shape
+  pub valued : length u.vars ≤ length values
+  pub cells_are : cells ≡ patch_cells u values k
 
 -- the cells that a numbered variable brings to the layer of level k
 abbrev pub layer_cells : List Bool → ℕ → ℕ × Variable → List Cell

@@ -4,9 +4,9 @@ ghost use Rattle.heesch_grid.specs.Hole.{IsGreatestHole};
 ghost use Rattle.heesch_grid.specs.Vectors.{IsWithin};
 ghost use Rattle.heesch_place.specs.Universes.{IsUniverseOf};
 ghost use Rattle.heesch_cuts.specs.Chosen.{IsOpen, CutsOff};
-ghost use Rattle.heesch_cuts.specs.Patches.{patch_cells};
+ghost use Rattle.heesch_cuts.specs.Patches.{IsPatchOf};
 
-use crate::border::border_of;
+use crate::border::{LevelPatch, border_of};
 use crate::parts::joined_part;
 use crate::patches::add_layer;
 use heesch_cert::Cut;
@@ -20,27 +20,21 @@ use std::alloc::Global;
 /// The cut of a joined part of the greatest hole of the patch of a level.
 fn cut_around<G: Grid>(
     alloc: Global,
-    shape: &Shape<G>,
-    universe: &Universe<G>,
-    model: &[bool],
-    level: u32,
-    patch: &Region<G>,
+    patch: &LevelPatch<G>,
     greatest: &[Cell],
 ) -> Result<Cut, NoMemory>
-    requires universe { IsUniverseOf G.geometry universe.now }
-    requires shape { universe.now.shape ≡ shape.now }
-    requires values { length universe.now.vars ≤ length model.now }
-    requires level { (1 ≤ level) × (level ≤ universe.now.level) }
-    requires patch { patch.now ≡ patch_cells universe.now model.now level }
-    requires near { All (IsWithin 1000000) patch.now }
+    requires universe { IsUniverseOf G.geometry patch.now.universe.now }
+    requires patch { IsPatchOf patch.now.universe.now patch.now.shape.now patch.now.model.now patch.now.level patch.now.cells.now }
+    requires level { (1 ≤ patch.now.level) × (patch.now.level ≤ patch.now.universe.now.level) }
+    requires near { All (IsWithin 1000000) patch.now.cells.now }
     requires some { 0 < length greatest.now }
-    requires greatest { IsGreatestHole G.geometry patch.now greatest.now }
-    ensures { IfOk result (CutsOff G.geometry universe.now model.now) }
+    requires greatest { IsGreatestHole G.geometry patch.now.cells.now greatest.now }
+    ensures { IfOk result (CutsOff G.geometry patch.now.universe.now patch.now.model.now) }
 {
     let hole = joined_part::<G>(alloc, greatest)?;
-    let border = border_of::<G>(alloc, shape, universe, model, level, patch, hole.as_slice())?;
+    let border = border_of::<G>(alloc, patch, hole.as_slice())?;
     Ok(Cut {
-        level,
+        level: patch.level,
         hole,
         border,
     })
@@ -72,18 +66,16 @@ pub fn cut_for<G: Grid>(
     let mut cells = Vec::from_slice(alloc, shape.cells())?;
     for k in 0..universe.level() {
         add_layer::<G>(&mut cells, universe, model, k + 1)?;
-        let patch = Region::<G>::from_cells(alloc, &cells)?;
-        if let Some(hole) = patch.hole(alloc)? {
-            let cut = cut_around::<G>(
-                alloc,
+        let region = Region::<G>::from_cells(alloc, &cells)?;
+        if let Some(hole) = region.hole(alloc)? {
+            let patch = LevelPatch {
                 shape,
                 universe,
                 model,
-                k + 1,
-                &patch,
-                hole.as_slice(),
-            )?;
-            return Ok(Some(cut));
+                level: k + 1,
+                cells: &region,
+            };
+            return Ok(Some(cut_around::<G>(alloc, &patch, hole.as_slice())?));
         }
     }
     Ok(None)

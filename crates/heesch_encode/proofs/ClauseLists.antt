@@ -71,6 +71,10 @@ adjacent_of (x ∷ xs) r (suc k) d l =
     let next : suc (k + 1) ≡ suc k + 1 = omega arith in
     subst (λ n. (get_or xs k d).var < (get_or (x ∷ xs) n d).var) next (adjacent_of xs r.1 k d (omega arith))
 
+-- a clause over some variables is one over more
+pub wider : (m n : ℕ) (clause : List Lit) → m ≤ n → IsClause m clause → IsClause n clause
+wider m n clause le c = record { in_range = λ k d l. let r = c.in_range k d l in (r.0, omega arith); rising = c.rising }
+
 -- an element stands below the length
 pub some_below : {X : Type 0} (xs : List X) (i : ℕ) (x : X) → slice_get xs i ≡ Some x → i < length xs
 some_below [] i x e = absurd (none_some e)

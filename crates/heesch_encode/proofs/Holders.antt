@@ -4,9 +4,9 @@ use Rattle.std.specs.Prelude.{nat_le, flat_map, ◌==◌, sum_by}
 use Rattle.std.specs.List.{enumerate_from, range_with_len, dedup}
 use Rattle.std.proofs.Common.{IsPermutation, IsSorted}
 use Rattle.std.proofs.lemmas.Bool.{and_parts, and_from}
-use Rattle.std.proofs.lemmas.List.{take_more, append-nil, append_assoc, take-append-drop}
+use Rattle.std.proofs.lemmas.List.{take_all, take_more, append-nil, append_assoc, take-append-drop}
 use Rattle.std.proofs.lemmas.List.Concat.{flat_map_single}
-use Rattle.std.proofs.lemmas.List.FromFn.{get_or-range_with_len, get_or-enumerate_from}
+use Rattle.std.proofs.lemmas.List.FromFn.{get_or-range_with_len, get_or-enumerate_from, length-range_with_len, length-enumerate_from}
 use Rattle.std.proofs.lemmas.Nat.Bits.{shr_and_one}
 use Rattle.std.proofs.lemmas.List.Sums.{sum_by-cons}
 use Rattle.std.proofs.lemmas.List.Elements.{All-contains, Contains-get_or}
@@ -28,7 +28,7 @@ use Rattle.heesch_encode.specs.declared.stop.EncodeStop.{EncodeStop}
 use Rattle.heesch_encode.specs.Owners.{is_first_holder}
 use Rattle.heesch_encode.specs.Taking.{Takes, IsTaken}
 use Rattle.heesch_encode.proofs.ClauseLists.{entry_range}
-use Rattle.heesch_encode.proofs.Pieces.{filter_same}
+use Rattle.heesch_encode.proofs.Pieces.{filter_same, piece_taken, piece_stopped}
 use Rattle.heesch_encode.proofs.Rings.{cells_listed}
 use Rattle.heesch_encode.proofs.Takings.{takes_more, stopped_within}
 
@@ -90,16 +90,43 @@ bits_are start count ranked = flat_map_single (bit_clause start ranked) (range_w
 pub bit_read : (rank t n : ℕ) → signed literals (nat_eq (bit_and (rank / 2 ^ t) 1) 1) n ≡ signed literals (bit t rank) n
 bit_read rank t n = ap (λ m. signed literals (nat_eq m 1) n) (shr_and_one rank t)
 
--- the piece at a place
-pub bit_at_place : (start count : ℕ) (ranked : ℕ × ℕ) (t : ℕ) (now : List Lit) → t < count → now ≡ bit_clause start ranked t → now ∷ [] ≡ bit_piece start ranked (get_or (range_with_len 0 count) t 0)
-bit_at_place start count ranked t now l is =
-    let from : 0 + t ≡ t = omega arith in
-    ap (λ z. z ∷ []) is ∙ ap (bit_piece start ranked) (sym (get_or-range_with_len 0 count t 0 l ∙ from))
+-- one bit after another
+module _ (start count : ℕ) (ranked : ℕ × ℕ) (t : ℕ) (less : t < count) (now : List Lit) (is : now ≡ bit_clause start ranked t) (a b c : Collector) (before : Takes a b (flat_map (bit_piece start ranked) (take t (range_with_len 0 count)))) where
+  bit_place : t < length (range_with_len 0 count)
+  bit_place = omega (arith, less, length-range_with_len 0 count)
 
-pub rank_at_place : (start count : ℕ) (numbers : List ℕ) (i : ℕ) → i < length numbers → rank_clauses literals start count (i, get_or numbers i 0) ≡ rank_clauses literals start count (get_or (enumerate_from 0 numbers) i (0, 0))
-rank_at_place start count numbers i l =
-    let from : 0 + i ≡ i = omega arith in
-    ap (rank_clauses literals start count) (sym (get_or-enumerate_from 0 numbers i (0, 0) l ∙ (λ k. (from k, get_or numbers i 0))))
+  bit_here : now ∷ [] ≡ bit_piece start ranked (get_or (range_with_len 0 count) t 0)
+  bit_here =
+      let from : 0 + t ≡ t = omega arith in
+      ap (λ z. z ∷ []) is ∙ ap (bit_piece start ranked) (sym (get_or-range_with_len 0 count t 0 less ∙ from))
+
+  pub bit_taken : Takes b c (now ∷ []) → Takes a c (flat_map (bit_piece start ranked) (take (t + 1) (range_with_len 0 count)))
+  bit_taken h = piece_taken (bit_piece start ranked) (range_with_len 0 count) a b c t 0 bit_place before (subst (Takes b c) bit_here h)
+
+  pub bit_stopped : (e : EncodeStop) → IsTaken (Err e) b c (now ∷ []) → IsTaken (Err e) a c (rank_clauses literals start count ranked)
+  bit_stopped e h =
+      subst (IsTaken (Err e) a c) (bits_are start count ranked) (piece_stopped (bit_piece start ranked) (range_with_len 0 count) e a b c t 0 bit_place before (subst (IsTaken (Err e) b c) bit_here h))
+
+pub bits_taken : (start count : ℕ) (ranked : ℕ × ℕ) (t : ℕ) → count ≤ t → (a b : Collector) → Takes a b (flat_map (bit_piece start ranked) (take t (range_with_len 0 count))) → Takes a b (rank_clauses literals start count ranked)
+bits_taken start count ranked t all a b h =
+    let whole : take t (range_with_len 0 count) ≡ range_with_len 0 count = take_all t (range_with_len 0 count) (omega (arith, all, length-range_with_len 0 count)) in
+    subst (Takes a b) (ap (flat_map (bit_piece start ranked)) whole ∙ bits_are start count ranked) h
+
+-- one rank after another
+module _ (start count : ℕ) (numbers : List ℕ) (i : ℕ) (less : i < length numbers) (a b c : Collector) (before : Takes a b (flat_map (rank_clauses literals start count) (take i (enumerate_from 0 numbers)))) where
+  rank_place : i < length (enumerate_from 0 numbers)
+  rank_place = omega (arith, less, length-enumerate_from 0 numbers)
+
+  rank_here : rank_clauses literals start count (i, get_or numbers i 0) ≡ rank_clauses literals start count (get_or (enumerate_from 0 numbers) i (0, 0))
+  rank_here =
+      let from : 0 + i ≡ i = omega arith in
+      ap (rank_clauses literals start count) (sym (get_or-enumerate_from 0 numbers i (0, 0) less ∙ (λ k. (from k, get_or numbers i 0))))
+
+  pub rank_taken : Takes b c (rank_clauses literals start count (i, get_or numbers i 0)) → Takes a c (flat_map (rank_clauses literals start count) (take (i + 1) (enumerate_from 0 numbers)))
+  rank_taken h = piece_taken (rank_clauses literals start count) (enumerate_from 0 numbers) a b c i (0, 0) rank_place before (subst (Takes b c) rank_here h)
+
+  pub rank_stopped : (e : EncodeStop) → IsTaken (Err e) b c (rank_clauses literals start count (i, get_or numbers i 0)) → IsTaken (Err e) a c (flat_map (rank_clauses literals start count) (enumerate_from 0 numbers))
+  rank_stopped e h = piece_stopped (rank_clauses literals start count) (enumerate_from 0 numbers) e a b c i (0, 0) rank_place before (subst (IsTaken (Err e) b c) rank_here h)
 
 -- ---- the clauses of one cell after another
 

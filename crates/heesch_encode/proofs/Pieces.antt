@@ -10,7 +10,7 @@ use Rattle.heesch_grid.specs.CoronaFormula.{Variable, variable_before, IsVariabl
 use Rattle.heesch_cert.specs.Literals.{literals}
 use Rattle.std.proofs.lemmas.Bool.{and_parts, and_left, and_right, or_cases, cases_Bool, cases_order}
 use Rattle.std.proofs.lemmas.List.Concat.{flat_map_single}
-use Rattle.std.proofs.lemmas.List.FromFn.{get_or-enumerate_from}
+use Rattle.std.proofs.lemmas.List.FromFn.{get_or-enumerate_from, length-enumerate_from}
 use Rattle.std.proofs.lemmas.List.Elements.{All-contains, Contains-get_or}
 use Rattle.heesch_grid.specs.Geometry.{Geometry, IsAround}
 use Rattle.heesch_grid.specs.Pairs.{has-true}
@@ -201,8 +201,11 @@ around_outside g tile other ring items i d listed is same l =
 
 -- ---- a piece that has its clause, and one that has none
 
-pub with_clause : (b : Bool) (clause now : List Lit) (p : List (List Lit) → Type 0) → b ≡ true → now ≡ clause → p (now ∷ []) → p (cond b (clause ∷ []) [])
-with_clause b clause now p t is h = subst p (ap (λ z. z ∷ []) is ∙ sym (ap (λ b. cond b (clause ∷ []) []) t)) h
+pub piece_written : (shape : List Cell) (vars : List Variable) (n of : ℕ) (v : Variable) (c : Cell) → IsNumbered vars n v → has v.tile c ≡ false → has shape c ≡ false →
+    (covered : List ℕ) (written now : List Lit) → covered ≡ covering vars (of + 1) c → ListsExactly lit_before (IsOfImplication n covered) written → now ≡ written → (p : List (List Lit) → Type 0) → p (now ∷ []) → p (covering_piece shape vars n of c)
+piece_written shape vars n of v c number outside free covered written now covers_is writes reads p h =
+    let clause : List Lit = clause_of literals (is_numbered n) (covers (of + 1) c) vars in
+    subst p (ap (λ z. z ∷ []) (implication_clause vars (of + 1) n v c covered written now number outside covers_is writes reads) ∙ sym (ap (λ b. cond (not b) (clause ∷ []) []) free)) h
 
 pub without_clause : (b : Bool) (clause : List Lit) (a c : Collector) → b ≡ false → c ≡ a → Takes a c (cond b (clause ∷ []) [])
 without_clause b clause a c f is = subst (λ z. Takes a z (cond b (clause ∷ []) [])) (sym is) (subst (Takes a a) (sym (ap (λ b. cond b (clause ∷ []) []) f)) (takes_none a))
@@ -213,6 +216,18 @@ entry_read vars i l =
     let p : 1 + i ≡ i + 1 = omega arith in
     let q : i ≡ i + 1 - 1 = omega arith in
     get_or-enumerate_from 1 vars i no_entry l ∙ (λ k. (p k, get_or vars (q k) no_entry.1))
+
+-- ---- one variable after another
+
+module _ (f : ℕ × Variable → List (List Lit)) (vars : List Variable) (i : ℕ) (less : i < length vars) (a b c : Collector) (before : Takes a b (flat_map f (take i (enumerate_from 1 vars)))) where
+  within : i < length (enumerate_from 1 vars)
+  within = omega (arith, less, length-enumerate_from 1 vars)
+
+  pub variable_taken : Takes b c (f (i + 1, get_or vars (i + 1 - 1) no_entry.1)) → Takes a c (flat_map f (take (i + 1) (enumerate_from 1 vars)))
+  variable_taken t = piece_taken f (enumerate_from 1 vars) a b c i no_entry within before (subst (λ x. Takes b c (f x)) (sym (entry_read vars i less)) t)
+
+  pub variable_stopped : (e : EncodeStop) → IsTaken (Err e) b c (f (i + 1, get_or vars (i + 1 - 1) no_entry.1)) → IsTaken (Err e) a c (flat_map f (enumerate_from 1 vars))
+  variable_stopped e t = piece_stopped f (enumerate_from 1 vars) e a b c i no_entry within before (subst (λ x. IsTaken (Err e) b c (f x)) (sym (entry_read vars i less)) t)
 
 -- ---- the families as they go by variables
 

@@ -26,11 +26,12 @@ use Rattle.heesch_grid.proofs.WindowFacts.{map_member, member_map, flat_map_memb
 use Rattle.heesch_grid.proofs.TileFacts.{contact, touch_by}
 use Rattle.heesch_shape.proofs.Made.{same_cell_laws}
 use Rattle.heesch_place.specs.Universes.{IsNumbered, covering}
-use Rattle.heesch_encode.specs.Marks.{IsMarked, Marking, Unmarking, AreUnmarked}
+use Rattle.heesch_encode.specs.declared.marks.Change.{Change}
+use Rattle.heesch_encode.specs.Marks.{IsMarked, Marking, Unmarking, Changes, AreUnmarked}
 use Rattle.heesch_encode.specs.Meeting.{covering_after, meeting_after, supporting}
 use Rattle.heesch_encode.proofs.Rising.{listed, nat_lt-irreflexive, nat_lt-asymmetric, pieces_more}
 use Rattle.heesch_encode.proofs.ClauseLists.{numbers_rising, entry_range}
-use Rattle.heesch_encode.proofs.Marking.{marking_more, unmarking_more}
+use Rattle.heesch_encode.proofs.Marking.{changes_more}
 
 -- ---- the element at a place
 
@@ -169,11 +170,8 @@ meeting_is vars above most cells ns listed =
 
 -- ---- the same by marks
 
-pub marking_pieces : (f : Cell → List ℕ) (xs : List Cell) (i : ℕ) (d : Cell) (a b c : List ℕ) → i < length xs → Marking a b (flat_map f (take i xs)) → Marking b c (f (get_or xs i d)) → Marking a c (flat_map f (take (i + 1) xs))
-marking_pieces f xs i d a b c l s t = subst (Marking a c) (sym (pieces_more f xs i d l)) (marking_more a b c (flat_map f (take i xs)) (f (get_or xs i d)) s t)
-
-pub unmarking_pieces : (f : Cell → List ℕ) (xs : List Cell) (i : ℕ) (d : Cell) (a b c : List ℕ) → i < length xs → Unmarking a b (flat_map f (take i xs)) → Unmarking b c (f (get_or xs i d)) → Unmarking a c (flat_map f (take (i + 1) xs))
-unmarking_pieces f xs i d a b c l s t = subst (Unmarking a c) (sym (pieces_more f xs i d l)) (unmarking_more a b c (flat_map f (take i xs)) (f (get_or xs i d)) s t)
+pub changes_pieces : (change : Change) (f : Cell → List ℕ) (xs : List Cell) (i : ℕ) (d : Cell) (a b c : List ℕ) → i < length xs → Changes change a b (flat_map f (take i xs)) → Changes change b c (f (get_or xs i d)) → Changes change a c (flat_map f (take (i + 1) xs))
+changes_pieces change f xs i d a b c l s t = subst (Changes change a c) (sym (pieces_more f xs i d l)) (changes_more change a b c (flat_map f (take i xs)) (f (get_or xs i d)) s t)
 
 pub marked_lists : (most : ℕ) (a b numbers ns : List ℕ) → AreUnmarked most a → Marking a b numbers → ListsExactly nat_lt (IsMarked b) ns → ListsExactly nat_lt (Contains numbers) ns
 marked_lists most a b numbers ns none m listed = record {

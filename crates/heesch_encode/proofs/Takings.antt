@@ -10,6 +10,7 @@ use Rattle.heesch_encode.specs.declared.stop.EncodeStop.{EncodeStop}
 use Rattle.heesch_encode.specs.declared.stop.EncodeStop.TheVariants.{TooLarge, NoMemory}
 use Rattle.heesch_encode.specs.declared.collector.Collector.{Collector}
 use Rattle.heesch_encode.specs.Taking.{Takes, IsTaken}
+use Rattle.heesch_encode.proofs.ClauseLists.{wider}
 
 abbrev pub Clauses : Type 0
 Clauses = List (List Lit)
@@ -50,13 +51,9 @@ stopped_within e a b c xs ys zs all is s t = subst (IsTaken (Err e) a c) (sym is
 
 -- ---- clauses over more variables
 
--- a clause over some variables is one over more
-pub wider : (m n : ℕ) (clause : List Lit) → m ≤ n → IsClause m clause → IsClause n clause
-wider m n clause le c = record { in_range = λ k d l. let r = c.in_range k d l in (r.0, omega arith); rising = c.rising }
-
 -- the collector keeps its variables
-pub keeps_vars : (m : ℕ) (a b : Collector) (xs : Clauses) → m ≤ a.formula.vars → Takes a b xs → m ≤ b.formula.vars
-keeps_vars m a b xs le t = subst (λ n. m ≤ n) (sym t.vars) le
+pub keeps_vars : {m : ℕ} {a b : Collector} {xs : Clauses} → m ≤ a.formula.vars → Takes a b xs → m ≤ b.formula.vars
+keeps_vars {m} le t = subst (λ n. m ≤ n) (sym t.vars) le
 
 pub clause_after : (m : ℕ) (a b : Collector) (xs : Clauses) (clause : List Lit) → m ≤ a.formula.vars → Takes a b xs → IsClause m clause → IsClause b.formula.vars clause
-clause_after m a b xs clause le t c = wider m b.formula.vars clause (keeps_vars m a b xs le t) c
+clause_after m a b xs clause le t c = wider m b.formula.vars clause (keeps_vars le t) c

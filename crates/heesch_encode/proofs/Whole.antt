@@ -1,5 +1,5 @@
 -- The whole formula of each version.
-use Rattle.std.proofs.Common.{◌≡◌, ap, subst, ◌∙◌, ℕ, ◌+◌, ◌<◌, ◌≤◌, List, [], ◌++◌, length, arith, Err}
+use Rattle.std.proofs.Common.{◌≡◌, refl, sym, ap, subst, ◌∙◌, ℕ, ◌+◌, ◌<◌, ◌≤◌, List, [], ◌++◌, length, arith, Err}
 use Rattle.std.specs.Prelude.{sum_by}
 use Rattle.heesch_cnf.specs.declared.version.Version.{Version}
 use Rattle.heesch_cnf.specs.declared.version.Version.TheVariants.{One, Two}
@@ -32,29 +32,39 @@ abbrev pub second_all : Geometry → List Cell → ℕ → List Variable → Lis
 second_all g shape j vars owned = owned_corona_clauses literals g (cells_around g) shape j vars owned
 
 -- they are its formula
-pub first_counted : (g : Geometry) → IsGrid g → (shape : List Cell) (j : ℕ) (vars : List Variable) (count : ℕ) (clauses : Clauses) → IsUniverse g shape j vars → count ≡ length vars → clauses ≡ first_all g shape j vars → IsCountedFormula One g shape j vars count clauses
-first_counted g law shape j vars count clauses universe number is = (record { is_universe = universe; around = cells_around g; gives_around = around_given g law; is = is }, number)
+module _ (g : Geometry) (law : IsGrid g) (version : Version) (shape : List Cell) (j : ℕ) (vars : List Variable) (universe : IsUniverse g shape j vars) where
+  pub first_counted : version ≡ One → IsCountedFormula version g shape j vars (length vars) (first_all g shape j vars)
+  first_counted first =
+      let counted : IsCountedFormula One g shape j vars (length vars) (first_all g shape j vars) = (record { is_universe = universe; around = cells_around g; gives_around = around_given g law; is = refl }, refl) in
+      subst (λ v. IsCountedFormula v g shape j vars (length vars) (first_all g shape j vars)) (sym first) counted
 
-pub second_counted : (g : Geometry) → IsGrid g → (shape : List Cell) (j : ℕ) (vars : List Variable) (owned : List Cell) (count : ℕ) (clauses : Clauses) → IsUniverse g shape j vars → ListsExactly cell_before (IsOwned vars) owned → count ≡ length vars + sum_by (owner_count vars) owned → clauses ≡ second_all g shape j vars owned → IsCountedFormula Two g shape j vars count clauses
-second_counted g law shape j vars owned count clauses universe listed number is = record {
-  is_universe = universe;
-  around = cells_around g;
-  gives_around = around_given g law;
-  owned = owned;
-  are_owned = listed;
-  count_is = number;
-  is = is;
-}
+  pub second_counted : version ≡ Two → (owned : List Cell) → ListsExactly cell_before (IsOwned vars) owned → IsCountedFormula version g shape j vars (length vars + sum_by (owner_count vars) owned) (second_all g shape j vars owned)
+  second_counted second owned listed =
+      let counted : IsCountedFormula Two g shape j vars (length vars + sum_by (owner_count vars) owned) (second_all g shape j vars owned) = record {
+        is_universe = universe;
+        around = cells_around g;
+        gives_around = around_given g law;
+        owned = owned;
+        are_owned = listed;
+        count_is = refl;
+        is = refl;
+      } in
+      subst (λ v. IsCountedFormula v g shape j vars (length vars + sum_by (owner_count vars) owned) (second_all g shape j vars owned)) (sym second) counted
 
--- what a collector without a clause keeps
-pub kept_all : (a b : Collector) (xs : Clauses) → Takes a b xs → a.formula.clauses ≡ [] → b.formula.clauses ≡ xs
-kept_all a b xs t none = t.kept ∙ ap (λ zs. zs ++ xs) none
+-- ---- a collector without a clause, over the formula's variables and with room for `size` literals, to which these clauses were given
 
-pub fits_all : (a b : Collector) (xs : Clauses) (size : ℕ) → Takes a b xs → a.room ≡ size → formula_size xs ≤ size
-fits_all a b xs size t room = let e = t.room in omega arith
+module _ (version : Version) (g : Geometry) (shape : List Cell) (j : ℕ) (vars : List Variable) (count size : ℕ) (xs : Clauses) (formula : IsCountedFormula version g shape j vars count xs) (a b : Collector) (over : a.formula.vars ≡ count) (none : a.formula.clauses ≡ []) (room : a.room ≡ size) where
+  -- it has the formula, which fits
+  pub all_taken : Takes a b xs → IsCountedFormula version g shape j vars b.formula.vars b.formula.clauses × (formula_size b.formula.clauses ≤ size)
+  all_taken t =
+      let is : b.formula.clauses ≡ xs = t.kept ∙ ap (λ zs. zs ++ xs) none in
+      let left = t.room in (
+        subst (λ n. IsCountedFormula version g shape j vars n b.formula.clauses) (sym (t.vars ∙ over)) (subst (IsCountedFormula version g shape j vars count) (sym is) formula),
+        subst (λ cs. formula_size cs ≤ size) (sym is) (omega arith),
+      )
 
--- where they found too little room
-pub too_large_where : (version : Version) (g : Geometry) (shape : List Cell) (j : ℕ) (vars : List Variable) (count size : ℕ) (a b : Collector) (e : EncodeStop) (xs : Clauses) → IsCountedFormula version g shape j vars count xs → IsTaken (Err e) a b xs → a.room ≡ size → e ≡ TooLarge → IsTooLarge version g shape j size
-too_large_where version g shape j vars count size a b e xs formula t room is =
-    let above : a.room < formula_size xs = subst (λ z. IsTaken (Err z) a b xs) is t in
-    record { vars = vars; count = count; clauses = xs; formula = formula; above = subst (λ n. n < formula_size xs) room above }
+  -- or the formula is too large, where they found too little room
+  pub too_large_where : (e : EncodeStop) → IsTaken (Err e) a b xs → e ≡ TooLarge → IsTooLarge version g shape j size
+  too_large_where e t is =
+      let above : a.room < formula_size xs = subst (λ z. IsTaken (Err z) a b xs) is t in
+      record { vars = vars; count = count; clauses = xs; formula = formula; above = subst (λ n. n < formula_size xs) room above }

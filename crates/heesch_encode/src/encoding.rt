@@ -36,52 +36,6 @@ pub struct FlatEncoded<G: Grid> {
     pub formula: FlatFormula,
 }
 
-/// The formula of version One over its universe.
-fn first_formula<G: Grid>(
-    alloc: Global,
-    universe: &Universe<G>,
-    shape: &Shape<G>,
-    level: u32,
-    size: u32,
-) -> Result<FlatFormula, EncodeStop>
-    requires universe { IsUniverseOf G.geometry universe.now }
-    requires shape { universe.now.shape ≡ shape.now }
-    requires level { universe.now.level ≡ level }
-    requires near { (c : Cell) → has shape.now c ≡ true → IsWithin 200 c }
-    requires few { length universe.now.vars < 2 ^ 31 }
-    ensures formula { IfOk result (λ f. IsCountedFormula Version.One G.geometry shape.now level universe.now.vars f.vars f.clauses) }
-    ensures fits { IfOk result (λ f. formula_size f.clauses ≤ size) }
-    ensures too_large { IsErrOf result EncodeStop.TooLarge → IsTooLarge Version.One G.geometry shape.now level size }
-{
-    let mut collector = Collector::new(alloc, universe.count(), size);
-    take_formula(alloc, universe, shape, level, &mut collector)?;
-    Ok(collector.formula)
-}
-
-/// The formula of version Two over its universe.
-fn second_formula<G: Grid>(
-    alloc: Global,
-    universe: &Universe<G>,
-    shape: &Shape<G>,
-    level: u32,
-    size: u32,
-) -> Result<FlatFormula, EncodeStop>
-    requires universe { IsUniverseOf G.geometry universe.now }
-    requires shape { universe.now.shape ≡ shape.now }
-    requires level { universe.now.level ≡ level }
-    requires near { (c : Cell) → has shape.now c ≡ true → IsWithin 200 c }
-    requires few { length universe.now.vars < 2 ^ 31 }
-    ensures formula { IfOk result (λ f. IsCountedFormula Version.Two G.geometry shape.now level universe.now.vars f.vars f.clauses) }
-    ensures fits { IfOk result (λ f. formula_size f.clauses ≤ size) }
-    ensures too_large { IsErrOf result EncodeStop.TooLarge → IsTooLarge Version.Two G.geometry shape.now level size }
-{
-    let owned = owned_cells(alloc, universe)?;
-    let vars = count_with_owners(universe, &owned)?;
-    let mut collector = Collector::new(alloc, vars, size);
-    take_owner_formula(alloc, universe, &owned, shape, level, &mut collector)?;
-    Ok(collector.formula)
-}
-
 /// The formula of a version over its universe.
 fn formula_over<G: Grid>(
     alloc: Global,
@@ -101,8 +55,18 @@ fn formula_over<G: Grid>(
     ensures too_large { IsErrOf result EncodeStop.TooLarge → IsTooLarge version G.geometry shape.now level size }
 {
     match version {
-        Version::One => first_formula(alloc, universe, shape, level, size),
-        Version::Two => second_formula(alloc, universe, shape, level, size),
+        Version::One => {
+            let mut collector = Collector::new(alloc, universe.count(), size);
+            take_formula(alloc, universe, shape, level, &mut collector)?;
+            Ok(collector.formula)
+        }
+        Version::Two => {
+            let owned = owned_cells(alloc, universe)?;
+            let vars = count_with_owners(universe, &owned)?;
+            let mut collector = Collector::new(alloc, vars, size);
+            take_owner_formula(alloc, universe, &owned, shape, level, &mut collector)?;
+            Ok(collector.formula)
+        }
     }
 }
 

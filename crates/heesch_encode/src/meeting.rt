@@ -5,11 +5,11 @@ ghost use Rattle.heesch_grid.specs.CoronaFormula.{Variable};
 ghost use Rattle.heesch_grid.specs.Geometry.{IsAround};
 ghost use Rattle.heesch_grid.specs.Listing.{IsRising, ListsExactly};
 ghost use Rattle.heesch_place.specs.Universes.{IsUniverseOf, IsNumbered};
-ghost use Rattle.heesch_encode.specs.Marks.{AreUnmarked, Marking, Unmarking};
+ghost use Rattle.heesch_encode.specs.Marks.{AreUnmarked, Changes};
 ghost use Rattle.heesch_encode.specs.Meeting.{covering_after, meeting_after, supporting};
 
 use crate::clauses::count_below;
-use crate::marks::Marks;
+use crate::marks::{Change, Marks};
 use heesch_grid::{Cell, Grid};
 use heesch_io::NoMemory;
 use heesch_place::Universe;
@@ -25,9 +25,11 @@ fn numbers_after(numbers: &[u32], n: u32) -> &[u32]
     &numbers[at..]
 }
 
-/// Marks the variables with numbers above `above` and of level at most `most` whose tile has one of the cells.
-fn mark_meeting<G: Grid>(
+/// Marks the variables with numbers above `above` and of level at most `most` whose tile has one of the cells, or takes their
+/// marks away.
+fn change_meeting<G: Grid>(
     marks: &mut Marks,
+    change: Change,
     universe: &Universe<G>,
     cells: &[Cell],
     above: u32,
@@ -35,27 +37,10 @@ fn mark_meeting<G: Grid>(
 )
     requires room { length universe.now.vars < 64 * vec_len marks.old.words }
     requires above { above < 2 ^ 31 }
-    ensures { Marking marks.old.words.items marks.new.words.items (flat_map (covering_after universe.now.vars above most) cells.now) }
+    ensures { Changes change marks.old.words.items marks.new.words.items (flat_map (covering_after universe.now.vars above most) cells.now) }
 {
     for c in cells {
-        marks.mark(numbers_after(universe.covered_by(*c, most), above));
-    }
-}
-
-/// Takes the marks of these variables away.
-fn unmark_meeting<G: Grid>(
-    marks: &mut Marks,
-    universe: &Universe<G>,
-    cells: &[Cell],
-    above: u32,
-    most: u32,
-)
-    requires room { length universe.now.vars < 64 * vec_len marks.old.words }
-    requires above { above < 2 ^ 31 }
-    ensures { Unmarking marks.old.words.items marks.new.words.items (flat_map (covering_after universe.now.vars above most) cells.now) }
-{
-    for c in cells {
-        marks.unmark(numbers_after(universe.covered_by(*c, most), above));
+        marks.change(change, numbers_after(universe.covered_by(*c, most), above));
     }
 }
 
@@ -74,7 +59,7 @@ pub(crate) fn list_meeting<G: Grid>(
     ensures listed { OnOk result (numbers.new.items ≡ meeting_after universe.now.vars above most cells.now) }
     ensures unmarked { OnOk result (AreUnmarked (length universe.now.vars) marks.new.words.items) }
 {
-    mark_meeting(marks, universe, cells, above, most);
+    change_meeting(marks, Change::Mark, universe, cells, above, most);
     marks.read_off(numbers)
 }
 
@@ -116,7 +101,7 @@ pub(crate) fn list_supporting<G: Grid>(
     ensures unmarked { OnOk result (AreUnmarked (length universe.now.vars) marks.new.words.items) }
 {
     let above = last_below(universe, level);
-    mark_meeting(marks, universe, ring, above, level);
-    unmark_meeting(marks, universe, tile.cells(), above, level);
+    change_meeting(marks, Change::Mark, universe, ring, above, level);
+    change_meeting(marks, Change::Unmark, universe, tile.cells(), above, level);
     marks.read_off(numbers)
 }

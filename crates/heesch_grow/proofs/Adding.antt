@@ -18,8 +18,12 @@ use Rattle.heesch_grid.proofs.Pinned.{one_canonical_list}
 use Rattle.heesch_grow.specs.Adds.{Adds, IsWith, IsChildBelow, IsChildAt, IsChildOfSome}
 use Rattle.heesch_grid.proofs.GrowthOfLists.{not_has}
 use Rattle.heesch_shape.specs.Reach.{IsNextTo}
-use Rattle.heesch_shape.proofs.Loops.{has_more}
+use Rattle.heesch_shape.proofs.Loops.{has_at, has_more}
 use Rattle.std.proofs.Math.Seq.{take-length}
+
+-- the cell at a place of a list that was read
+pub read_inside : (xs read : List Cell) (i : ℕ) (d : Cell) → read ≡ xs → i < length read → has xs (get_or read i d) ≡ true
+read_inside xs read i d e less = subst (λ zs. has zs (get_or read i d) ≡ true) e (has_at read i d less)
 
 -- a member has a place
 pub place_in : (xs : List Cell) (x : Cell) → Contains xs x → (k : ℕ) × (k < length xs) × (slice_get xs k ≡ Some x)

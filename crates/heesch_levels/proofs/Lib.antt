@@ -1,5 +1,4 @@
 pub mod StepFacts
-pub mod ClauseForms
 pub mod SearchFacts
 pub mod Inside
 pub mod LayerLists

@@ -64,29 +64,6 @@ pub(crate) fn moved(cells: &[Cell], by: Cell) -> ArrayVec<Cell, CELLS_MAX>
     all
 }
 
-/// z + unit * n, where that lies near 0.
-fn shifted(z: i32, unit: i32, n: i32) -> i32
-    requires low { neg_ℤ (pos 1000000) ≤ℤ (z +ℤ (unit *ℤ n)) }
-    requires high { (z +ℤ (unit *ℤ n)) ≤ℤ pos 1000000 }
-    ensures { result ≡ z +ℤ (unit *ℤ n) }
-{
-    (i64::from(z) + i64::from(unit) * i64::from(n)) as i32
-}
-
-/// The image of c, where it lies near 0. The translation may be as long as its numbers allow.
-fn image_of<G: Grid>(c: Cell, by: Iso) -> Cell
-    requires turn { by.turn < G.geometry.turns }
-    requires within { IsWithin 1000000 c }
-    requires image { IsWithin 1000000 (apply G.geometry by c) }
-    ensures { result ≡ apply G.geometry by c }
-{
-    let turned = G::turn(by.turn, c);
-    Cell {
-        a: shifted(turned.a, G::UNIT, by.da),
-        b: shifted(turned.b, G::UNIT, by.db),
-    }
-}
-
 /// The images of the cells, in the order of the cells.
 pub(crate) fn carried<G: Grid>(cells: &[Cell], by: Iso) -> ArrayVec<Cell, CELLS_MAX>
     requires few { length cells.now ≤ 32 }
@@ -97,7 +74,7 @@ pub(crate) fn carried<G: Grid>(cells: &[Cell], by: Iso) -> ArrayVec<Cell, CELLS_
 {
     let mut all = ArrayVec::new();
     for c in cells {
-        all.push(image_of::<G>(*c, by));
+        all.push(by.apply_far::<G>(*c));
     }
     all
 }

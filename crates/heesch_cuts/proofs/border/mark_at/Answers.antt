@@ -5,5 +5,6 @@ use Rattle.heesch_cuts.proofs.border.mark_at.Goals as goal
 
 pub returns-then-not-has-clause-bordered : goal.returns-then-not-has-clause-bordered
 returns-then-not-has-clause-bordered g c =
+    let p = c.args.patch.now in
     let d = c.args.d in
-    λ i o. c.mark_over.ensures.covered (patch_covered c.args.universe.now c.args.model.now c.args.level c.args.patch.now d c.requires.patch i (ap (λ s. has s d) c.requires.shape ∙ o))
+    λ i o. c.mark_over.ensures.covered (patch_covered p.universe.now p.model.now p.level p.cells.now d c.requires.patch.cells_are i (ap (λ s. has s d) c.requires.patch.shape_is ∙ o))

@@ -4,6 +4,6 @@ use Rattle.heesch_cuts.proofs.border.mark_beside.Given as goal
 
 abbrev pub invariant-loop-i : goal.invariant-loop-i
 invariant-loop-i g l =
-    AreChosen l.universe.vars l.model l.level l.marks
+    AreChosen l.patch.universe.now.vars l.patch.model.now l.patch.level l.marks
     × Grows l.initial.marks l.marks
-    × All (IsBordered l.shape l.universe.vars l.level l.patch l.marks) (take l.i (g.G.Grid.geometry.adjacent l.c))
+    × All (IsBordered l.patch.shape.now l.patch.universe.now.vars l.patch.level l.patch.cells.now l.marks) (take l.i (g.G.Grid.geometry.adjacent l.c))

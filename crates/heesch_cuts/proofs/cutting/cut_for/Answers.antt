@@ -11,7 +11,9 @@ use Rattle.heesch_cuts.specs.Patches.{patch_cells}
 use Rattle.heesch_cuts.proofs.Nearby.{patch_together}
 use Rattle.heesch_cuts.proofs.PatchCells.{shape_within, patch_more}
 use Rattle.heesch_cuts.proofs.CuttingOff.{open_where_free, free_more}
+use Rattle.heesch_cuts.proofs.cutting.cut_for.Given as given
 use Rattle.heesch_cuts.proofs.cutting.cut_for.Goals as goal
+use Rattle.heesch_cuts.proofs.cutting.cut_for.Goals.{In_ok-add_layer}
 
 pub loop-k-init : goal.loop-k-init
 loop-k-init g c =
@@ -22,6 +24,10 @@ loop-k-init g c =
       (λ i some none. absurd (omega (arith, some, none))),
     )
 
+-- the cells with a layer more are the patch of the next level
+grown : (g : given.Over) (c : In_ok-add_layer g) → c.add_layer.new.cells.items ≡ patch_cells c.args.universe.now c.args.model.now (c.loop-k.k + 1)
+grown g c = patch_more c.args.universe.now c.args.model.now c.loop-k.k c.loop-k.cells.items c.add_layer.new.cells.items c.loop-k.invariant.0 c.in_ok-add_layer.ensures.cells
+
 pub from_cells-requires-clause-near : goal.from_cells-requires-clause-near
 from_cells-requires-clause-near g c =
     let all : All (IsWithin 1000000) c.deref.result.now = subst (All (IsWithin 1000000)) (sym c.deref.ensures.value) (c.in_ok-add_layer.ensures.within c.loop-k.invariant.1) in
@@ -31,32 +37,30 @@ pub from_cells-requires-clause-together : goal.from_cells-requires-clause-togeth
 from_cells-requires-clause-together g c =
     let geometry = g.G.Grid.geometry in
     let u = c.args.universe.now in
-    let values = c.args.model.now in
-    let k = c.loop-k.k in
-    let is : c.deref.result.now ≡ patch_cells u values (k + 1) = c.deref.ensures.value ∙ patch_more u values k c.loop-k.cells.items c.add_layer.new.cells.items c.loop-k.invariant.0 c.in_ok-add_layer.ensures.cells in
+    let is = c.deref.ensures.value ∙ grown g (goal.at.from_cells-requires-clause-together g c).In_ok-add_layer in
     let shape : IsShape geometry u.shape = subst (IsShape geometry) (sym c.requires.shape) c.cells.ensures.shape in
-    λ x y m n. patch_together geometry g.met.G.Grid.laws u values (k + 1) c.requires.universe shape.polyform shape.few (let r = c.level-k-end.ensures.range.1 in let e = c.level-k-end.ensures.level in omega (arith, r, e, c.loop-k-test.true)) x y (ap (λ p. has p x) (sym is) ∙ m) (ap (λ p. has p y) (sym is) ∙ n)
+    λ x y m n. patch_together geometry g.met.G.Grid.laws u c.args.model.now (c.loop-k.k + 1) c.requires.universe shape.polyform shape.few (let r = c.level-k-end.ensures.range.1 in let e = c.level-k-end.ensures.level in omega (arith, r, e, c.loop-k-test.true)) x y (ap (λ p. has p x) (sym is) ∙ m) (ap (λ p. has p y) (sym is) ∙ n)
 
 pub cut_around-requires-clause-patch : goal.cut_around-requires-clause-patch
-cut_around-requires-clause-patch g c =
-    c.in_ok-patch.ensures ∙ c.deref.ensures.value ∙ patch_more c.args.universe.now c.args.model.now c.loop-k.k c.loop-k.cells.items c.add_layer.new.cells.items c.loop-k.invariant.0 c.in_ok-add_layer.ensures.cells
+cut_around-requires-clause-patch g c = record {
+  shape_is = c.requires.shape;
+  valued = c.requires.values;
+  cells_are = c.in_ok-region.ensures ∙ c.deref.ensures.value ∙ grown g (goal.at.cut_around-requires-clause-patch g c).In_ok-add_layer;
+}
 
 pub cut_around-requires-clause-near : goal.cut_around-requires-clause-near
 cut_around-requires-clause-near g c =
-    subst (All (IsWithin 1000000)) (sym (c.in_ok-patch.ensures ∙ c.deref.ensures.value)) (c.in_ok-add_layer.ensures.within c.loop-k.invariant.1)
+    subst (All (IsWithin 1000000)) (sym (c.in_ok-region.ensures ∙ c.deref.ensures.value)) (c.in_ok-add_layer.ensures.within c.loop-k.invariant.1)
 
 pub loop-k-preserved : goal.loop-k-preserved
 loop-k-preserved g c =
     let geometry = g.G.Grid.geometry in
-    let u = c.args.universe.now in
-    let values = c.args.model.now in
-    let k = c.loop-k.k in
-    let is : c.add_layer.new.cells.items ≡ patch_cells u values (k + 1) = patch_more u values k c.loop-k.cells.items c.add_layer.new.cells.items c.loop-k.invariant.0 c.in_ok-add_layer.ensures.cells in
-    let patch = c.in_ok-patch.patch in
-    let free : IsHoleFree geometry patch = MatchOption-at_none (IsHoleFree geometry patch) (λ hole. (0 < length hole) × IsGreatestHole geometry patch hole) c.in_default.is c.in_ok-hole.ensures in (
+    let is = grown g (goal.at.loop-k-preserved g c).In_ok-add_layer in
+    let region = c.in_ok-region.region in
+    let free : IsHoleFree geometry region = MatchOption-at_none (IsHoleFree geometry region) (λ hole. (0 < length hole) × IsGreatestHole geometry region hole) c.in_default.is c.in_ok-hole.ensures in (
       is,
       c.in_ok-add_layer.ensures.within c.loop-k.invariant.1,
-      free_more geometry u values k c.loop-k.invariant.2 (subst (IsHoleFree geometry) (c.in_ok-patch.ensures ∙ c.deref.ensures.value ∙ is) free),
+      free_more geometry c.args.universe.now c.args.model.now c.loop-k.k c.loop-k.invariant.2 (subst (IsHoleFree geometry) (c.in_ok-region.ensures ∙ c.deref.ensures.value ∙ is) free),
     )
 
 pub returns : goal.returns

@@ -1,82 +1,74 @@
-use Rattle.std.proofs.Common.{All, ◌<◌, ◌≡◌, ◌-◌, ◌∷◌, [], ◌||◌, List, Err, length, get_or, take, sym, ap, ◌∙◌, subst, arith}
+use Rattle.std.proofs.Common.{All, ◌<◌, ◌≡◌, ◌-◌, ◌∷◌, [], ◌||◌, Err, length, get_or, take, sym, ap, ◌∙◌, subst, arith}
 use Rattle.std.specs.Prelude.{flat_map}
 use Rattle.std.proofs.lemmas.List.{take_all}
 use Rattle.std.proofs.lemmas.Result.{err_from_is_err_and}
-use Rattle.heesch_cnf.specs.declared.literal.Lit.{Lit}
 use Rattle.heesch_cnf.specs.Clauses.{IsClause}
 use Rattle.heesch_grid.specs.Clauses.{clause_of, is_numbered, no_variable}
-use Rattle.heesch_grid.specs.CoronaFormula.{IsUniverse}
+use Rattle.heesch_grid.specs.CoronaFormula.{Variable, IsUniverse}
 use Rattle.heesch_cert.specs.Literals.{literals}
+use Rattle.heesch_place.specs.Universes.{IsNumbered}
+use Rattle.heesch_encode.specs.Families.{apart_at}
+use Rattle.heesch_encode.specs.Meeting.{meeting_after}
 use Rattle.heesch_encode.specs.Taking.{Takes, IsTaken}
 use Rattle.heesch_encode.proofs.ClauseLists.{clause_form}
 use Rattle.heesch_encode.proofs.Numbered.{no_entry}
 use Rattle.heesch_encode.proofs.Takings.{clause_after}
 use Rattle.heesch_encode.proofs.Pieces.{apart_piece, apart_is, apart_clause, meeting_small, piece_taken, piece_stopped, some_at}
+use Rattle.heesch_encode.proofs.families.take_apart.Given as given
 use Rattle.heesch_encode.proofs.families.take_apart.Goals as goal
+use Rattle.heesch_encode.proofs.families.take_apart.Goals.{After-deref-other-items, After-minus-in-loop-other}
+
+-- the numbers that were listed
+listed : (g : given.Over) (c : After-deref-other-items g) → c.deref-other-items.result.now ≡ meeting_after c.args.universe.now.vars c.args.var c.args.level c.cells-cells.result.now
+listed g c = c.deref-other-items.ensures.value ∙ c.in_ok-list_meeting.ensures.listed
+
+-- the clause with one of them
+written : (g : given.Over) (c : After-minus-in-loop-other g) → c.minus.result ∷ c.minus-in-loop-other.result ∷ [] ≡ clause_of literals (λ x. is_numbered c.args.var x || is_numbered (get_or c.deref-other-items.result.now c.loop-other.other-index 0) x) no_variable c.args.universe.now.vars
+written g c =
+    let vars = c.args.universe.now.vars in
+    let n = c.args.var in
+    (λ k. c.minus.ensures k ∷ c.minus-in-loop-other.ensures k ∷ [])
+    ∙ apart_clause vars c.args.level c.cells-cells.result.now n (get_or vars (n - 1) no_entry.1) c.deref-other-items.result.now c.loop-other.other-index (some_at vars n c.requires.number.0 c.requires.number.1) (c.deref-other-items.ensures.value ∙ c.in_ok-list_meeting.ensures.listed) c.loop-other-test.true
+
+-- the clauses with each of them are all
+each : (g : given.Over) (c : After-deref-other-items g) (v : Variable) → IsNumbered c.args.universe.now.vars c.args.var v → flat_map (apart_piece c.args.universe.now.vars c.args.var) c.deref-other-items.result.now ≡ apart_at c.args.universe.now.vars (c.args.var, v)
+each g c v number =
+    let u = c.args.universe.now in
+    apart_is g.G.Grid.geometry u.shape c.args.level u.vars c.args.var v c.cells-cells.result.now c.deref-other-items.result.now (subst (λ j. IsUniverse g.G.Grid.geometry u.shape j u.vars) c.requires.level c.requires.universe) (c.cells-cells.ensures.cells ∙ c.shape.ensures ∙ c.placement_of.ensures.tile v number) (listed g c)
 
 pub take-requires : goal.take-requires
 take-requires g c =
     let vars = c.args.universe.now.vars in
     let n = c.args.var in
-    let items = c.deref-other-items.result.now in
-    let i = c.loop-other.other-index in
-    let v = get_or vars (n - 1) no_entry.1 in
-    let number = some_at vars n c.requires.number.0 c.requires.number.1 in
-    let clause : List Lit = clause_of literals (λ x. is_numbered n x || is_numbered (get_or items i 0) x) no_variable vars in
-    let is : c.minus.result ∷ c.minus-in-loop-other.result ∷ [] ≡ clause =
-    (λ k. c.minus.ensures k ∷ c.minus-in-loop-other.ensures k ∷ []) ∙ apart_clause vars c.args.level c.cells-cells.result.now n v items i number (c.deref-other-items.ensures.value ∙ c.in_ok-list_meeting.ensures.listed) c.loop-other-test.true
-    in
-    clause_after (length vars) c.args.collector.now c.loop-other.collector (flat_map (apart_piece vars n) (take i items)) (c.minus.result ∷ c.minus-in-loop-other.result ∷ []) c.requires.vars c.loop-other.invariant
-    (subst (IsClause (length vars)) (sym is) (clause_form vars (λ x. is_numbered n x || is_numbered (get_or items i 0) x) no_variable))
+    let other = get_or c.deref-other-items.result.now c.loop-other.other-index 0 in
+    clause_after (length vars) c.args.collector.now c.loop-other.collector (flat_map (apart_piece vars n) (take c.loop-other.other-index c.deref-other-items.result.now)) (c.minus.result ∷ c.minus-in-loop-other.result ∷ []) c.requires.vars c.loop-other.invariant
+    (subst (IsClause (length vars)) (sym (written g (goal.at.take-requires g c).After-minus-in-loop-other)) (clause_form vars (λ x. is_numbered n x || is_numbered other x) no_variable))
 
 pub minus-requires-in-loop-other : goal.minus-requires-in-loop-other
 minus-requires-in-loop-other g c =
-    let vars = c.args.universe.now.vars in
-    let items = c.deref-other-items.result.now in
-    let small : All (λ m. m < 2147483648) items = subst (All (λ m. m < 2147483648)) (sym (c.deref-other-items.ensures.value ∙ c.in_ok-list_meeting.ensures.listed)) (meeting_small vars c.args.var c.args.level c.cells-cells.result.now 2147483648 c.requires.few) in
+    let small : All (λ m. m < 2147483648) c.deref-other-items.result.now = subst (All (λ m. m < 2147483648)) (sym (listed g (goal.at.minus-requires-in-loop-other g c).After-deref-other-items)) (meeting_small c.args.universe.now.vars c.args.var c.args.level c.cells-cells.result.now 2147483648 c.requires.few) in
     small c.loop-other.other-index 0 c.loop-other-test.true
 
 pub returns-in_err-take-clause-taken : goal.returns-in_err-take-clause-taken
 returns-in_err-take-clause-taken g c =
-    let vars = c.args.universe.now.vars in
-    let n = c.args.var in
+    let at = goal.at.returns-in_err-take-clause-taken g c in
+    let piece = apart_piece c.args.universe.now.vars c.args.var in
     let items = c.deref-other-items.result.now in
-    let i = c.loop-other.other-index in
     let p = err_from_is_err_and c.from_residual-in_err-take.result c.from_residual-in_err-take.ensures.1 in
     let e = c.in_err-take.field-0.0 in
-    let reads = c.deref-other-items.ensures.value ∙ c.in_ok-list_meeting.ensures.listed in
-    let now : List Lit = c.minus.result ∷ c.minus-in-loop-other.result ∷ [] in
-    let universe = subst (λ j. IsUniverse g.G.Grid.geometry c.args.universe.now.shape j vars) c.requires.level c.requires.universe in
-    λ v number.
-    let tile = c.cells-cells.ensures.cells ∙ c.shape.ensures ∙ c.placement_of.ensures.tile v number in
-    let is : now ∷ [] ≡ apart_piece vars n (get_or items i 0) = ap (λ z. z ∷ []) ((λ k. c.minus.ensures k ∷ c.minus-in-loop-other.ensures k ∷ []) ∙ apart_clause vars c.args.level c.cells-cells.result.now n v items i number reads c.loop-other-test.true) in
-    let stopped : IsTaken (Err e) c.args.collector.now c.take.new.self (flat_map (apart_piece vars n) items) =
-    piece_stopped (apart_piece vars n) items e c.args.collector.now c.loop-other.collector c.take.new.self i 0 c.loop-other-test.true c.loop-other.invariant (subst (IsTaken (Err e) c.loop-other.collector c.take.new.self) is c.in_err-take.ensures)
+    let stopped : IsTaken (Err e) c.args.collector.now c.take.new.self (flat_map piece items) =
+    piece_stopped piece items e c.args.collector.now c.loop-other.collector c.take.new.self c.loop-other.other-index 0 c.loop-other-test.true c.loop-other.invariant (subst (λ z. IsTaken (Err e) c.loop-other.collector c.take.new.self (z ∷ [])) (written g at.After-minus-in-loop-other) c.in_err-take.ensures)
     in
-    rw (p.1, p.2) (subst (IsTaken (Err e) c.args.collector.now c.take.new.self) (apart_is g.G.Grid.geometry c.args.universe.now.shape c.args.level vars n v c.cells-cells.result.now items universe tile reads) stopped)
+    λ v number. rw (p.1, p.2) (subst (IsTaken (Err e) c.args.collector.now c.take.new.self) (each g at.After-deref-other-items v number) stopped)
 
 pub loop-other-preserved : goal.loop-other-preserved
 loop-other-preserved g c =
-    let vars = c.args.universe.now.vars in
-    let n = c.args.var in
-    let items = c.deref-other-items.result.now in
-    let i = c.loop-other.other-index in
-    let v = get_or vars (n - 1) no_entry.1 in
-    let number = some_at vars n c.requires.number.0 c.requires.number.1 in
-    let reads = c.deref-other-items.ensures.value ∙ c.in_ok-list_meeting.ensures.listed in
-    let now : List Lit = c.minus.result ∷ c.minus-in-loop-other.result ∷ [] in
-    let is : now ∷ [] ≡ apart_piece vars n (get_or items i 0) = ap (λ z. z ∷ []) ((λ k. c.minus.ensures k ∷ c.minus-in-loop-other.ensures k ∷ []) ∙ apart_clause vars c.args.level c.cells-cells.result.now n v items i number reads c.loop-other-test.true) in
-    piece_taken (apart_piece vars n) items c.args.collector.now c.loop-other.collector c.take.new.self i 0 c.loop-other-test.true c.loop-other.invariant (subst (Takes c.loop-other.collector c.take.new.self) is c.in_ok-take.ensures)
+    piece_taken (apart_piece c.args.universe.now.vars c.args.var) c.deref-other-items.result.now c.args.collector.now c.loop-other.collector c.take.new.self c.loop-other.other-index 0 c.loop-other-test.true c.loop-other.invariant
+    (subst (λ z. Takes c.loop-other.collector c.take.new.self (z ∷ [])) (written g (goal.at.loop-other-preserved g c).After-minus-in-loop-other) c.in_ok-take.ensures)
 
 pub returns-clause-taken : goal.returns-clause-taken
 returns-clause-taken g c =
-    let vars = c.args.universe.now.vars in
-    let n = c.args.var in
     let items = c.deref-other-items.result.now in
-    let i = c.loop-other.other-index in
-    let reads = c.deref-other-items.ensures.value ∙ c.in_ok-list_meeting.ensures.listed in
-    let whole : take i items ≡ items = take_all i items (omega (arith, c.loop-other-test.false)) in
-    let universe = subst (λ j. IsUniverse g.G.Grid.geometry c.args.universe.now.shape j vars) c.requires.level c.requires.universe in
+    let whole : take c.loop-other.other-index items ≡ items = take_all c.loop-other.other-index items (omega (arith, c.loop-other-test.false)) in
     λ v number.
-    let tile = c.cells-cells.ensures.cells ∙ c.shape.ensures ∙ c.placement_of.ensures.tile v number in
-    subst (Takes c.args.collector.now c.loop-other.collector) (ap (flat_map (apart_piece vars n)) whole ∙ apart_is g.G.Grid.geometry c.args.universe.now.shape c.args.level vars n v c.cells-cells.result.now items universe tile reads) c.loop-other.invariant
+    subst (Takes c.args.collector.now c.loop-other.collector) (ap (flat_map (apart_piece c.args.universe.now.vars c.args.var)) whole ∙ each g (goal.at.returns-clause-taken g c).After-deref-other-items v number) c.loop-other.invariant

@@ -1,4 +1,4 @@
-use Rattle.std.proofs.Common.{◌++◌, Err, length, subst}
+use Rattle.std.proofs.Common.{◌++◌, Err, subst}
 use Rattle.std.proofs.lemmas.Result.{err_from_is_err_and}
 use Rattle.heesch_grid.specs.CoronaFormula.{first_clauses, covering_clauses, support_clauses}
 use Rattle.heesch_grid.proofs.AroundFacts.{cells_around, around_given}
@@ -10,11 +10,7 @@ use Rattle.heesch_encode.proofs.families.take_common.Goals as goal
 
 pub take_family-requires-clause-vars : goal.take_family-requires-clause-vars
 take_family-requires-clause-vars g c =
-    let geometry = g.G.Grid.geometry in
-    let met = g.met.G.Grid in
-    let around = cells_around geometry in
-    let vars = c.args.universe.now.vars in
-    keeps_vars (length vars) c.args.collector.now c.take_first.new.collector (first_clauses literals around c.args.shape.now vars) c.requires.vars (c.in_ok-take_first.ensures around (around_given geometry met.laws))
+    keeps_vars c.requires.vars (c.in_ok-take_first.ensures (cells_around g.G.Grid.geometry) (around_given g.G.Grid.geometry g.met.G.Grid.laws))
 
 pub returns-in_err-take_family-clause-taken : goal.returns-in_err-take_family-clause-taken
 returns-in_err-take_family-clause-taken g c =
@@ -36,17 +32,9 @@ returns-in_err-take_family-clause-taken g c =
 
 pub take_family-requires-2-clause-vars : goal.take_family-requires-2-clause-vars
 take_family-requires-2-clause-vars g c =
-    let geometry = g.G.Grid.geometry in
-    let met = g.met.G.Grid in
-    let around = cells_around geometry in
-    let gives = around_given geometry met.laws in
-    let vars = c.args.universe.now.vars in
-    let shape = c.args.shape.now in
-    let j = c.args.level in
-    let b = c.take_first.new.collector in
-    let d = c.take_family.new.collector in
-    let second : Takes b d (covering_clauses literals around shape j vars) = subst (Takes b d) (covering_family geometry around shape j vars) (c.in_ok-take_family.ensures.taken around gives) in
-    keeps_vars (length vars) b d (covering_clauses literals around shape j vars) (keeps_vars (length vars) c.args.collector.now b (first_clauses literals around shape vars) c.requires.vars (c.in_ok-take_first.ensures around gives)) second
+    let around = cells_around g.G.Grid.geometry in
+    let gives = around_given g.G.Grid.geometry g.met.G.Grid.laws in
+    keeps_vars (keeps_vars c.requires.vars (c.in_ok-take_first.ensures around gives)) (c.in_ok-take_family.ensures.taken around gives)
 
 pub returns-clause-taken : goal.returns-clause-taken
 returns-clause-taken g c =

@@ -5,14 +5,17 @@ use Rattle.std.proofs.lemmas.Result.{err_from_is_err_and}
 use Rattle.heesch_cnf.specs.Clauses.{IsClause}
 use Rattle.heesch_grid.specs.declared.Cell.{Cell}
 use Rattle.heesch_grid.specs.Cells.{cell}
-use Rattle.heesch_grid.specs.Clauses.{no_variable}
+use Rattle.heesch_grid.specs.Clauses.{clause_of, no_variable}
 use Rattle.heesch_grid.specs.CoronaFormula.{covers}
+use Rattle.heesch_cert.specs.Literals.{literals}
 use Rattle.heesch_encode.specs.Taking.{Takes, IsTaken}
 use Rattle.heesch_encode.proofs.ClauseLists.{clause_form}
 use Rattle.heesch_encode.proofs.Takings.{takes_none, clause_after}
 use Rattle.heesch_encode.proofs.Rings.{covering_small}
 use Rattle.heesch_encode.proofs.Pieces.{first_piece, first_is, piece_taken, piece_stopped, choice_clause}
+use Rattle.heesch_encode.proofs.families.take_first.Given as given
 use Rattle.heesch_encode.proofs.families.take_first.Goals as goal
+use Rattle.heesch_encode.proofs.families.take_first.Goals.{After-as_slice}
 
 abbrev zero_cell : Cell
 zero_cell = cell (pos 0) (pos 0)
@@ -20,35 +23,34 @@ zero_cell = cell (pos 0) (pos 0)
 pub loop-c-init : goal.loop-c-init
 loop-c-init g c = takes_none c.args.collector.now
 
+-- the clause that is written for a cell
+written : (g : given.Over) (c : After-as_slice g) → c.as_slice.result.now ≡ clause_of literals no_variable (covers 1 (get_or c.as_slice-c-items.result.now c.loop-c.c-index zero_cell)) c.args.universe.now.vars
+written g c =
+    choice_clause c.args.universe.now.vars (get_or c.as_slice-c-items.result.now c.loop-c.c-index zero_cell) c.covered_by.result.now c.write_choice.new.clause.items c.as_slice.result.now c.covered_by.ensures c.in_ok-write_choice.ensures c.as_slice.ensures.value
+
 pub take-requires : goal.take-requires
 take-requires g c =
     let vars = c.args.universe.now.vars in
-    let at : Cell = get_or c.as_slice-c-items.result.now c.loop-c.c-index zero_cell in
-    let is = choice_clause vars at c.covered_by.result.now c.write_choice.new.clause.items c.as_slice.result.now c.covered_by.ensures c.in_ok-write_choice.ensures c.as_slice.ensures.value in
-    clause_after (length vars) c.args.collector.now c.loop-c.collector (flat_map (first_piece vars) (take c.loop-c.c-index c.as_slice-c-items.result.now)) c.as_slice.result.now c.requires.vars c.loop-c.invariant (subst (IsClause (length vars)) (sym is) (clause_form vars no_variable (covers 1 at)))
+    let is = written g (goal.at.take-requires g c).After-as_slice in
+    clause_after (length vars) c.args.collector.now c.loop-c.collector (flat_map (first_piece vars) (take c.loop-c.c-index c.as_slice-c-items.result.now)) c.as_slice.result.now c.requires.vars c.loop-c.invariant
+    (subst (IsClause (length vars)) (sym is) (clause_form vars no_variable (covers 1 (get_or c.as_slice-c-items.result.now c.loop-c.c-index zero_cell))))
 
 pub returns-in_err-take : goal.returns-in_err-take
 returns-in_err-take g c =
     let vars = c.args.universe.now.vars in
     let items = c.as_slice-c-items.result.now in
-    let i = c.loop-c.c-index in
-    let at : Cell = get_or items i zero_cell in
-    let is = choice_clause vars at c.covered_by.result.now c.write_choice.new.clause.items c.as_slice.result.now c.covered_by.ensures c.in_ok-write_choice.ensures c.as_slice.ensures.value in
+    let is = written g (goal.at.returns-in_err-take g c).After-as_slice in
     let p = err_from_is_err_and c.from_residual-in_err-take.result c.from_residual-in_err-take.ensures.1 in
     let e = c.in_err-take.field-0.0 in
     let stopped : IsTaken (Err e) c.args.collector.now c.take.new.self (flat_map (first_piece vars) items) =
-    piece_stopped (first_piece vars) items e c.args.collector.now c.loop-c.collector c.take.new.self i zero_cell c.loop-c-test.true c.loop-c.invariant (subst (λ z. IsTaken (Err e) c.loop-c.collector c.take.new.self (z ∷ [])) is c.in_err-take.ensures)
+    piece_stopped (first_piece vars) items e c.args.collector.now c.loop-c.collector c.take.new.self c.loop-c.c-index zero_cell c.loop-c-test.true c.loop-c.invariant (subst (λ z. IsTaken (Err e) c.loop-c.collector c.take.new.self (z ∷ [])) is c.in_err-take.ensures)
     in
     λ around gives. rw (p.1, p.2) (subst (IsTaken (Err e) c.args.collector.now c.take.new.self) (first_is around c.args.shape.now vars items (c.as_slice-c-items.ensures.value ∙ c.in_ok-write_ring.ensures.given around gives)) stopped)
 
 pub loop-c-preserved : goal.loop-c-preserved
 loop-c-preserved g c =
-    let vars = c.args.universe.now.vars in
-    let items = c.as_slice-c-items.result.now in
-    let i = c.loop-c.c-index in
-    let at : Cell = get_or items i zero_cell in
-    let is = choice_clause vars at c.covered_by.result.now c.write_choice.new.clause.items c.as_slice.result.now c.covered_by.ensures c.in_ok-write_choice.ensures c.as_slice.ensures.value in
-    piece_taken (first_piece vars) items c.args.collector.now c.loop-c.collector c.take.new.self i zero_cell c.loop-c-test.true c.loop-c.invariant (subst (λ z. Takes c.loop-c.collector c.take.new.self (z ∷ [])) is c.in_ok-take.ensures)
+    let is = written g (goal.at.loop-c-preserved g c).After-as_slice in
+    piece_taken (first_piece c.args.universe.now.vars) c.as_slice-c-items.result.now c.args.collector.now c.loop-c.collector c.take.new.self c.loop-c.c-index zero_cell c.loop-c-test.true c.loop-c.invariant (subst (λ z. Takes c.loop-c.collector c.take.new.self (z ∷ [])) is c.in_ok-take.ensures)
 
 pub returns : goal.returns
 returns g c =

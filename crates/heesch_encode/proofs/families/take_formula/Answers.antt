@@ -1,4 +1,3 @@
-use Rattle.std.proofs.Common.{length}
 use Rattle.std.proofs.lemmas.Result.{err_from_is_err_and}
 use Rattle.heesch_grid.specs.CoronaFormula.{apart_clauses}
 use Rattle.heesch_grid.proofs.AroundFacts.{cells_around, around_given}
@@ -16,19 +15,14 @@ take_family-requires-clause-rings g c = same_rings g.G.Grid.geometry c.args.shap
 
 pub take_family-requires-clause-vars : goal.take_family-requires-clause-vars
 take_family-requires-clause-vars g c =
-    let geometry = g.G.Grid.geometry in
-    let met = g.met.G.Grid in
-    let around = cells_around geometry in
-    let vars = c.args.universe.now.vars in
-    keeps_vars (length vars) c.args.collector.now c.take_common.new.collector (common_clauses geometry around c.args.shape.now c.args.level vars) c.requires.vars (c.in_ok-take_common.ensures.taken around (around_given geometry met.laws))
+    keeps_vars c.requires.vars (c.in_ok-take_common.ensures.taken (cells_around g.G.Grid.geometry) (around_given g.G.Grid.geometry g.met.G.Grid.laws))
 
 pub returns-in_err-take_common : goal.returns-in_err-take_common
 returns-in_err-take_common g c =
     let vars = c.args.universe.now.vars in
     let p = err_from_is_err_and c.from_residual-in_err-take_common.result c.from_residual-in_err-take_common.ensures.1 in
-    let e = c.in_err-take_common.field-0.0 in
     λ around gives.
-    rw (p.1, p.2) (stopped_before e c.args.collector.now c.take_common.new.collector (common_clauses g.G.Grid.geometry around c.args.shape.now c.args.level vars) (apart_clauses literals vars) (c.in_err-take_common.ensures.taken around gives))
+    rw (p.1, p.2) (stopped_before c.in_err-take_common.field-0.0 c.args.collector.now c.take_common.new.collector (common_clauses g.G.Grid.geometry around c.args.shape.now c.args.level vars) (apart_clauses literals vars) (c.in_err-take_common.ensures.taken around gives))
 
 pub returns : goal.returns
 returns g c =

@@ -28,10 +28,9 @@ pub returns-in_err-take_common : goal.returns-in_err-take_common
 returns-in_err-take_common g c =
     let vars = c.args.universe.now.vars in
     let p = err_from_is_err_and c.from_residual-in_err-take_common.result c.from_residual-in_err-take_common.ensures.1 in
-    let e = c.in_err-take_common.field-0.0 in
     λ around gives.
     rw (p.1, p.2)
-    (stopped_before e c.args.collector.now c.take_common.new.collector (common_clauses g.G.Grid.geometry around c.args.shape.now c.args.level vars) (owner_clauses literals vars (length vars + 1) c.args.owned.now) (c.in_err-take_common.ensures.taken around gives))
+    (stopped_before c.in_err-take_common.field-0.0 c.args.collector.now c.take_common.new.collector (common_clauses g.G.Grid.geometry around c.args.shape.now c.args.level vars) (owner_clauses literals vars (length vars + 1) c.args.owned.now) (c.in_err-take_common.ensures.taken around gives))
 
 pub returns : goal.returns
 returns g c =

@@ -9,9 +9,8 @@ use Rattle.heesch_grid.specs.CoronaFormula.{Variable}
 use Rattle.heesch_encode.specs.Taking.{IsTaken}
 use Rattle.std.specs.Prelude.{nat_lt, ◌==◌, ◌&&◌, Contains}
 use Rattle.heesch_grid.specs.Placement.{touch}
-use Rattle.heesch_encode.proofs.ClauseLists.{clause_form}
+use Rattle.heesch_encode.proofs.ClauseLists.{clause_form, wider}
 use Rattle.heesch_encode.proofs.Numbered.{no_entry}
-use Rattle.heesch_encode.proofs.Takings.{wider}
 use Rattle.heesch_encode.proofs.Pieces.{some_at, not_supporting, supporting_rising, supporting_small, support_clause, support_is}
 use Rattle.heesch_encode.proofs.families.take_support.Goals as goal
 

@@ -13,7 +13,7 @@ returns-clause-listed g c =
     let above = c.args.above in
     let most = c.args.most in
     let cells = c.args.cells.now in
-    let marked = c.mark_meeting.new.marks.words.items in
+    let marked = c.change_meeting.new.marks.words.items in
     let ns = c.read_off.new.numbers.items in
     on_ok (ListsExactly nat_lt (IsMarked marked) ns) (ns ≡ meeting_after vars above most cells) c.read_off.result
-    (λ listed. meeting_is vars above most cells ns (marked_lists (length vars) c.args.marks.now.words.items marked (flat_map (covering_after vars above most) cells) ns c.requires.unmarked c.mark_meeting.ensures listed)) c.read_off.ensures.read
+    (λ listed. meeting_is vars above most cells ns (marked_lists (length vars) c.args.marks.now.words.items marked (flat_map (covering_after vars above most) cells) ns c.requires.unmarked c.change_meeting.ensures listed)) c.read_off.ensures.read

@@ -15,10 +15,10 @@ returns-clause-listed g c =
     let level = c.args.level in
     let tile = c.args.tile.now in
     let above = c.last_below-above.result in
-    let marked = c.mark_meeting.new.marks.words.items in
-    let left = c.unmark_meeting.new.marks.words.items in
+    let marked = c.change_meeting.new.marks.words.items in
+    let left = c.change_meeting-2.new.marks.words.items in
     let ns = c.read_off.new.numbers.items in
-    let unmarks : Unmarking marked left (flat_map (covering_after vars above level) tile) = subst (λ (cells : List Cell). Unmarking marked left (flat_map (covering_after vars above level) cells)) c.cells.ensures.cells c.unmark_meeting.ensures in
+    let unmarks : Unmarking marked left (flat_map (covering_after vars above level) tile) = subst (λ (cells : List Cell). Unmarking marked left (flat_map (covering_after vars above level) cells)) c.cells.ensures.cells c.change_meeting-2.ensures in
     on_ok (ListsExactly nat_lt (IsMarked left) ns) (ns ≡ supporting geometry vars level tile) c.read_off.result
-    (supporting_is geometry g.met.G.Grid.laws tile c.args.ring.now c.requires.ring vars above level (length vars) c.args.marks.now.words.items marked left ns c.last_below-above.ensures.low c.last_below-above.ensures.high c.requires.unmarked c.mark_meeting.ensures unmarks)
+    (supporting_is geometry g.met.G.Grid.laws tile c.args.ring.now c.requires.ring vars above level (length vars) c.args.marks.now.words.items marked left ns c.last_below-above.ensures.low c.last_below-above.ensures.high c.requires.unmarked c.change_meeting.ensures unmarks)
     c.read_off.ensures.read

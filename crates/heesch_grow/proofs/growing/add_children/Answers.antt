@@ -1,10 +1,9 @@
-use Rattle.std.proofs.Common.{◌≡◌, ◌<◌, true, get_or, length, take, pos, sym, ap, subst, arith}
+use Rattle.std.proofs.Common.{◌≡◌, ◌<◌, true, get_or, length, take, pos, ap, subst, arith}
 use Rattle.heesch_grid.specs.declared.Cell.{Cell}
 use Rattle.heesch_grid.specs.Cells.{cell, has}
 use Rattle.heesch_grid.specs.Statements.{IsGrownFrom}
-use Rattle.heesch_shape.proofs.Loops.{has_at}
 use Rattle.heesch_grow.specs.Adds.{Adds, IsChildAt, IsChildOfSome}
-use Rattle.heesch_grow.proofs.Adding.{all_none, all_more, all_end, has_take}
+use Rattle.heesch_grow.proofs.Adding.{read_inside, all_none, all_more, all_end, has_take}
 use Rattle.heesch_grow.proofs.growing.add_children.Goals as goal
 
 abbrev zero_cell : Cell
@@ -12,27 +11,13 @@ zero_cell = cell (pos 0) (pos 0)
 
 pub loop-at-init : goal.loop-at-init
 loop-at-init g c =
-    let met = g.met.G.Grid in
-    let geometry = g.G.Grid.geometry in
-    all_none geometry met.laws c.args.parent.now c.args.all.now.items
+    all_none g.G.Grid.geometry g.met.G.Grid.laws c.args.parent.now c.args.all.now.items
 
 pub add_beside-requires-clause-inside : goal.add_beside-requires-clause-inside
-add_beside-requires-clause-inside g c =
-    let xs = c.args.parent.now in
-    let n = c.loop-at.at in
-    let e = c.cells-cells.ensures.cells in
-    let less : n < length xs = subst (λ zs. n < length zs) e c.loop-at-test.true in
-    let inside : has xs (get_or c.cells-cells.result.now n zero_cell) ≡ true = subst (λ zs. has xs (get_or zs n zero_cell) ≡ true) (sym e) (has_at xs n zero_cell less) in
-    inside
+add_beside-requires-clause-inside g c = read_inside c.args.parent.now c.cells-cells.result.now c.loop-at.at zero_cell c.cells-cells.ensures.cells c.loop-at-test.true
 
 pub add_beside-requires-clause-near : goal.add_beside-requires-clause-near
-add_beside-requires-clause-near g c =
-    let xs = c.args.parent.now in
-    let n = c.loop-at.at in
-    let e = c.cells-cells.ensures.cells in
-    let less : n < length xs = subst (λ zs. n < length zs) e c.loop-at-test.true in
-    let inside : has xs (get_or c.cells-cells.result.now n zero_cell) ≡ true = subst (λ zs. has xs (get_or zs n zero_cell) ≡ true) (sym e) (has_at xs n zero_cell less) in
-    c.requires.near (get_or c.cells-cells.result.now n zero_cell) inside
+add_beside-requires-clause-near g c = c.requires.near (get_or c.cells-cells.result.now c.loop-at.at zero_cell) (read_inside c.args.parent.now c.cells-cells.result.now c.loop-at.at zero_cell c.cells-cells.ensures.cells c.loop-at-test.true)
 
 pub add_beside-requires-clause-before : goal.add_beside-requires-clause-before
 add_beside-requires-clause-before g c =
@@ -44,20 +29,14 @@ add_beside-requires-clause-done g c =
 
 pub loop-at-preserved : goal.loop-at-preserved
 loop-at-preserved g c =
-    let met = g.met.G.Grid in
     let geometry = g.G.Grid.geometry in
     let xs = c.args.parent.now in
-    let n = c.loop-at.at in
     let e = c.cells-cells.ensures.cells in
-    let less : n < length xs = subst (λ zs. n < length zs) e c.loop-at-test.true in
-    let added = subst (λ zs. Adds (IsGrownFrom geometry xs) (IsChildAt geometry xs (get_or zs n zero_cell)) c.loop-at.all.items c.add_beside.new.all.items) e c.in_ok-add_beside.ensures in
-    all_more geometry met.laws xs n zero_cell c.args.all.now.items c.loop-at.all.items c.add_beside.new.all.items less c.loop-at.invariant added
+    let less : c.loop-at.at < length xs = subst (λ zs. c.loop-at.at < length zs) e c.loop-at-test.true in
+    let added = subst (λ zs. Adds (IsGrownFrom geometry xs) (IsChildAt geometry xs (get_or zs c.loop-at.at zero_cell)) c.loop-at.all.items c.add_beside.new.all.items) e c.in_ok-add_beside.ensures in
+    all_more geometry g.met.G.Grid.laws xs c.loop-at.at zero_cell c.args.all.now.items c.loop-at.all.items c.add_beside.new.all.items less c.loop-at.invariant added
 
 pub returns : goal.returns
 returns g c =
-    let met = g.met.G.Grid in
-    let geometry = g.G.Grid.geometry in
-    let xs = c.args.parent.now in
-    let n = c.loop-at.at in
     let long = ap length c.cells-cells.ensures.cells in
-    all_end geometry met.laws xs n c.args.all.now.items c.loop-at.all.items (omega (arith, c.loop-at-test.false, c.loop-at.auto.at-end, long)) c.loop-at.invariant
+    all_end g.G.Grid.geometry g.met.G.Grid.laws c.args.parent.now c.loop-at.at c.args.all.now.items c.loop-at.all.items (omega (arith, c.loop-at-test.false, c.loop-at.auto.at-end, long)) c.loop-at.invariant

@@ -5,9 +5,9 @@ use Rattle.heesch_cnf.specs.Clauses.{IsClause}
 use Rattle.heesch_grid.specs.Cells.{meet}
 use Rattle.heesch_grid.specs.CoronaFormula.{Variable}
 use Rattle.heesch_cert.specs.Cuts.{cut_clause}
+use Rattle.heesch_encode.proofs.ClauseLists.{clause_form, wider}
 use Rattle.heesch_levels.specs.declared.searching.Search.{Search}
 use Rattle.heesch_levels.specs.Searching.{GoesOn}
-use Rattle.heesch_levels.proofs.ClauseForms.{clause_form, wider_clause}
 use Rattle.heesch_levels.proofs.SearchFacts.{search_gives}
 use Rattle.heesch_levels.proofs.searching.Search.give.Goals as goal
 
@@ -16,8 +16,8 @@ give-requires-clause-form g c =
     let vars = c.args.asked.now.universe.vars in
     let cut = c.args.cut in
     let form : IsClause (length vars) (cut_clause vars cut) =
-    clause_form (λ (x : ℕ × Variable). list_any (nat_eq x.0) cut.border) (λ (x : ℕ × Variable). nat_le x.1.level cut.level && meet x.1.tile cut.hole) vars in
-    wider_clause (length vars) c.args.self.now.solver.vars c.in_ok-clause.clause c.requires.search.within (subst (IsClause (length vars)) (sym c.in_ok-clause.ensures) form)
+    clause_form vars (λ (x : ℕ × Variable). list_any (nat_eq x.0) cut.border) (λ (x : ℕ × Variable). nat_le x.1.level cut.level && meet x.1.tile cut.hole) in
+    wider (length vars) c.args.self.now.solver.vars c.in_ok-clause.clause c.requires.search.within (subst (IsClause (length vars)) (sym c.in_ok-clause.ensures) form)
 
 pub returns-clause-on : goal.returns-clause-on
 returns-clause-on g c =
