@@ -1,6 +1,5 @@
 //! The model text of a solver, read line by line.
-ghost use Rattle.std.specs.Prelude.{◌≡◌, IfOk, IfErr};
-ghost use Rattle.heesch_dimacs.specs.declared.model.ModelStop.TheVariants as stops;
+ghost use Rattle.std.specs.Prelude.{IfOk, IfErr};
 ghost use Rattle.heesch_dimacs.specs.Models.{IsModel};
 ghost use Rattle.heesch_dimacs.specs.Stops.{Stops};
 
@@ -24,14 +23,6 @@ pub enum ModelStop {
     NoMemory,
 }
 
-impl From<NoMemory> for ModelStop {
-    ghost from_gives = { λ _ e. e ≡ stops.NoMemory };
-
-    fn from(_error: NoMemory) -> ModelStop {
-        ModelStop::NoMemory
-    }
-}
-
 /// The values of the variables 1 to `vars`, in their order, by the model text of a solver.
 ///
 /// Such a text is the line `s SATISFIABLE` and then one or more lines that begin with `v`, each followed by a space and a
@@ -47,7 +38,9 @@ pub fn read_model(alloc: Global, text: &[u8], vars: u32) -> Result<Seq<bool>, Mo
     ensures ok { IfOk result (λ values. IsModel vars text.now values) }
     ensures stop { IfErr result (λ stop. Stops vars text.now stop) }
 {
-    let mut named = unset(alloc, vars as usize)?;
+    let Ok(mut named) = unset(alloc, vars as usize) else {
+        return Err(ModelStop::NoMemory);
+    };
     let mut literals = Seq::new(alloc);
     let mut place = Place::Start;
     let mut rest = text;
@@ -69,7 +62,10 @@ pub fn read_model(alloc: Global, text: &[u8], vars: u32) -> Result<Seq<bool>, Mo
         return Err(ModelStop::NotText { line });
     }
     match place {
-        Place::End => Ok(assignment(alloc, vars, literals.as_slice())?),
+        Place::End => match assignment(alloc, vars, literals.as_slice()) {
+            Ok(values) => Ok(values),
+            Err(NoMemory) => Err(ModelStop::NoMemory),
+        },
         Place::Start | Place::Values => Err(ModelStop::NotText { line }),
     }
 }

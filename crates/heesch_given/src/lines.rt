@@ -9,6 +9,7 @@ ghost use Rattle.heesch_given.specs.Steps.{IsRead, MayGoOn, IsSomeLine, EndsLine
 
 use crate::stop::GivenStop;
 use heesch_grid::{Cell, Grid};
+use heesch_io::NoMemory;
 use heesch_line::{LineFault, ListLine};
 use heesch_shape::{Shape, ShapeFault};
 use std::alloc::Global;
@@ -98,8 +99,10 @@ impl<G: Grid> GivenLines<G> {
         if byte == b'\n' {
             return self.end_line();
         }
-        self.line.take(byte)?;
-        Ok(())
+        match self.line.take(byte) {
+            Ok(()) => Ok(()),
+            Err(NoMemory) => Err(GivenStop::NoMemory),
+        }
     }
 
     /// Ends the line, and begins another.

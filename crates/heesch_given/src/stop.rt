@@ -2,7 +2,7 @@
 ghost use Rattle.std.specs.Prelude.{◌≡◌};
 ghost use Rattle.heesch_given.specs.declared.stop.GivenStop.TheVariants as stops;
 
-use heesch_io::{Failed, NoMemory};
+use heesch_io::Failed;
 use thiserror::Error;
 
 /// Why a list text gives no shapes.
@@ -18,14 +18,6 @@ pub enum GivenStop {
     /// Memory was refused.
     #[error("out of memory")]
     NoMemory,
-}
-
-impl From<NoMemory> for GivenStop {
-    ghost from_gives = { λ _ e. e ≡ stops.NoMemory };
-
-    fn from(_error: NoMemory) -> GivenStop {
-        GivenStop::NoMemory
-    }
 }
 
 impl From<Failed> for GivenStop {

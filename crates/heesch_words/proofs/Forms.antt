@@ -38,6 +38,14 @@ no_options text_of words k first options long refused have =
     let same = others_are text_of words k first have.others long have.spelled in
     refused options (subst (λ (w : List (List ℕ)). AreOptions w options) (sym same) have.given)
 
+-- the same of options other than `--brief`
+pub no_full_options : {X : Type 0} (text_of : X → List ℕ) (words : List X) (k : ℕ) (first : List (List ℕ)) (options : Options)
+    → length first ≡ k → ((options : Options) → AreOptions (map text_of (take (length words - k) (drop k words))) options → options.brief ≢ false)
+    → HaveOptions first (map text_of words) options → options.brief ≢ false
+no_full_options text_of words k first options long refused have =
+    let same = others_are text_of words k first have.others long have.spelled in
+    refused options (subst (λ (w : List (List ℕ)). AreOptions w options) (sym same) have.given)
+
 -- the options that were read are those of the words
 read_options : {X : Type 0} (text_of : X → List ℕ) (words : List X) (k : ℕ) (first : List (List ℕ)) (options read : Options)
     → length first ≡ k → AreOptions (map text_of (take (length words - k) (drop k words))) read
@@ -123,15 +131,6 @@ check_not_alone words read given others workers has =
     let same : has.options ≡ read = one_reading words has.options read has.given given in
     others (subst HasWorkersAlone same has.alone)
 
-pub sample_is_brief : {X : Type 0} (text_of : X → List ℕ) (words : List X) (read : Options)
-    → AreOptions (map text_of (take (length words - 4) (drop 4 words))) read → read.brief ≡ true
-    → (grid : GridName) (n count seed : ℕ) (limits : Limits) (workers : ℕ) → ¬ HasSampleForm (map text_of words) grid n count seed limits workers
-sample_is_brief text_of words read given brief grid n count seed limits workers has =
-    let same : has.options ≡ read = read_options text_of words 4 _ has.options read refl given has.have in
-    let not_brief : has.options.brief ≡ false = has.not_brief in
-    let both : read.brief ≡ false = subst (λ (o : Options). o.brief ≡ false) same not_brief in
-    cc
-
 -- the first word names one grid
 first_grid : {X : Type 0} (text_of : X → List ℕ) (words : List X) (first : X) (grid grid' : GridName) (others : List (List ℕ)) (options : Options)
     → 1 ≤ length words → first ≡ get_or words 0 first → text_of first ≡ grid_word grid
@@ -195,14 +194,6 @@ subject_refused text_of (x ∷ y ∷ words) first second read version grid some 
 share_options : {X : Type 0} (text_of : X → List ℕ) (words : List X) (read : Options) (grid : GridName) (n i k : ℕ) (limits : Limits) (workers : ℕ)
     → AreOptions (map text_of (take (length words - 4) (drop 4 words))) read → (has : HasShareForm (map text_of words) grid n i k limits workers) → has.options ≡ read
 share_options text_of words read grid n i k limits workers given has = read_options text_of words 4 _ has.options read refl given has.have
-
-pub share_is_brief : {X : Type 0} (text_of : X → List ℕ) (words : List X) (read : Options)
-    → AreOptions (map text_of (take (length words - 4) (drop 4 words))) read → read.brief ≡ true
-    → (grid : GridName) (n i k : ℕ) (limits : Limits) (workers : ℕ) → ¬ HasShareForm (map text_of words) grid n i k limits workers
-share_is_brief text_of words read given brief grid n i k limits workers has =
-    let same : has.options ≡ read = share_options text_of words read grid n i k limits workers given has in
-    let both : read.brief ≡ false = subst (λ (o : Options). o.brief ≡ false) same has.not_brief in
-    cc
 
 -- the number of a share isn't among those of so many as the fourth word says
 pub share_number_refused : {X : Type 0} (text_of : X → List ℕ) (words : List X) (third fourth : X) (all : ℕ)
@@ -287,6 +278,10 @@ one_formula words grid grid' level level' size size' version version' first seco
       first.version_is ∙ ap (λ (o : Options). (limits_of o).version) same ∙ sym second.version_is,
     )
 
+-- four words and four words
+four_same : {a b c d x y z w : List ℕ} → a ∷ b ∷ c ∷ d ∷ [] ≡ x ∷ y ∷ z ∷ w ∷ [] → (a ≡ x) × (b ≡ y) × (c ≡ z) × (d ≡ w)
+four_same is = ((cc), (cc), (cc), (cc))
+
 -- words have one form of each kind
 one_of_form : (words : List (List ℕ)) (x y : Request) → form_word x ≡ form_word y → HasForm words x → HasForm words y → x ≡ y
 one_of_form words (ListRequest grid n workers) (ListRequest grid' n' workers') is first second =
@@ -305,10 +300,7 @@ one_of_form words (CheckRequest workers) (CheckRequest workers') is first second
 one_of_form words TableRequest TableRequest is first second = refl
 one_of_form words (SampleRequest grid n count seed limits workers) (SampleRequest grid' n' count' seed' limits' workers') is first second =
     let (parts, same) = one_choice words _ _ first.options second.options refl first.have second.have in
-    let grids : grid_word grid ≡ grid_word grid' = cc in
-    let sizes : decimal n ≡ decimal n' = cc in
-    let counts : decimal count ≡ decimal count' = cc in
-    let seeds : decimal seed ≡ decimal seed' = cc in
+    let (grids, sizes, counts, seeds) = four_same parts in
     let same_grids : grid ≡ grid' = same_grid grid grid' grids in
     let same_sizes : n ≡ n' = decimal_injective n n' (omega (arith, first.in_range.cells.1)) (omega (arith, second.in_range.cells.1)) sizes in
     let same_counts : count ≡ count' = decimal_injective count count' (omega (arith, first.in_range.shapes.1)) (omega (arith, second.in_range.shapes.1)) counts in
@@ -324,10 +316,7 @@ one_of_form words (AnswerRequest grid level size version) (AnswerRequest grid' l
     cc
 one_of_form words (ShareRequest grid n i k limits workers) (ShareRequest grid' n' i' k' limits' workers') is first second =
     let (parts, same) = one_choice words _ _ first.options second.options refl first.have second.have in
-    let grids : grid_word grid ≡ grid_word grid' = cc in
-    let sizes : decimal n ≡ decimal n' = cc in
-    let numbers : decimal i ≡ decimal i' = cc in
-    let counts : decimal k ≡ decimal k' = cc in
+    let (grids, sizes, numbers, counts) = four_same parts in
     let same_grids : grid ≡ grid' = same_grid grid grid' grids in
     let same_sizes : n ≡ n' = one_size limits.version limits'.version grid grid' n n' first.in_range.1 second.in_range.1 sizes in
     let same_numbers : i ≡ i' = decimal_injective i i' (omega (arith, first.share.number.1, first.share.most)) (omega (arith, second.share.number.1, second.share.most)) numbers in

@@ -36,12 +36,7 @@ times b = if b then 1 else 0
 
 -- `--brief` is held after a number as it was before
 brief_stays : (name : Name) (number : Option ℕ) (old : Options) → (with_number name number old).brief ≡ old.brief
-brief_stays Workers number old = refl
-brief_stays Turns number old = refl
-brief_stays Levels number old = refl
-brief_stays Domain number old = refl
-brief_stays Size number old = refl
-brief_stays Version number old = refl
+brief_stays name number old = grind arith
 
 brief_after : (name : Name) (n : ℕ) (settings : List Setting) (old : Options) → count_by is_brief settings ≡ (if old.brief then 1 else 0)
     → count_by is_brief (settings ++ Number name n ∷ []) ≡ (if (with_number name (Some n) old).brief then 1 else 0)
@@ -74,12 +69,7 @@ number_refused key (Ok others) name words old named told = tt
 number_refused key (Err e) name words old named told = go
   where
     own : (key : Name) (n : ℕ) → number_of key (Number key n) ≡ Some n
-    own Workers n = refl
-    own Turns n = refl
-    own Levels n = refl
-    own Domain n = refl
-    own Size n = refl
-    own Version n = refl
+    own key n = grind arith
 
     go : (setting : Setting) (others : List (List ℕ)) → BeginWith setting (name ∷ words) others → CannotAdd setting old
     go (Number other n) others begin settings new before after =
@@ -112,12 +102,7 @@ brief_read (Ok others) words_of name words old place named (rest, none, placed) 
     numbers_stay other settings = values_stay (number_of other) settings Brief refl
 
     kept : (other : Name) → held other old ≡ held other (record old { brief = place })
-    kept Workers = refl
-    kept Turns = refl
-    kept Levels = refl
-    kept Domain = refl
-    kept Size = refl
-    kept Version = refl
+    kept other = grind arith
 
     brief_more : (settings : List Setting) → AreHeld settings old → count_by is_brief (settings ++ Brief ∷ []) ≡ (if place then 1 else 0)
     brief_more settings before =

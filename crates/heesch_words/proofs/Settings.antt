@@ -118,12 +118,7 @@ same_options settings x y first second =
     same_fields x y (λ name. same_value _ _ (sym (first.numbers name) ∙ second.numbers name)) (same_brief _ _ _ first.brief second.brief)
 
 held_by : (number : Name → Option ℕ) (brief : Bool) (name : Name) → held name (holding number brief) ≡ number name
-held_by number brief Workers = refl
-held_by number brief Turns = refl
-held_by number brief Levels = refl
-held_by number brief Domain = refl
-held_by number brief Size = refl
-held_by number brief Version = refl
+held_by number brief name = grind arith
 
 -- the first settings can be held where all are
 pub part_is_held : (first others : List Setting) (options : Options) → AreHeld (first ++ others) options → (part : Options) × AreHeld first part
@@ -146,12 +141,7 @@ same_name Version Version is = refl
 same_name x y is = absurd (grind arith)
 
 pub not_brief : (name : Name) → name_word name ≢ codes "--brief"
-not_brief Workers is = grind arith
-not_brief Turns is = grind arith
-not_brief Levels is = grind arith
-not_brief Domain is = grind arith
-not_brief Size is = grind arith
-not_brief Version is = grind arith
+not_brief name is = grind arith
 
 -- the words of settings in their ranges begin with one setting alone
 pub same_setting : (x y : Setting) (others more : List (List ℕ)) → IsInRange x → IsInRange y

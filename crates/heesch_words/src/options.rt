@@ -22,7 +22,7 @@ const MOST_SIZE: u64 = 60_000_000;
 const MOST_VERSION: u64 = 2;
 
 /// What the options of a form give.
-#[derive(Clone, Copy)]
+#[derive(Clone, Copy, Default)]
 pub struct Options {
     pub workers: Option<u32>,
     pub turns: Option<u32>,
@@ -40,18 +40,24 @@ impl Options {
         ensures usage { OnErr result
             ((options : Options) → ¬ AreOptions (map string_bytes words.now) options) }
     {
-        let mut options = Options {
-            workers: None,
-            turns: None,
-            levels: None,
-            domain: None,
-            size: None,
-            version: None,
-            brief: false,
-        };
+        let mut options = Options::default();
         let mut rest = words;
         while let [name, others @ ..] = rest {
             rest = options.read_one(name.as_str(), others)?;
+        }
+        Ok(options)
+    }
+
+    /// What the words give, where they are options other than `--brief`.
+    pub fn read_full(words: &[String]) -> Result<Options, Usage>
+        ensures ok { IfOk result (λ options. AreOptions (map string_bytes words.now) options) }
+        ensures full { IfOk result (λ options. options.brief ≡ false) }
+        ensures usage { OnErr result ((options : Options)
+            → AreOptions (map string_bytes words.now) options → options.brief ≢ false) }
+    {
+        let options = Options::read(words)?;
+        if options.brief {
+            return Err(Usage);
         }
         Ok(options)
     }

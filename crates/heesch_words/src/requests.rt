@@ -244,10 +244,7 @@ fn sample(words: &[String]) -> Result<Request, Usage>
     let n = number(n.as_str(), 1, MOST_SAMPLE_CELLS)? as u32;
     let count = number(count.as_str(), 1, MOST_SAMPLE_SHAPES)? as u32;
     let seed = number(seed.as_str(), 0, u64::MAX)?;
-    let options = Options::read(options)?;
-    if options.brief {
-        return Err(Usage);
-    }
+    let options = Options::read_full(options)?;
     let limits = options.limits();
     if !has_grid(limits.version, grid) {
         return Err(Usage);
@@ -317,10 +314,7 @@ fn share(words: &[String]) -> Result<Request, Usage>
     let grid = grid_named(grid.as_str())?;
     let k = number(k.as_str(), 1, MOST_SHARES)? as u32;
     let i = number(i.as_str(), 1, u64::from(k))? as u32;
-    let options = Options::read(options)?;
-    if options.brief {
-        return Err(Usage);
-    }
+    let options = Options::read_full(options)?;
     let limits = options.limits();
     let n = number(n.as_str(), 1, u64::from(most_cells(limits.version, grid)))? as u32;
     Ok(Request::Share {

@@ -7,8 +7,8 @@ use Rattle.heesch_dimacs.proofs.model.read_model.Goals as goal
 
 pub loop-first-init : goal.loop-first-init
 loop-first-init c =
-    subst (λ (t : List Lit). HasRead c.args.vars c.args.text.now t c.in_ok-named.named.items Start 1 c.args.text.now) (sym c.new-literals.ensures)
-    (starts c.args.vars c.args.text.now c.in_ok-named.named.items c.in_ok-named.ensures)
+    subst (λ (t : List Lit). HasRead c.args.vars c.args.text.now t c.in-Ok.named.items Start 1 c.args.text.now) (sym c.new-literals.ensures)
+    (starts c.args.vars c.args.text.now c.in-Ok.named.items c.in-Ok.ensures)
 
 pub returns-in-Err-NotText-clause-stop : goal.returns-in-Err-NotText-clause-stop
 returns-in-Err-NotText-clause-stop c =
@@ -18,8 +18,8 @@ returns-in-Err-NotText-clause-stop c =
 
 pub returns-then-not-name_all-clause-stop : goal.returns-then-not-name_all-clause-stop
 returns-then-not-name_all-clause-stop c =
-    stranger_named c.args.vars c.args.text.now c.loop-first.literals c.read_line.new.literals c.as_slice.result.now c.loop-first.named.items c.deref_mut.result.now c.loop-first.place c.in-Ok.next c.loop-first.line c.loop-first.rest.now c.in-Some.first.now c.in-Some.after.now c.len-before.result
-    c.loop-first.invariant c.in-Some.ensures c.in-Ok.ensures c.len-before.ensures c.as_slice.ensures c.deref_mut.ensures.value c.if-not-name_all.ensures
+    stranger_named c.args.vars c.args.text.now c.loop-first.literals c.read_line.new.literals c.as_slice.result.now c.loop-first.named.items c.deref_mut.result.now c.loop-first.place c.in-Ok-read_line.next c.loop-first.line c.loop-first.rest.now c.in-Some.first.now c.in-Some.after.now c.len-before.result
+    c.loop-first.invariant c.in-Some.ensures c.in-Ok-read_line.ensures c.len-before.ensures c.as_slice.ensures c.deref_mut.ensures.value c.if-not-name_all.ensures
 
 pub overflow_add-line : goal.overflow_add-line
 overflow_add-line c =
@@ -29,13 +29,13 @@ overflow_add-line c =
 
 pub loop-first-preserved : goal.loop-first-preserved
 loop-first-preserved c =
-    goes_on_named c.args.vars c.args.text.now c.loop-first.literals c.read_line.new.literals c.as_slice.result.now c.loop-first.named.items c.deref_mut.result.now c.name_all.new.named (drop (length c.name_all.new.named) c.loop-first.named.items) c.loop-first.place c.in-Ok.next c.loop-first.line c.loop-first.rest.now c.in-Some.first.now c.in-Some.after.now c.len-before.result c.loop-first.named.len
-    c.loop-first.invariant c.in-Some.ensures c.in-Ok.ensures c.len-before.ensures c.as_slice.ensures c.deref_mut.ensures.value c.if-not-name_all.ensures c.name_all.auto.named c.deref_mut.ensures.len
+    goes_on_named c.args.vars c.args.text.now c.loop-first.literals c.read_line.new.literals c.as_slice.result.now c.loop-first.named.items c.deref_mut.result.now c.name_all.new.named (drop (length c.name_all.new.named) c.loop-first.named.items) c.loop-first.place c.in-Ok-read_line.next c.loop-first.line c.loop-first.rest.now c.in-Some.first.now c.in-Some.after.now c.len-before.result c.loop-first.named.len
+    c.loop-first.invariant c.in-Some.ensures c.in-Ok-read_line.ensures c.len-before.ensures c.as_slice.ensures c.deref_mut.ensures.value c.if-not-name_all.ensures c.name_all.auto.named c.deref_mut.ensures.len
 
 pub returns-then-not-is_empty-clause-stop : goal.returns-then-not-is_empty-clause-stop
 returns-then-not-is_empty-clause-stop c =
-    inl (early c.args.vars c.args.text.now c.loop-first.literals c.loop-first.named.items c.loop-first.place c.loop-first.line c.loop-first.rest.now c.loop-first.invariant c.in_default.ensures (inl (some_bytes c.loop-first.rest.now c.if-not-is_empty.ensures)))
+    inl (early c.args.vars c.args.text.now c.loop-first.literals c.loop-first.named.items c.loop-first.place c.loop-first.line c.loop-first.rest.now c.loop-first.invariant c.in_default-cut_line.ensures (inl (some_bytes c.loop-first.rest.now c.if-not-is_empty.ensures)))
 
 pub returns : goal.returns
 returns c =
-    record { ok = tt; stop = inl (early c.args.vars c.args.text.now c.loop-first.literals c.loop-first.named.items c.loop-first.place c.loop-first.line c.loop-first.rest.now c.loop-first.invariant c.in_default.ensures (inr (is_early c.loop-first.place c.in-Start.is))) }
+    record { ok = tt; stop = inl (early c.args.vars c.args.text.now c.loop-first.literals c.loop-first.named.items c.loop-first.place c.loop-first.line c.loop-first.rest.now c.loop-first.invariant c.in_default-cut_line.ensures (inr (is_early c.loop-first.place c.in-Start.is))) }

@@ -5,18 +5,14 @@ use Rattle.heesch_grid.specs.declared.GridName.{GridName}
 use Rattle.heesch_grid.specs.Names.{grid_word}
 use Rattle.heesch_words.specs.Options.{limits_of}
 use Rattle.heesch_words.specs.Requests.{HasSampleForm}
-use Rattle.heesch_words.proofs.Forms.{no_options, sample_is_brief, sample_no_grid}
+use Rattle.heesch_words.proofs.Forms.{no_full_options, sample_no_grid}
 use Rattle.heesch_words.proofs.requests.sample.Goals as goal
 
 pub returns-in_err-options-clause-usage : goal.returns-in_err-options-clause-usage
 returns-in_err-options-clause-usage c =
     let refused : (grid : GridName) (n count seed : ℕ) (limits : Limits) (workers : ℕ) → ¬ HasSampleForm (map string_bytes c.args.words.now) grid n count seed limits workers =
-    λ grid n count seed limits workers has. no_options string_bytes c.args.words.now 4 _ has.options refl c.in_err-options.ensures.usage has.have in
+    λ grid n count seed limits workers has. no_full_options string_bytes c.args.words.now 4 _ has.options refl c.in_err-options.ensures.usage has.have has.not_brief in
     search rules
-
-pub returns-then-options-clause-usage : goal.returns-then-options-clause-usage
-returns-then-options-clause-usage c =
-    sample_is_brief string_bytes c.args.words.now c.in_ok-options.options c.in_ok-options.ensures.ok c.if-options.true
 
 pub returns-then-not-has_grid-clause-usage : goal.returns-then-not-has_grid-clause-usage
 returns-then-not-has_grid-clause-usage c =

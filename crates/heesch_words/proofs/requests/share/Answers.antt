@@ -1,22 +1,18 @@
-use Rattle.std.proofs.Common.{◌≡◌, ◌≢◌, ◌≤◌, ◌∙◌, ℕ, ap, subst, sym, map, string_bytes, decimal, refl, rules, arith}
+use Rattle.std.proofs.Common.{◌≡◌, ◌≢◌, ◌≤◌, ◌∙◌, ℕ, ap, sym, map, string_bytes, decimal, refl, rules, arith}
 use Rattle.heesch_cert.specs.Sizes.{most_cells}
 use Rattle.heesch_cert.specs.declared.limits.Limits.{Limits}
 use Rattle.heesch_grid.specs.declared.GridName.{GridName}
 use Rattle.heesch_grid.specs.Names.{grid_word}
 use Rattle.heesch_words.specs.Options.{limits_of}
 use Rattle.heesch_words.specs.Requests.{HasShareForm}
-use Rattle.heesch_words.proofs.Forms.{no_options, share_is_brief, share_number_refused, share_size_refused}
+use Rattle.heesch_words.proofs.Forms.{no_full_options, share_number_refused, share_size_refused}
 use Rattle.heesch_words.proofs.requests.share.Goals as goal
 
 pub returns-in_err-options-clause-usage : goal.returns-in_err-options-clause-usage
 returns-in_err-options-clause-usage c =
     let refused : (grid : GridName) (n i k : ℕ) (limits : Limits) (workers : ℕ) → ¬ HasShareForm (map string_bytes c.args.words.now) grid n i k limits workers =
-    λ grid n i k limits workers has. no_options string_bytes c.args.words.now 4 _ has.options refl c.in_err-options.ensures.usage has.have in
+    λ grid n i k limits workers has. no_full_options string_bytes c.args.words.now 4 _ has.options refl c.in_err-options.ensures.usage has.have has.not_brief in
     search rules
-
-pub returns-then-options-clause-usage : goal.returns-then-options-clause-usage
-returns-then-options-clause-usage c =
-    share_is_brief string_bytes c.args.words.now c.in_ok-options.options c.in_ok-options.ensures.ok c.if-options.true
 
 pub returns-in_err-i-clause-usage : goal.returns-in_err-i-clause-usage
 returns-in_err-i-clause-usage c =

@@ -16,10 +16,10 @@ returns-then-byte-eq10-clause-stop g c = λ before read.
     newline_told g.G.Grid.geometry before c.args.byte c.args.self.now.shapes.items c.end_line.new.self.shapes.items c.args.self.now.line c.end_line.new.self.line c.end_line.result c.if-byte-eq10.true read
     (omega (arith, c.len.ensures, c.if-len-ge-MOST_SHAPES.false)) (c.end_line.ensures read.undecided.line read.scanned)
 
-pub returns-clause-ok : goal.returns-clause-ok
-returns-clause-ok g c = λ before read.
+pub returns-in-Ok-clause-ok : goal.returns-in-Ok-clause-ok
+returns-in-Ok-clause-ok g c = λ before read.
     line_goes_on g.G.Grid.geometry before c.args.self.now.shapes.items c.args.self.now.line c.take.new.self c.args.byte read (omega (arith, c.len.ensures, c.if-len-ge-MOST_SHAPES.false)) c.if-byte-eq10.false
-    (c.in_ok-take.ensures.taken read.undecided.line read.scanned)
+    (c.in-Ok.ensures.taken read.undecided.line read.scanned)
 
 pub end_line-requires : goal.end_line-requires
 end_line-requires g c = (c.requires.1.undecided.line, c.requires.1.scanned)
