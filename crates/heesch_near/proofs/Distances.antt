@@ -1,6 +1,5 @@
 -- Pairs within bounds, and the translations that lead from one to another.
-use Rattle.std.proofs.Common.{ℕ, suc, ◌+◌, ◌*◌, ◌≤◌, ℤ, pos, negsuc, neg_ℤ, ◌+ℤ◌, ◌*ℤ◌, ◌≤ℤ◌, arith}
-use Rattle.std.proofs.Math.Nat.{mul-le-mul_right}
+use Rattle.std.proofs.Common.{ℕ, ◌+◌, ◌*◌, ◌≤◌, ℤ, pos, neg_ℤ, ◌+ℤ◌, ◌*ℤ◌, ◌≤ℤ◌, arith}
 use Rattle.std.proofs.lemmas.Int.{ints}
 use Rattle.heesch_grid.specs.declared.Cell.{Cell}
 use Rattle.heesch_grid.specs.declared.isometries.Iso.{Iso}
@@ -8,15 +7,7 @@ use Rattle.heesch_grid.specs.Cells.{cell}
 use Rattle.heesch_grid.specs.Geometry.{Geometry, IsGrid, IsIsometry, apply}
 use Rattle.heesch_grid.specs.Vectors.{IsWithin}
 use Rattle.heesch_grid.proofs.Images.{turn_within}
-
--- a factor is no greater than its multiple by at least 1
-factor_near : (n m : ℕ) (q : ℤ) → 1 ≤ n → neg_ℤ (pos m) ≤ℤ (pos n *ℤ q) → (pos n *ℤ q) ≤ℤ pos m → (neg_ℤ (pos m) ≤ℤ q) × (q ≤ℤ pos m)
-factor_near n m (pos k) low a b =
-    let e = mul-le-mul_right k low in
-    (omega (arith, ints), omega (arith, ints, e, b))
-factor_near n m (negsuc k) low a b =
-    let e = mul-le-mul_right (suc k) low in
-    (omega (arith, ints, e, a), omega (arith, ints))
+use Rattle.heesch_shape.proofs.Near.{factor_near}
 
 -- what leads from one number to another, in steps of at least 1
 step_near : (n m k : ℕ) (x q : ℤ) → 1 ≤ n → neg_ℤ (pos m) ≤ℤ x → x ≤ℤ pos m → neg_ℤ (pos k) ≤ℤ (x +ℤ pos n *ℤ q) → (x +ℤ pos n *ℤ q) ≤ℤ pos k → (neg_ℤ (pos (m + k)) ≤ℤ q) × (q ≤ℤ pos (m + k))

@@ -222,25 +222,25 @@ module _ (vars : List Variable) (k : ℕ) (c : Cell) where
   not_le : (m n : ℕ) → n < m → nat_le m n ≡ false
   not_le m n l = grind (arith, nat_tests)
 
+  -- a number of the list is that of a variable
+  numbered_at : (ns : List ℕ) → ns ≡ numbers_with (map (λ x. x.tile) vars) c → (j : ℕ) → j < length ns → (x : Variable) × IsNumbered vars (get_or ns j 0) x × (level_at (get_or ns j 0) ≡ x.level)
+  numbered_at ns is j m =
+      let at = numbers_with-at (map (λ x. x.tile) vars) c ns is j m in
+      let long = length-mapped (λ (x : Variable). x.tile) vars in
+      let one = at.0 in
+      let top = at.1 in
+      let x = item_at vars (get_or ns j 0 - 1) (omega arith) in
+      (x.0, (one, x.1), level_is (get_or ns j 0) x.0 x.1)
+
   -- the front of the numbers is the answer, where these have small levels and the next does not
   pub covering_front : (ns : List ℕ) (i : ℕ) → ns ≡ numbers_with (map (λ x. x.tile) vars) c → LevelsUpTo vars k (take i ns) → ((j : ℕ) → i ≤ j → j < length ns → (x : Variable) → IsNumbered vars (get_or ns j 0) x → k < x.level) → take i ns ≡ covering vars k c
   covering_front ns i is low high =
       sym (filter_front (λ n. nat_le (level_at n) k) ns i
       (λ j l m.
-      let at = numbers_with-at (map (λ x. x.tile) vars) c ns is j m in
-      let long = length-mapped (λ (x : Variable). x.tile) vars in
-      let one = at.0 in
-      let top = at.1 in
-      let x = item_at vars (get_or ns j 0 - 1) (omega arith) in
+      let x = numbered_at ns is j m in
       let front : Contains (take i ns) (get_or ns j 0) = taken ns i j l m in
-      ap (λ z. nat_le z k) (level_is (get_or ns j 0) x.0 x.1) ∙ le-leb x.0.level k (All-contains (λ n. (x : Variable) → IsNumbered vars n x → x.level ≤ k) (take i ns) (get_or ns j 0) low front x.0 (one, x.1)))
-      (λ j l m.
-      let at = numbers_with-at (map (λ x. x.tile) vars) c ns is j m in
-      let long = length-mapped (λ (x : Variable). x.tile) vars in
-      let one = at.0 in
-      let top = at.1 in
-      let x = item_at vars (get_or ns j 0 - 1) (omega arith) in
-      ap (λ z. nat_le z k) (level_is (get_or ns j 0) x.0 x.1) ∙ not_le x.0.level k (high j l m x.0 (one, x.1))))
+      ap (λ z. nat_le z k) x.2 ∙ le-leb x.0.level k (All-contains (λ n. (x : Variable) → IsNumbered vars n x → x.level ≤ k) (take i ns) (get_or ns j 0) low front x.0 x.1))
+      (λ j l m. let x = numbered_at ns is j m in ap (λ z. nat_le z k) x.2 ∙ not_le x.0.level k (high j l m x.0 x.1)))
       ∙ ap (filter (λ n. nat_le (level_at n) k)) is
       ∙ sym covering_is
     where

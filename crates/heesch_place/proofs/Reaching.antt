@@ -1,6 +1,5 @@
 -- Units that lead from cells to targets, and the placements that have a target.
-use Rattle.std.proofs.Common.{◌≡◌, ℕ, suc, ◌<◌, ◌≤◌, true, List, [], ◌∷◌, ◌++◌, ℤ, pos, negsuc, neg_ℤ, ◌*ℤ◌, ◌≤ℤ◌, sym, ap, ◌∙◌, subst, arith, All, Contains}
-use Rattle.std.proofs.Math.Nat.{mul-le-mul_right}
+use Rattle.std.proofs.Common.{◌≡◌, ℕ, ◌<◌, true, List, [], ◌∷◌, ◌++◌, ℤ, pos, negsuc, ◌*ℤ◌, ◌≤ℤ◌, sym, ap, ◌∙◌, subst, arith, All, Contains}
 use Rattle.std.proofs.lemmas.Int.{ints}
 use Rattle.std.proofs.lemmas.List.Elements.{All-contains}
 use Rattle.heesch_grid.specs.declared.Cell.{Cell}
@@ -14,6 +13,7 @@ use Rattle.heesch_grid.proofs.CanonicalFacts.{rounds_once}
 use Rattle.heesch_grid.proofs.Images.{turn_within}
 use Rattle.heesch_grid.proofs.ListFacts.{All-from_members}
 use Rattle.heesch_grid.proofs.WindowFacts.{member_map, map_member}
+use Rattle.heesch_shape.proofs.Near.{factor_near}
 use Rattle.heesch_place.specs.Found.{Adds, FromOne, LeadsTo, LeadsOnto, IsImageBy, IsTurnedOver, IsPlacementOver}
 use Rattle.heesch_grid.specs.Vectors.{AreUnitsOf}
 use Rattle.heesch_place.proofs.Gathering.{adds_one, adds_nothing, adds_same}
@@ -45,14 +45,6 @@ some_units unit from to s units old new low d u is =
 
 pub no_units : (unit : ℤ) (from to s : Cell) (old : List Cell) → plus s from ≡ to → ((units : Cell) → AreUnitsOf unit units s → ⊥) → Adds (LeadsTo unit from to) old old
 no_units unit from to s old d none = adds_nothing (LeadsTo unit from to) old (λ x l. none x (leading_units unit from to s x d l))
-
-factor_near : (n m : ℕ) (q : ℤ) → 1 ≤ n → neg_ℤ (pos m) ≤ℤ (pos n *ℤ q) → (pos n *ℤ q) ≤ℤ pos m → (neg_ℤ (pos m) ≤ℤ q) × (q ≤ℤ pos m)
-factor_near n m (pos k) low a b =
-    let e = mul-le-mul_right k low in
-    (omega (arith, ints), omega (arith, ints, e, b))
-factor_near n m (negsuc k) low a b =
-    let e = mul-le-mul_right (suc k) low in
-    (omega (arith, ints, e, a), omega (arith, ints))
 
 abbrev iso_by : ℕ → Cell → Iso
 iso_by k units = record { turn = k; da = units.a; db = units.b }

@@ -1,30 +1,29 @@
-use Rattle.std.proofs.Common.{◌≡◌, length, sym, ap, ◌∙◌, arith}
+use Rattle.std.proofs.Common.{◌≡◌, length, get_or, sym, ap, ◌∙◌, arith}
 use Rattle.std.proofs.lemmas.Option.{get_or_from_slice_get}
 use Rattle.heesch_place.specs.Found.{is_apart_at}
 use Rattle.heesch_place.proofs.Gathering.{some_here, none_more, none_all}
+use Rattle.heesch_place.proofs.level.Level.is_reached_from.Given as given
 use Rattle.heesch_place.proofs.level.Level.is_reached_from.Goals as goal
+use Rattle.heesch_place.proofs.level.Level.is_reached_from.Goals.{After-TOUCHING-i-end, After-is_apart_at}
+
+-- the loop goes by the places of the cells that touch c
+long : (g : given.Over) (c : After-TOUCHING-i-end g) → c.TOUCHING-i-end.result ≡ length (g.G.Grid.geometry.touching c.args.c)
+long g c = c.TOUCHING-i-end.ensures ∙ g.met.G.Grid.sizes.touching_is ∙ sym ((g.met.G.Grid.laws.touching_listed c.args.c c.requires.cell).1)
+
+-- the test at such a place
+tested : (g : given.Over) (c : After-is_apart_at g) → is_apart_at c.args.self.now c.args.tile.now (get_or (g.G.Grid.geometry.touching c.args.c) c.loop-i.i c.touching.result) ≡ c.is_apart_at.result
+tested g c = ap (is_apart_at c.args.self.now c.args.tile.now) (get_or_from_slice_get (g.G.Grid.geometry.touching c.args.c) c.loop-i.i c.touching.result c.touching.result c.touching.ensures) ∙ sym c.is_apart_at.ensures
 
 pub returns-then-is_apart_at : goal.returns-then-is_apart_at
 returns-then-is_apart_at g c =
-    let met = g.met.G.Grid in
-    let xs = g.G.Grid.geometry.touching c.args.c in
-    let p = is_apart_at c.args.self.now c.args.tile.now in
-    let r = c.touching.result in
-    let long : c.TOUCHING-i-end.result ≡ length xs = c.TOUCHING-i-end.ensures ∙ met.sizes.touching_is ∙ sym ((met.laws.touching_listed c.args.c c.requires.cell).1) in
-    sym (some_here p xs c.loop-i.i r (omega (arith, long, c.loop-i-test.true)) (ap p (get_or_from_slice_get xs c.loop-i.i r r c.touching.ensures) ∙ sym c.is_apart_at.ensures ∙ c.if-is_apart_at.true))
+    let at = goal.at.returns-then-is_apart_at g c in
+    sym (some_here (is_apart_at c.args.self.now c.args.tile.now) (g.G.Grid.geometry.touching c.args.c) c.loop-i.i c.touching.result (omega (arith, long g at.After-TOUCHING-i-end, c.loop-i-test.true)) (tested g at.After-is_apart_at ∙ c.if-is_apart_at.true))
 
 pub loop-i-preserved : goal.loop-i-preserved
 loop-i-preserved g c =
-    let met = g.met.G.Grid in
-    let xs = g.G.Grid.geometry.touching c.args.c in
-    let p = is_apart_at c.args.self.now c.args.tile.now in
-    let r = c.touching.result in
-    let long : c.TOUCHING-i-end.result ≡ length xs = c.TOUCHING-i-end.ensures ∙ met.sizes.touching_is ∙ sym ((met.laws.touching_listed c.args.c c.requires.cell).1) in
-    none_more p xs c.loop-i.i r (omega (arith, long, c.loop-i-test.true)) (ap p (get_or_from_slice_get xs c.loop-i.i r r c.touching.ensures) ∙ sym c.is_apart_at.ensures ∙ c.if-is_apart_at.false) c.loop-i.invariant
+    let at = goal.at.loop-i-preserved g c in
+    none_more (is_apart_at c.args.self.now c.args.tile.now) (g.G.Grid.geometry.touching c.args.c) c.loop-i.i c.touching.result (omega (arith, long g at.After-TOUCHING-i-end, c.loop-i-test.true)) (tested g at.After-is_apart_at ∙ c.if-is_apart_at.false) c.loop-i.invariant
 
 pub returns : goal.returns
 returns g c =
-    let met = g.met.G.Grid in
-    let xs = g.G.Grid.geometry.touching c.args.c in
-    let long : c.TOUCHING-i-end.result ≡ length xs = c.TOUCHING-i-end.ensures ∙ met.sizes.touching_is ∙ sym ((met.laws.touching_listed c.args.c c.requires.cell).1) in
-    sym (none_all (is_apart_at c.args.self.now c.args.tile.now) xs c.loop-i.i (omega (arith, long, c.loop-i-test.false, c.loop-i.auto.i-end)) c.loop-i.invariant)
+    sym (none_all (is_apart_at c.args.self.now c.args.tile.now) (g.G.Grid.geometry.touching c.args.c) c.loop-i.i (omega (arith, long g (goal.at.returns g c).After-TOUCHING-i-end, c.loop-i-test.false, c.loop-i.auto.i-end)) c.loop-i.invariant)
