@@ -1,5 +1,5 @@
 -- How the parts of a run end, and what follows for the run.
-use Rattle.std.proofs.Common.{◌≡◌, ◌≢◌, ◌⊎◌, ◌∙◌, ℕ, List, refl, sym, subst, inl, inr}
+use Rattle.std.proofs.Common.{◌≡◌, ◌≢◌, ◌⊎◌, ◌∙◌, ◌↔◌, ℕ, List, refl, sym, subst, inl, inr}
 use Rattle.std.specs.Prelude.{Option, Some, None, Result, Ok, Err, IfOk, IfErr, OnOk, OnErr, ⊤}
 use Rattle.std.specs.Io.KnownBytes.{Keeps}
 use Rattle.heesch_io.specs.Causes.{Rose}
@@ -14,12 +14,13 @@ use Rattle.heesch_tabulate.specs.declared.answers.Tabulated.TheVariants as table
 use Rattle.heesch_words.specs.declared.requests.Request.{Request}
 use Rattle.heesch_words.specs.declared.requests.Request.TheVariants.{List as ListRequest, Plain as PlainRequest, Classify as ClassifyRequest, Check as CheckRequest, Table as TableRequest, Sample as SampleRequest, Formula as FormulaRequest, Answer as AnswerRequest, Share as ShareRequest, Join as JoinRequest, Outer as OuterRequest}
 use Rattle.heesch_words.specs.Requests.{Asks}
+use Rattle.heesch_words.proofs.Forms.{one_request}
 use Rattle.heesch_app.specs.declared.reply.Reply.{Reply}
 use Rattle.heesch_app.specs.declared.status.Status.{Status}
 use Rattle.heesch_app.specs.declared.status.Status.TheVariants.{Done, Invalid, Usage, BadInput, ReadFault, WriteFault, NoMemory}
 use Rattle.heesch_app.specs.Checks.{check_status}
 use Rattle.heesch_app.specs.Endings.{EndsAs, IsPut, read_status, written_status}
-use Rattle.heesch_app.specs.Outputs.{IsOutput, IsBegunOutput, Writes, WritesPrefix}
+use Rattle.heesch_app.specs.Outputs.{IsOutput, IsAnswer, IsBegunOutput, Writes, WritesPrefix}
 use Rattle.heesch_app.specs.Tables.{table_status}
 use Rattle.heesch_app.proofs.Beginnings.{begins_itself}
 
@@ -82,21 +83,22 @@ keeps_itself : (held : Option (List ℕ)) → Keeps held held
 keeps_itself None = tt
 keeps_itself (Some xs) = refl
 
-whole_ends : (W : Status → List ℕ → Type 0) (B : List ℕ → Type 0) (old new : Option (List ℕ)) (status : Status) → IsWhole status → WritesOne (W status) old new → EndsAs W B old new status
+-- with such a status a run ends just where it wrote one whole output
+whole_ends : (W : Status → List ℕ → Type 0) (B : List ℕ → Type 0) (old new : Option (List ℕ)) (status : Status) → IsWhole status → (EndsAs W B old new status ↔ WritesOne (W status) old new)
 unfolding EndsAs
-whole_ends W B old new Done whole writes = writes
-whole_ends W B old new Invalid whole writes = writes
-whole_ends W B old new Usage whole writes = absurd whole
-whole_ends W B old new BadInput whole writes = writes
-whole_ends W B old new ReadFault whole writes = absurd whole
-whole_ends W B old new WriteFault whole writes = absurd whole
-whole_ends W B old new NoMemory whole writes = absurd whole
+whole_ends W B old new Done whole = ((λ ends. ends), λ writes. writes)
+whole_ends W B old new Invalid whole = ((λ ends. ends), λ writes. writes)
+whole_ends W B old new Usage whole = absurd whole
+whole_ends W B old new BadInput whole = ((λ ends. ends), λ writes. writes)
+whole_ends W B old new ReadFault whole = absurd whole
+whole_ends W B old new WriteFault whole = absurd whole
+whole_ends W B old new NoMemory whole = absurd whole
 
 put_ends : (W : Status → List ℕ → Type 0) (B : List ℕ → Type 0) (old new : Option (List ℕ)) (text : List ℕ) (status result : Status) (before now : ℕ) → IsWhole status → W status text → B text
     → IsPut text status result old new before now → EndsAs W B old new result
 unfolding EndsAs
 put_ends W B old new text status result before now whole is begun (inl (same, appends)) =
-    subst (λ s. EndsAs W B old new s) (sym same) (whole_ends W B old new status whole (text, is, appends))
+    subst (λ s. EndsAs W B old new s) (sym same) ((whole_ends W B old new status whole).1 (text, is, appends))
 put_ends W B old new text status result before now whole is begun (inr (failed, prefix, rose)) =
     subst (λ s. EndsAs W B old new s) (sym failed) (inr (text, begun, prefix))
 
@@ -185,15 +187,9 @@ put_write_fault S held old new before now (Err stops.NoMemory) result whole put 
 
 -- ---- what follows for the run
 
-writes_whole : (W : Status → List ℕ → Type 0) (B : List ℕ → Type 0) (old new : Option (List ℕ)) (status : Status) → IsWhole status → EndsAs W B old new status → WritesOne (W status) old new
-unfolding EndsAs
-writes_whole W B old new Done whole ends = ends
-writes_whole W B old new Invalid whole ends = ends
-writes_whole W B old new Usage whole ends = absurd whole
-writes_whole W B old new BadInput whole ends = ends
-writes_whole W B old new ReadFault whole ends = absurd whole
-writes_whole W B old new WriteFault whole ends = absurd whole
-writes_whole W B old new NoMemory whole ends = absurd whole
+-- what the words ask for is what this request does, where they ask for it
+pub asked_output : (words : List (List ℕ)) (request : Request) (left : Option (List ℕ)) (status : Status) (output : List ℕ) → Asks words request → IsAnswer words left status output → IsOutput request left status output
+asked_output words request left status output asks (other, asked, is) = subst (λ r. IsOutput r left status output) (one_request words other request asked asks) is
 
 -- a run that ends with such a status wrote what the words ask for
 pub run_writes : (words : List (List ℕ)) (request : Request) (left old new : Option (List ℕ)) (result status : Status) → Asks words request
@@ -201,7 +197,7 @@ pub run_writes : (words : List (List ℕ)) (request : Request) (left old new : O
 run_writes words request left old new result status asks ends whole same =
     let W = IsOutput request left in
     let B = IsBegunOutput request left in
-    let (output, is, appends) = writes_whole W B old new status whole (subst (λ s. EndsAs W B old new s) same ends) in
+    let (output, is, appends) = (whole_ends W B old new status whole).0 (subst (λ s. EndsAs W B old new s) same ends) in
     (output, (request, asks, is), appends)
 
 begins_prefix : (words : List (List ℕ)) (request : Request) (left old new : Option (List ℕ)) → Asks words request → BeginsOne (IsBegunOutput request left) old new → WritesPrefix words left old new

@@ -8,11 +8,10 @@ use Rattle.heesch_cert.specs.declared.limits.Limits.{Limits}
 use Rattle.heesch_grid.specs.declared.GridName.{GridName}
 use Rattle.heesch_words.specs.declared.requests.Request.TheVariants.{Outer as OuterRequest}
 use Rattle.heesch_words.specs.Requests.{Asks}
-use Rattle.heesch_words.proofs.Forms.{one_request}
-use Rattle.heesch_app.specs.declared.status.Status.{Status}
 use Rattle.heesch_app.specs.declared.status.Status.TheVariants.{Done, BadInput}
 use Rattle.heesch_app.specs.OuterNumbers.{WritesOuters}
-use Rattle.heesch_app.specs.Outputs.{IsOutput, IsAnswer}
+use Rattle.heesch_app.specs.Outputs.{IsOutput, Writes}
+use Rattle.heesch_app.proofs.Endings.{asked_output}
 
 outers_of : (grid : GridName) (subject : Subject) (limits : Limits) (workers : ℕ) (left : Option (List ℕ)) (text : List ℕ) (old new : Option (List ℕ))
     → IsOutput (OuterRequest grid subject limits workers) left Done text → Appends old new text → WritesOuters grid subject limits left old new
@@ -23,11 +22,7 @@ outers_of grid Given limits workers left text old new (input, all, inl (_, (shap
 outers_of grid Given limits workers left text old new (input, all, inr (bad, told)) appends = absurd (let no : Done ≡ BadInput = bad in cc)
 
 -- where the words ask for an outer text, what was written is one
-pub writes_outers : (words : List (List ℕ)) (left : Option (List ℕ)) (status : Status) (text : List ℕ) (old new : Option (List ℕ)) (grid : GridName) (subject : Subject) (limits : Limits) (workers : ℕ)
-    → status ≡ Done → IsAnswer words left status text → Appends old new text → Asks words (OuterRequest grid subject limits workers) → WritesOuters grid subject limits left old new
-writes_outers words left status text old new grid subject limits workers done (request, asked, output) appends asks =
-    let same : request ≡ OuterRequest grid subject limits workers = one_request words request _ asked asks in
-    let out : IsOutput (OuterRequest grid subject limits workers) left Done text =
-    subst (λ s. IsOutput (OuterRequest grid subject limits workers) left s text) done (subst (λ r. IsOutput r left status text) same output)
-    in
-    outers_of grid subject limits workers left text old new out appends
+pub writes_outers : (words : List (List ℕ)) (left old new : Option (List ℕ)) (grid : GridName) (subject : Subject) (limits : Limits) (workers : ℕ)
+    → Asks words (OuterRequest grid subject limits workers) → Writes words left Done old new → WritesOuters grid subject limits left old new
+writes_outers words left old new grid subject limits workers asks (text, is, appends) =
+    outers_of grid subject limits workers left text old new (asked_output words (OuterRequest grid subject limits workers) left Done text asks is) appends

@@ -2,7 +2,6 @@
 use Rattle.std.proofs.Common.{◌≡◌, ℕ, suc, ◌+◌, ◌≤◌, ◌<◌, false, List, [], ◌∷◌, ◌++◌, length, map, length-append, refl, sym, ap, ◌∙◌, subst, arith, inl, inr, append_assoc}
 use Rattle.std.specs.Prelude.{Option, Some, slice_get, All}
 use Rattle.std.specs.List.{AllByRecursion, AllZip}
-use Rattle.std.specs.Io.KnownBytes.{Appends}
 use Rattle.std.proofs.lemmas.List.{length-map}
 use Rattle.std.proofs.ByRecursion.{All-from_get_or}
 use Rattle.heesch_grid.specs.declared.Cell.{Cell}
@@ -19,7 +18,6 @@ use Rattle.heesch_line.specs.Forms.{IsLine}
 use Rattle.heesch_text.specs.declared.line.Line.TheVariants as lines
 use Rattle.heesch_words.specs.declared.requests.Request.TheVariants.{Classify as ClassifyRequest, Check as CheckRequest, Table as TableRequest}
 use Rattle.heesch_words.specs.Requests.{Asks}
-use Rattle.heesch_words.proofs.Forms.{one_request}
 use Rattle.heesch_words.proofs.Ranges.{asked_in_range}
 use Rattle.heesch_catalogue.specs.Catalogues.{AreReadable, IsCatalogue}
 use Rattle.heesch_check.specs.declared.answers.Checked.{Checked}
@@ -38,7 +36,8 @@ use Rattle.heesch_app.specs.Checks.{check_status}
 use Rattle.heesch_app.specs.Tables.{table_status}
 use Rattle.heesch_given.specs.Given.{AreGiven, IsCanonicalOf}
 use Rattle.heesch_stream.specs.Taking.{input_max}
-use Rattle.heesch_app.specs.Outputs.{IsOutput, IsAnswer, header_of, WritesValid}
+use Rattle.heesch_app.specs.Outputs.{IsOutput, IsAnswer, header_of, Writes, WritesValid}
+use Rattle.heesch_app.proofs.Endings.{asked_output}
 
 -- ---- the entries are good, each in its place
 
@@ -114,12 +113,10 @@ answer_valid words left text grid Given limits workers asks (input, all, inl (_,
 answer_valid words left text grid Given limits workers asks (input, all, inr (is, _)) = absurd cc
 
 -- where the words ask for a full catalogue, what was written is valid
-pub writes_valid : (words : List (List ℕ)) (left : Option (List ℕ)) (status : Status) (text : List ℕ) (old new : Option (List ℕ)) (grid : GridName) (subject : Subject) (workers : ℕ) (limits : Limits)
-    → status ≡ Done → IsAnswer words left status text → Appends old new text → Asks words (ClassifyRequest grid subject limits workers false) → WritesValid old new
-writes_valid words left status text old new grid subject workers limits done (request, asked, output) appends asks =
-    let same : request ≡ ClassifyRequest grid subject limits workers false = one_request words request _ asked asks in
-    let output_done : IsOutput (ClassifyRequest grid subject limits workers false) left Done text = subst (λ s. IsOutput (ClassifyRequest grid subject limits workers false) left s text) done (subst (λ r. IsOutput r left status text) same output) in
-    let valid = answer_valid words left text grid subject limits workers asks output_done in
+pub writes_valid : (words : List (List ℕ)) (left old new : Option (List ℕ)) (grid : GridName) (subject : Subject) (workers : ℕ) (limits : Limits)
+    → Asks words (ClassifyRequest grid subject limits workers false) → Writes words left Done old new → WritesValid old new
+writes_valid words left old new grid subject workers limits asks (text, is, appends) =
+    let valid = answer_valid words left text grid subject limits workers asks (asked_output words (ClassifyRequest grid subject limits workers false) left Done text asks is) in
     (text, valid.0, valid.1, appends)
 
 -- ---- what is valid passes
@@ -127,9 +124,7 @@ writes_valid words left status text old new grid subject workers limits done (re
 -- of a valid catalogue that is no longer than is read, `check` says nothing but that it is valid
 pub valid_is_done : (words : List (List ℕ)) (input : List ℕ) (status : Status) (text : List ℕ) (workers count : ℕ) → Asks words (CheckRequest workers) → length input ≤ 1099511627776 → IsValid input count
     → IsAnswer words (Some input) status text → status ≡ Done
-valid_is_done words input status text workers count asks short valid (request, asked, output) =
-    let same : request ≡ CheckRequest workers = one_request words request _ asked asks in
-    by_answer (subst (λ r. IsOutput r (Some input) status text) same output)
+valid_is_done words input status text workers count asks short valid is = by_answer (asked_output words (CheckRequest workers) (Some input) status text asks is)
   where
     by_answer : IsOutput (CheckRequest workers) (Some input) status text → status ≡ Done
     by_answer (read, all, (checked, is, status_is, text_is)) =
@@ -139,9 +134,7 @@ valid_is_done words input status text workers count asks short valid (request, a
 -- over an input that has a tally, `table` ends Done
 pub tallied_is_done : (words : List (List ℕ)) (input text : List ℕ) (status : Status) (output : List ℕ) → Asks words TableRequest → IsTallied (Some input) text
     → IsAnswer words (Some input) status output → status ≡ Done
-tallied_is_done words input text status output asks tallied (request, asked, out) =
-    let same : request ≡ TableRequest = one_request words request _ asked asks in
-    by_answer (subst (λ r. IsOutput r (Some input) status output) same out)
+tallied_is_done words input text status output asks tallied out = by_answer (asked_output words TableRequest (Some input) status output asks out)
   where
     by_told : (told : Tabulated) → IsTabulated (Some input) told → status ≡ table_status told → status ≡ Done
     by_told (told.Tally counts) is e = e
@@ -153,9 +146,7 @@ tallied_is_done words input text status output asks tallied (request, asked, out
 -- where `check` finds bad input, the input is longer than is read
 pub bad_is_long : (words : List (List ℕ)) (input : List ℕ) (status : Status) (output : List ℕ) (workers : ℕ) → Asks words (CheckRequest workers) → IsAnswer words (Some input) status output
     → status ≡ BadInput → 1099511627776 < length input
-bad_is_long words input status output workers asks (request, asked, out) bad =
-    let same : request ≡ CheckRequest workers = one_request words request _ asked asks in
-    by_answer (subst (λ r. IsOutput r (Some input) status output) same out)
+bad_is_long words input status output workers asks out bad = by_answer (asked_output words (CheckRequest workers) (Some input) status output asks out)
   where
     by_checked : (checked : Checked) → IsChecked input checked → check_status checked ≡ BadInput → 1099511627776 < length input
     by_checked (answers.Valid count) is e = absurd (let no : Done ≡ BadInput = e in cc)

@@ -8,6 +8,8 @@ use Rattle.heesch_exchange.specs.declared.stop.ExchangeStop.{ExchangeStop}
 use Rattle.heesch_exchange.specs.declared.stop.ExchangeStop.TheVariants.{Fault, NoMemory}
 use Rattle.heesch_grid.specs.Geometry.{Geometry}
 use Rattle.heesch_io.specs.Input.{IsAllOf}
+use Rattle.heesch_app.specs.declared.exchanges.Exchange.{Exchange}
+use Rattle.heesch_app.specs.declared.exchanges.Exchange.TheVariants.{Formula, Answer}
 use Rattle.heesch_app.specs.declared.status.Status.{Status}
 use Rattle.heesch_app.specs.declared.status.Status.TheVariants.{Done, BadInput}
 use Rattle.heesch_app.specs.Inputs.{bad_input_text}
@@ -23,6 +25,11 @@ abbrev pub IsModelAnswer : Version → Geometry → ℕ → ℕ → Status → L
 IsModelAnswer version g j size status output input =
     ((status ≡ Done) × IsAnswer version g j size input output)
     ⊎ ((status ≡ BadInput) × ((line : ℕ) × (number : ℕ) × HasAnswerFault version g j size input line number × (output ≡ bad_input_text line number)))
+
+-- what is answered to either of them
+abbrev pub IsExchangeAnswer : Exchange → Version → Geometry → ℕ → ℕ → Status → List ℕ → List ℕ → Type 0
+IsExchangeAnswer Formula version g j size status output input = IsFormulaAnswer version g j size status output input
+IsExchangeAnswer Answer version g j size status output input = IsModelAnswer version g j size status output input
 
 -- the line of a fault
 abbrev pub IsFaultTold : ExchangeStop → Status → List ℕ → Type 0

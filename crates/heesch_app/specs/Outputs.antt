@@ -21,6 +21,8 @@ use Rattle.heesch_tiling.specs.declared.found.Plain.{Plain}
 use Rattle.heesch_words.specs.declared.requests.Request.{Request}
 use Rattle.heesch_words.specs.declared.requests.Request.TheVariants.{List as ListRequest, Plain as PlainRequest, Classify as ClassifyRequest, Check as CheckRequest, Table as TableRequest, Sample as SampleRequest, Formula as FormulaRequest, Answer as AnswerRequest, Share as ShareRequest, Join as JoinRequest, Outer as OuterRequest}
 use Rattle.heesch_words.specs.Requests.{Asks}
+use Rattle.heesch_app.specs.declared.listing.ListForm.{ListForm}
+use Rattle.heesch_app.specs.declared.listing.ListForm.TheVariants.{Cells, Tilings}
 use Rattle.heesch_app.specs.declared.status.Status.{Status}
 use Rattle.heesch_app.specs.declared.status.Status.TheVariants.{Done, BadInput}
 use Rattle.heesch_catalogue.specs.Catalogues.{IsCatalogue, IsBegunCatalogue, IsCatalogueOfSize, IsBegunCatalogueOfSize}
@@ -53,6 +55,11 @@ IsListing g n output = (shapes : List (List Cell)) × IsFreeList g n shapes × (
 -- the output is the text of that list, each shape with its plain tiling
 abbrev pub IsPlainListing : Geometry → ℕ → List ℕ → Type 0
 IsPlainListing g n output = (shapes : List (List Cell)) × (tilings : List (Option Plain)) × IsFreeList g n shapes × ArePlain g shapes tilings × (output ≡ plain_list_text shapes tilings)
+
+-- the output is the text of that list, in this form
+abbrev pub IsListText : ListForm → Geometry → ℕ → List ℕ → Type 0
+IsListText Cells g n output = IsListing g n output
+IsListText Tilings g n output = IsPlainListing g n output
 
 -- the header of a request's catalogue
 abbrev pub header_of : GridName → Subject → Limits → Bool → Header

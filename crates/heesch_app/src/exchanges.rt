@@ -5,7 +5,7 @@ ghost use Rattle.heesch_grid.specs.Names.{geometry_of};
 ghost use Rattle.heesch_io.specs.Causes.{Rose};
 ghost use Rattle.heesch_app.specs.Inputs.{ConsumesSome};
 ghost use Rattle.heesch_app.specs.Outputs.{OfInput};
-ghost use Rattle.heesch_app.specs.Exchanges.{IsFormulaAnswer, IsModelAnswer, IsFaultTold};
+ghost use Rattle.heesch_app.specs.Exchanges.{IsExchangeAnswer, IsFaultTold};
 
 use crate::Status;
 use crate::bad_input::bad_input;
@@ -17,30 +17,19 @@ use heesch_grid::GridName;
 use heesch_io::{IoStop, Source};
 use std::alloc::Global;
 
-/// The clause text of a corona formula of the shape whose line the source's bytes are, or their first fault.
-pub fn formula_reply<R: Source>(
-    alloc: Global,
-    grid: GridName,
-    level: u32,
-    size: u32,
-    version: Version,
-    source: &mut R,
-) -> Result<Reply, IoStop>
-    requires level { (1 ≤ level) × (level ≤ 6) }
-    requires size { (1 ≤ size) × (size ≤ 60000000) }
-    ensures ok { IfOk result (λ r. OfInput (R.left source.old) (IsFormulaAnswer version (geometry_of grid) level size r.status r.text.items)) }
-    ensures ended { OnOk result (IsAtEnd (R.left source.new)) }
-    ensures consumed { ConsumesSome (R.left source.old) (R.left source.new) }
-    ensures failed { result ≡ Err IoStop.Failed → Rose (R.faults source.old) (R.faults source.new) }
-{
-    let input = read_all(alloc, source)?;
-    told(alloc, formula(alloc, grid, level, size, version, &input))
+/// What is asked of a source's bytes, which begin with the line of a shape.
+#[derive(Clone, Copy)]
+pub enum Exchange {
+    /// The clause text of a corona formula of the shape.
+    Formula,
+    /// What the model text behind the line says of that formula: coronas, or a clause that is false.
+    Answer,
 }
 
-/// What the model text in the source's bytes says of the formula of the shape before it: coronas, or a clause that is false;
-/// or the first fault of the bytes.
-pub fn model_reply<R: Source>(
+/// What is asked of the source's bytes, or their first fault.
+pub fn exchange_reply<R: Source>(
     alloc: Global,
+    asked: Exchange,
     grid: GridName,
     level: u32,
     size: u32,
@@ -49,13 +38,16 @@ pub fn model_reply<R: Source>(
 ) -> Result<Reply, IoStop>
     requires level { (1 ≤ level) × (level ≤ 6) }
     requires size { (1 ≤ size) × (size ≤ 60000000) }
-    ensures ok { IfOk result (λ r. OfInput (R.left source.old) (IsModelAnswer version (geometry_of grid) level size r.status r.text.items)) }
+    ensures ok { IfOk result (λ r. OfInput (R.left source.old) (IsExchangeAnswer asked version (geometry_of grid) level size r.status r.text.items)) }
     ensures ended { OnOk result (IsAtEnd (R.left source.new)) }
     ensures consumed { ConsumesSome (R.left source.old) (R.left source.new) }
     ensures failed { result ≡ Err IoStop.Failed → Rose (R.faults source.old) (R.faults source.new) }
 {
     let input = read_all(alloc, source)?;
-    told(alloc, answer(alloc, grid, level, size, version, &input))
+    match asked {
+        Exchange::Formula => told(alloc, formula(alloc, grid, level, size, version, &input)),
+        Exchange::Answer => told(alloc, answer(alloc, grid, level, size, version, &input)),
+    }
 }
 
 /// The text with the status Done, or the line of the fault.

@@ -1,9 +1,10 @@
-//! The text of a free list.
+//! The text of a free list, of its shapes alone or with their plain tilings.
 ghost use Rattle.std.specs.Prelude.{◌≡◌, ◌≤◌, IfOk};
 ghost use Rattle.heesch_grid.specs.Names.{geometry_of};
 ghost use Rattle.heesch_text.specs.Shapes.{list_text};
-ghost use Rattle.heesch_app.specs.Outputs.{IsListing};
+ghost use Rattle.heesch_app.specs.Outputs.{IsListText};
 
+use crate::tilings::{plain_text_of, tilings_of};
 use heesch_grid::{Grid, GridName};
 use heesch_io::NoMemory;
 use heesch_kite::on_grid;
@@ -14,37 +15,58 @@ use heesch_text::write_shape;
 use std::alloc::Global;
 use std::thread::Threads;
 
-/// The text of the free list of a grid and a size in cells, a line for each shape.
-pub fn listing<T: Threads + Sync, H: Gate + Sync>(
+/// What the text of a free list tells of each shape, on a line of its own.
+#[derive(Clone, Copy)]
+pub enum ListForm {
+    /// Its cells.
+    Cells,
+    /// Its cells and its plain tiling.
+    Tilings,
+}
+
+/// The text of the free list of a grid and a size in cells.
+pub fn free_list_text<T: Threads + Sync, H: Gate + Sync>(
     rt: &T,
     alloc: Global,
+    form: ListForm,
     grid: GridName,
     n: u32,
     workers: u32,
     gate: &H,
 ) -> Result<Vec<u8>, NoMemory>
-    requires size { (1 ≤ n) × (n ≤ 32) }
+    requires size { (1 ≤ n) × (n ≤ 31) }
     requires workers { (1 ≤ workers) × (workers ≤ 64) }
-    ensures { IfOk result (λ text. IsListing (geometry_of grid) n text.items) }
+    ensures { IfOk result (λ text. IsListText form (geometry_of grid) n text.items) }
 {
-    on_grid!(grid, listing_of::<_, T, H>(rt, alloc, n, workers, gate))
+    on_grid!(
+        grid,
+        free_list_text_of::<_, T, H>(rt, alloc, form, n, workers, gate)
+    )
 }
 
-fn listing_of<G: Grid + Send + Sync, T: Threads + Sync, H: Gate + Sync>(
+fn free_list_text_of<G: Grid + Send + Sync, T: Threads + Sync, H: Gate + Sync>(
     rt: &T,
     alloc: Global,
+    form: ListForm,
     n: u32,
     workers: u32,
     gate: &H,
 ) -> Result<Vec<u8>, NoMemory>
-    requires size { (1 ≤ n) × (n ≤ 32) }
+    requires size { (1 ≤ n) × (n ≤ 31) }
     requires workers { (1 ≤ workers) × (workers ≤ 64) }
-    ensures { IfOk result (λ text. IsListing G.geometry n text.items) }
+    ensures { IfOk result (λ text. IsListText form G.geometry n text.items) }
 {
     let shapes = all_shapes::<G, T, H>(rt, alloc, n, workers, gate)?;
-    text_of(alloc, &shapes)
+    match form {
+        ListForm::Cells => text_of(alloc, &shapes),
+        ListForm::Tilings => {
+            let tilings = tilings_of(rt, alloc, &shapes, workers, gate)?;
+            plain_text_of(alloc, &shapes, &tilings)
+        }
+    }
 }
 
+/// A line for each shape.
 fn text_of<G: Grid>(alloc: Global, shapes: &[Shape<G>]) -> Result<Vec<u8>, NoMemory>
     ensures { IfOk result (λ text. text.items ≡ list_text shapes.now) }
 {

@@ -21,13 +21,12 @@ ghost use Rattle.heesch_app.specs.Ranges.{IsInRange};
 use crate::Status;
 use crate::catalogues::write_asked_catalogue;
 use crate::checks::checked_reply;
-use crate::exchanges::{formula_reply, model_reply};
+use crate::exchanges::{Exchange, exchange_reply};
 use crate::joins::join_reply;
-use crate::listing::listing;
+use crate::listing::{ListForm, free_list_text};
 use crate::outers::write_outer_numbers;
 use crate::reply::{Reply, put_reply};
 use crate::tables::table_reply;
-use crate::tilings::plain_listing;
 use heesch_cert::{Header, Subject};
 use heesch_io::{IoStop, Sink, Source};
 use heesch_pool::Gate;
@@ -206,10 +205,10 @@ fn reply<T: Threads + Sync, R: Source, H: Gate + Sync>(
 {
     match request {
         Request::List { grid, n, workers } => {
-            Reply::done(listing(rt, alloc, grid, n, workers, gate))
+            Reply::done(free_list_text(rt, alloc, ListForm::Cells, grid, n, workers, gate))
         }
         Request::Plain { grid, n, workers } => {
-            Reply::done(plain_listing(rt, alloc, grid, n, workers, gate))
+            Reply::done(free_list_text(rt, alloc, ListForm::Tilings, grid, n, workers, gate))
         }
         Request::Check { workers } => checked_reply(rt, alloc, source, workers, gate),
         Request::Table => table_reply(alloc, source),
@@ -218,13 +217,13 @@ fn reply<T: Threads + Sync, R: Source, H: Gate + Sync>(
             level,
             size,
             version,
-        } => formula_reply(alloc, grid, level, size, version, source),
+        } => exchange_reply(alloc, Exchange::Formula, grid, level, size, version, source),
         Request::Answer {
             grid,
             level,
             size,
             version,
-        } => model_reply(alloc, grid, level, size, version, source),
+        } => exchange_reply(alloc, Exchange::Answer, grid, level, size, version, source),
         Request::Sample {
             grid,
             n,

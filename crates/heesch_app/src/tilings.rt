@@ -1,57 +1,17 @@
-//! The text of a free list with the plain tilings of its shapes.
+//! The plain tilings of shapes, and their text.
 ghost use Rattle.std.specs.Prelude.{◌≡◌, ◌≤◌, length, IfOk, IsTrue};
-ghost use Rattle.heesch_grid.specs.Names.{geometry_of};
 ghost use Rattle.heesch_listing.specs.Parts.{are_small};
 ghost use Rattle.heesch_app.specs.Plains.{plain_list_text};
-ghost use Rattle.heesch_app.specs.Outputs.{IsPlainListing};
 ghost use Rattle.heesch_app.specs.Tilings.{ArePlain};
 
 use crate::plains::write_plain;
-use heesch_grid::{Grid, GridName};
+use heesch_grid::Grid;
 use heesch_io::NoMemory;
-use heesch_kite::on_grid;
-use heesch_listing::all_shapes;
 use heesch_pool::{Answer, Gate, Job, run_all};
 use heesch_shape::Shape;
 use heesch_tiling::{Plain, plain};
 use std::alloc::Global;
 use std::thread::Threads;
-
-/// The text of the free list of a grid and a size in cells, a line for each shape with its plain
-/// tiling.
-pub fn plain_listing<T: Threads + Sync, H: Gate + Sync>(
-    rt: &T,
-    alloc: Global,
-    grid: GridName,
-    n: u32,
-    workers: u32,
-    gate: &H,
-) -> Result<Vec<u8>, NoMemory>
-    requires size { (1 ≤ n) × (n ≤ 31) }
-    requires workers { (1 ≤ workers) × (workers ≤ 64) }
-    ensures { IfOk result (λ text. IsPlainListing (geometry_of grid) n text.items) }
-{
-    on_grid!(
-        grid,
-        plain_listing_of::<_, T, H>(rt, alloc, n, workers, gate)
-    )
-}
-
-fn plain_listing_of<G: Grid + Send + Sync, T: Threads + Sync, H: Gate + Sync>(
-    rt: &T,
-    alloc: Global,
-    n: u32,
-    workers: u32,
-    gate: &H,
-) -> Result<Vec<u8>, NoMemory>
-    requires size { (1 ≤ n) × (n ≤ 31) }
-    requires workers { (1 ≤ workers) × (workers ≤ 64) }
-    ensures { IfOk result (λ text. IsPlainListing G.geometry n text.items) }
-{
-    let shapes = all_shapes::<G, T, H>(rt, alloc, n, workers, gate)?;
-    let tilings = tilings_of(rt, alloc, &shapes, workers, gate)?;
-    text_of(alloc, &shapes, &tilings)
-}
 
 /// The job whose item is the plain tiling of one of the shapes.
 #[derive(Clone, Copy)]
@@ -78,7 +38,7 @@ impl<'a, G: Grid> Answer<Option<Plain>> for PlainOf<'a, G> {
 }
 
 /// The plain tilings of the shapes, in their order.
-fn tilings_of<G: Grid + Send + Sync, T: Threads + Sync, H: Gate + Sync>(
+pub fn tilings_of<G: Grid + Send + Sync, T: Threads + Sync, H: Gate + Sync>(
     rt: &T,
     alloc: Global,
     shapes: &[Shape<G>],
@@ -97,7 +57,7 @@ fn tilings_of<G: Grid + Send + Sync, T: Threads + Sync, H: Gate + Sync>(
 }
 
 /// A line for each shape and its tiling.
-fn text_of<G: Grid>(
+pub fn plain_text_of<G: Grid>(
     alloc: Global,
     shapes: &[Shape<G>],
     tilings: &[Option<Plain>],

@@ -1,7 +1,7 @@
 use Rattle.std.proofs.Common.{◌≡◌, ◌++◌}
 use Rattle.heesch_app.specs.Plains.{plain_list_text}
 use Rattle.heesch_app.proofs.PlainLines.{lines_from}
-use Rattle.heesch_app.proofs.tilings.text_of.Given as goal
+use Rattle.heesch_app.proofs.tilings.plain_text_of.Given as goal
 
 -- the lines so far, and those of the shapes that are left
 abbrev pub invariant-loop-i : goal.invariant-loop-i

@@ -1,7 +1,7 @@
 use Rattle.std.proofs.Common.{◌≡◌, ◌++◌, get_or, ap, ◌∙◌}
 use Rattle.heesch_app.specs.Plains.{plain_line, plain_list_text}
 use Rattle.heesch_app.proofs.PlainLines.{lines_more, lines_end}
-use Rattle.heesch_app.proofs.tilings.text_of.Goals as goal
+use Rattle.heesch_app.proofs.tilings.plain_text_of.Goals as goal
 
 pub loop-i-preserved : goal.loop-i-preserved
 loop-i-preserved g c =
