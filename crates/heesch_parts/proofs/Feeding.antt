@@ -23,7 +23,7 @@ use Rattle.heesch_parts.specs.declared.stage.Stage.{Stage}
 use Rattle.heesch_parts.specs.PartLines.{IsPartLine, part_words, part_text, parts_text}
 use Rattle.heesch_parts.specs.Stages.{start, Step, Walk, end_fault}
 use Rattle.heesch_parts.specs.Shares.{items_behind}
-use Rattle.heesch_parts.specs.Faults.{IsLineFault, EndFault}
+use Rattle.heesch_parts.specs.Faults.{HasFault, IsFaultBehind, IsLineFault, EndFault}
 use Rattle.heesch_parts.specs.Joining.{AreBuilt, Gives, Settles, Holds, TakesLine, Kept, IsFed, GoesTo, IsFrontStop, StopsBefore, StopsWithin, AppendsUntil, IsWholeStop, IsStopBeyond, FeedsTo, Advances, HasRoom, LeavesRoom, ends_entry, new_header, shares_of, header_line, whole_lines}
 use Rattle.heesch_parts.specs.declared.join_stop.JoinStop.{JoinStop}
 use Rattle.heesch_parts.specs.declared.join_stop.JoinStop.TheVariants as stops
@@ -246,6 +246,21 @@ bytes_long before given kept f = ap length f.text ∙ length-append (parts_text 
 goes_on_as : (before more : List ℕ) (given : List Item) (kept : Kept) → (f : IsFed before given kept) → before ++ more ≡ parts_text f.ended ++ (kept.left ++ more)
 goes_on_as before more given kept f = ap (λ (x : List ℕ). x ++ more) f.text ∙ append_assoc (parts_text f.ended) kept.left more
 
+-- a fault behind the lines that ended
+fault_behind : (most : ℕ) (text rest before : List ℕ) (given : List Item) (kept : Kept) (number : ℕ) → (f : IsFed before given kept) → text ≡ parts_text f.ended ++ rest → length (parts_text f.ended) ≤ most
+    → IsFaultBehind most (parts_text f.ended) rest kept.stage number → HasFault most text (kept.lines + 1) number
+fault_behind most text rest before given kept number f split in_time fault = record {
+  front = f.ended;
+  rest = rest;
+  stage = kept.stage;
+  split = split;
+  forms = f.forms;
+  walk = f.walk;
+  in_time = in_time;
+  fault = fault;
+  line_is = ap (λ (n : ℕ). n + 1) f.count;
+}
+
 -- the line that ended
 line_fault : (before : List ℕ) (given : List Item) (kept : Kept) (number : ℕ) (e : JoinStop) → IsFed before given kept → IsLineFault kept.left kept.stage number → e ≡ stops.Fault (kept.lines + 1) number → IsFrontStop (before ++ 10 ∷ []) e
 line_fault before given kept number e f fault is = subst (IsFrontStop (before ++ 10 ∷ [])) (sym is) told
@@ -254,17 +269,8 @@ line_fault before given kept number e f fault is = subst (IsFrontStop (before ++
     told most rest few =
         let one = length-append before (10 ∷ []) in
         let long = bytes_long before given kept f in
-        record {
-          front = f.ended;
-          rest = kept.left ++ 10 ∷ rest;
-          stage = kept.stage;
-          split = append_assoc before (10 ∷ []) rest ∙ goes_on_as before (10 ∷ rest) given kept f;
-          forms = f.forms;
-          walk = f.walk;
-          in_time = omega (arith, few, one, long);
-          fault = inl (record { words = kept.left; back = rest; split = refl; one_line = f.one_line; in_time = omega (arith, few, one, long); fault = fault });
-          line_is = ap (λ (n : ℕ). n + 1) f.count;
-        }
+        fault_behind most ((before ++ 10 ∷ []) ++ rest) (kept.left ++ 10 ∷ rest) before given kept number f (append_assoc before (10 ∷ []) rest ∙ goes_on_as before (10 ∷ rest) given kept f) (omega (arith, few, one, long))
+        (inl (record { words = kept.left; back = rest; split = refl; one_line = f.one_line; in_time = omega (arith, few, one, long); fault = fault }))
 
 -- nothing was appended in it
 pub line_stops : (before : List ℕ) (given items : List Item) (kept : Kept) (number : ℕ) (e : JoinStop) → IsFed before given kept → IsLineFault kept.left kept.stage number → e ≡ stops.Fault (kept.lines + 1) number → FeedsTo (before ++ 10 ∷ []) given items items kept (Err e)
@@ -275,17 +281,7 @@ line_stops before given items kept number e f fault is =
 end_told : (before : List ℕ) (given : List Item) (kept : Kept) (number : ℕ) → IsFed before given kept → EndFault kept.left kept.stage number → IsWholeStop before (stops.Fault (kept.lines + 1) number)
 end_told before given kept number f fault most few =
     let long = bytes_long before given kept f in
-    record {
-      front = f.ended;
-      rest = kept.left;
-      stage = kept.stage;
-      split = f.text;
-      forms = f.forms;
-      walk = f.walk;
-      in_time = omega (arith, few, long);
-      fault = inr (inl (record { one_line = f.one_line; in_time = omega (arith, few, long); fault = fault }));
-      line_is = ap (λ (n : ℕ). n + 1) f.count;
-    }
+    fault_behind most before kept.left before given kept number f f.text (omega (arith, few, long)) (inr (inl (record { one_line = f.one_line; in_time = omega (arith, few, long); fault = fault })))
 
 amid_line : (left : List ℕ) (s : Stage) → (left ≡ [] → ⊥) → EndFault left s 6
 amid_line [] s some = absurd (some refl)
@@ -306,17 +302,8 @@ goes_beyond before given kept e f is = subst (IsStopBeyond before) (sym is) told
     told : IsStopBeyond before (stops.Fault (kept.lines + 1) 8)
     told byte rest =
         let long = bytes_long before given kept f in
-        record {
-          front = f.ended;
-          rest = kept.left ++ byte ∷ rest;
-          stage = kept.stage;
-          split = goes_on_as before (byte ∷ rest) given kept f;
-          forms = f.forms;
-          walk = f.walk;
-          in_time = omega (arith, long);
-          fault = inr (inr (record { line = kept.left; byte = byte; back = rest; split = refl; one_line = f.one_line; all_read = sym long; number_is = refl }));
-          line_is = ap (λ (n : ℕ). n + 1) f.count;
-        }
+        fault_behind (length before) (before ++ byte ∷ rest) (kept.left ++ byte ∷ rest) before given kept 8 f (goes_on_as before (byte ∷ rest) given kept f) (omega (arith, long))
+        (inr (inr (record { line = kept.left; byte = byte; back = rest; split = refl; one_line = f.one_line; all_read = sym long; number_is = refl })))
 
 -- ---- the entry at hand
 

@@ -1,6 +1,6 @@
 -- Share texts that are read from a source, piece by piece.
 use Rattle.std.proofs.Common.{◌≡◌, ℕ, ◌+◌, ◌<◌, ◌≤◌, List, [], ◌∷◌, ◌++◌, length, take, length-append, append-nil, sym, subst, ◌∙◌, arith, append_assoc}
-use Rattle.std.specs.Prelude.{Option, Some, None, Result, Ok, Err, IfOk, IfErr}
+use Rattle.std.specs.Prelude.{Option, Some, None, Result, Ok, Err, IfOk, IfErr, OnOk}
 use Rattle.std.specs.Io.KnownBytes.{Consumes, Keeps, IsAtEnd}
 use Rattle.std.proofs.lemmas.List.{length-take-le}
 use Rattle.heesch_reader.specs.declared.item.Item.{Item}
@@ -56,6 +56,17 @@ piece_stops most first before now count more room rest given after old new (join
     ((o.bytes ++ piece) ++ all.0, all.1, told o.bytes given o.fed most all.0 (omega (arith, few, o.count_is, read.1, length-append o.bytes piece)))
 piece_stops most first before now count more room rest given after old new join_stops.NoMemory o fits c few told = tt
 
+-- ---- what is read
+
+pub no_further : (first before now : Option (List ℕ)) (count more : ℕ) (room : List ℕ) (kept : Kept) (given : List Item) → Going first before count kept given → more ≤ length room → Consumes before now (take more room) → length room ≤ 4096 → ReadsNoFurther first now
+no_further first before now count more room kept given o fits c few = record {
+  bytes = o.bytes;
+  last = take more room;
+  consumed = consumes_both first before now o.bytes (take more room) o.consumed c;
+  one_piece = omega (arith, few, fits, length-take-le more room fits);
+  undecided = record { ended = o.fed.ended; left = kept.left; stage = kept.stage; text = o.fed.text; one_line = o.fed.one_line; forms = o.fed.forms; walk = o.fed.walk };
+}
+
 -- ---- the end
 
 -- the source gave no byte, so it is at its end
@@ -70,7 +81,7 @@ all_read first before now count more room kept given o none some c ended =
     all_given first now o.bytes (subst (Consumes first now) (append-nil o.bytes) all) end.1
 
 -- the source is at its end
-pub end_given : (result : Result (List Item) InputStop) (most : ℕ) (first before now : Option (List ℕ)) (count more : ℕ) (room : List ℕ) (kept : Kept) (given : List Item) → Going first before count kept given → count ≤ most
+end_given : (result : Result (List Item) InputStop) (most : ℕ) (first before now : Option (List ℕ)) (count more : ℕ) (room : List ℕ) (kept : Kept) (given : List Item) → Going first before count kept given → count ≤ most
     → more ≡ 0 → 0 < length room → Consumes before now (take more room) → (more ≡ 0 → 0 < length room → IsAtEnd now)
     → ((bytes : List ℕ) → IsFed bytes given kept → IfOk result (AreJoined bytes)) → IfOk result (GivesJoined most first)
 end_given (Ok all) most first before now count more room kept given o few none some c ended told =
@@ -82,7 +93,7 @@ whole_told most first bytes (stops.Fault line fault) all few h = (bytes, all, h 
 whole_told most first bytes stops.Failed all few h = tt
 whole_told most first bytes stops.NoMemory all few h = tt
 
-pub end_stopped : (result : Result (List Item) InputStop) (most : ℕ) (first before now : Option (List ℕ)) (count more : ℕ) (room : List ℕ) (kept : Kept) (given : List Item) → Going first before count kept given → count ≤ most
+end_stopped : (result : Result (List Item) InputStop) (most : ℕ) (first before now : Option (List ℕ)) (count more : ℕ) (room : List ℕ) (kept : Kept) (given : List Item) → Going first before count kept given → count ≤ most
     → more ≡ 0 → 0 < length room → Consumes before now (take more room) → (more ≡ 0 → 0 < length room → IsAtEnd now)
     → ((bytes : List ℕ) → IsFed bytes given kept → IfErr result (IsWholeInputStop bytes)) → IfErr result (GivesFault most first)
 end_stopped (Ok all) most first before now count more room kept given o few none some c ended told = tt
@@ -90,9 +101,32 @@ end_stopped (Err e) most first before now count more room kept given o few none 
     whole_told most first o.bytes e (all_read first before now count more room kept given o none some c ended) (omega (arith, few, o.count_is)) (told o.bytes o.fed)
 
 -- the end is no failure of the source
-pub end_not_failed : (result : Result (List Item) InputStop) (first before : Option (List ℕ)) (count : ℕ) (kept : Kept) (given : List Item) → Going first before count kept given → result ≡ Err stops.Failed
+end_not_failed : (result : Result (List Item) InputStop) (first before : Option (List ℕ)) (count : ℕ) (kept : Kept) (given : List Item) → Going first before count kept given → result ≡ Err stops.Failed
     → ((bytes : List ℕ) → IsFed bytes given kept → IfErr result (IsWholeInputStop bytes)) → ⊥
 end_not_failed result first before count kept given o is told = subst (λ r. IfErr r (IsWholeInputStop o.bytes)) is (told o.bytes o.fed)
+
+-- what the result of an ended source says of what it gave
+pub record AtEnd (result : Result (List Item) InputStop) (most : ℕ) (first now : Option (List ℕ)) : Type 0 where
+  pub ok : IfOk result (GivesJoined most first)
+  pub stop : IfErr result (GivesFault most first)
+  pub ended : OnOk result (IsAtEnd now)
+  pub no_further : ReadsNoFurther first now
+  pub not_failed : result ≡ Err stops.Failed → ⊥
+
+pub at_end : (result : Result (List Item) InputStop) (most : ℕ) (first before now : Option (List ℕ)) (count more : ℕ) (room : List ℕ) (kept : Kept) (given : List Item) → Going first before count kept given → count ≤ most
+    → more ≡ 0 → 0 < length room → length room ≤ 4096 → more ≤ length room → Consumes before now (take more room) → (more ≡ 0 → 0 < length room → IsAtEnd now)
+    → ((bytes : List ℕ) → IsFed bytes given kept → IfOk result (AreJoined bytes)) → ((bytes : List ℕ) → IsFed bytes given kept → IfErr result (IsWholeInputStop bytes)) → AtEnd result most first now
+at_end result most first before now count more room kept given o few none some page fits c ended joined stopped = record {
+  ok = end_given result most first before now count more room kept given o few none some c ended joined;
+  stop = end_stopped result most first before now count more room kept given o few none some c ended stopped;
+  ended = if_ok result;
+  no_further = no_further first before now count more room kept given o fits c page;
+  not_failed = λ failed. end_not_failed result first before count kept given o failed stopped;
+}
+  where
+    if_ok : (result : Result (List Item) InputStop) → OnOk result (IsAtEnd now)
+    if_ok (Ok items) = ended none some
+    if_ok (Err stop) = tt
 
 -- the source goes on behind the most that are read
 pub goes_beyond : (most : ℕ) (first before now : Option (List ℕ)) (count more : ℕ) (room : List ℕ) (kept : Kept) (given : List Item) (e : JoinStop) → Going first before count kept given → count ≡ most
@@ -108,17 +142,6 @@ goes_beyond most first before now count more room kept given (join_stops.Fault l
           (subst (λ (n : ℕ). HasFault n (o.bytes ++ b.0 ∷ all.0) line fault) many (told o.bytes given o.fed b.0 all.0)),
     )
 goes_beyond most first before now count more room kept given join_stops.NoMemory o read one few some c told = tt
-
--- ---- what is read
-
-pub no_further : (first before now : Option (List ℕ)) (count more : ℕ) (room : List ℕ) (kept : Kept) (given : List Item) → Going first before count kept given → more ≤ length room → Consumes before now (take more room) → length room ≤ 4096 → ReadsNoFurther first now
-no_further first before now count more room kept given o fits c few = record {
-  bytes = o.bytes;
-  last = take more room;
-  consumed = consumes_both first before now o.bytes (take more room) o.consumed c;
-  one_piece = omega (arith, few, fits, length-take-le more room fits);
-  undecided = record { ended = o.fed.ended; left = kept.left; stage = kept.stage; text = o.fed.text; one_line = o.fed.one_line; forms = o.fed.forms; walk = o.fed.walk };
-}
 
 -- ---- the answer of a joiner to the end
 
