@@ -36,15 +36,13 @@ module _ (g : Geometry) (header : Header) (i k : ℕ) (shapes : List (List Cell)
   begun_behind a b c first (inr (begun, is, prefix)) =
       inr (share_line i k ++ begun, (begun, is, refl), subst (λ (l : List ℕ). AppendsPrefix a c (share_line i k ++ l)) (append-nil begun) (appends_then_prefix a b c (share_line i k) begun [] first prefix))
 
-  -- the same of the shapes at the places of the share
-  pub share_begun : (places : Span) → places ≡ span_of (length shapes) i k → (a b c : Option (List ℕ)) → Appends a b (share_line i k)
-      → BeginsOne (IsBegunCatalogue g header (slice_range shapes places.from places.until)) b c → BeginsOne (IsBegunShare g header i k shapes) a c
-  share_begun places are a b c first begun =
-      begun_behind a b c first (subst (λ (p : Span). BeginsOne (IsBegunCatalogue g header (slice_range shapes p.from p.until)) b c) are begun)
-
-  -- the line and the catalogue of the shapes at these places make the share
-  pub share_written : (places : Span) → places ≡ span_of (length shapes) i k → (a b c : Option (List ℕ)) → Appends a b (share_line i k)
-      → WritesOne (IsCatalogue g header (slice_range shapes places.from places.until)) b c → WritesOne (IsShare g header i k shapes) a c
-  share_written places are a b c first written =
-      let (catalogue, is, next) = subst (λ (p : Span). WritesOne (IsCatalogue g header (slice_range shapes p.from p.until)) b c) are written in
-      (share_line i k ++ catalogue, (catalogue, is, refl), appends_both a b c (share_line i k) catalogue first next)
+  -- behind the line, the catalogue of the shapes at these places makes the share, and a beginning of it one of the share
+  pub share_behind : (places : Span) → places ≡ span_of (length shapes) i k → (a b c : Option (List ℕ)) → Appends a b (share_line i k)
+      → (WritesOne (IsCatalogue g header (slice_range shapes places.from places.until)) b c → WritesOne (IsShare g header i k shapes) a c)
+      × (BeginsOne (IsBegunCatalogue g header (slice_range shapes places.from places.until)) b c → BeginsOne (IsBegunShare g header i k shapes) a c)
+  share_behind places are a b c first = (written, λ begun. begun_behind a b c first (subst (λ (p : Span). BeginsOne (IsBegunCatalogue g header (slice_range shapes p.from p.until)) b c) are begun))
+    where
+      written : WritesOne (IsCatalogue g header (slice_range shapes places.from places.until)) b c → WritesOne (IsShare g header i k shapes) a c
+      written writes =
+          let (catalogue, is, next) = subst (λ (p : Span). WritesOne (IsCatalogue g header (slice_range shapes p.from p.until)) b c) are writes in
+          (share_line i k ++ catalogue, (catalogue, is, refl), appends_both a b c (share_line i k) catalogue first next)

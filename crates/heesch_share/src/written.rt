@@ -19,7 +19,7 @@ use heesch_listing::all_shapes;
 use heesch_parts::{Span, span};
 use heesch_pool::Gate;
 use heesch_shape::Shape;
-use itoa::Buffer;
+use heesch_text::fields::{append_byte, append_labelled};
 use std::alloc::Global;
 use std::thread::Threads;
 
@@ -140,10 +140,8 @@ fn line_of(alloc: Global, i: u32, k: u32) -> Result<Vec<u8>, NoMemory>
     ensures { IfOk result (λ text. text.items ≡ share_line i k) }
 {
     let mut text = Vec::new(alloc);
-    text.extend_from_slice(b"share ")?;
-    text.extend_from_slice(Buffer::new().format(i).as_bytes())?;
-    text.push(b' ')?;
-    text.extend_from_slice(Buffer::new().format(k).as_bytes())?;
-    text.push(b'\n')?;
+    append_labelled(b"share ", i, &mut text)?;
+    append_labelled(b" ", k, &mut text)?;
+    append_byte(b'\n', &mut text)?;
     Ok(text)
 }
