@@ -1,10 +1,11 @@
 use Rattle.std.proofs.Common.{◌≡◌, None, inl, inr, sym, subst, rules, arith}
 use Rattle.heesch_stream.specs.Taking.{TakeResult}
 use Rattle.heesch_tabulate.specs.Steps.{AreReady, CountsItems}
+use Rattle.heesch_tabulate.specs.Tabulating.{ReadsNoFurther}
 use Rattle.heesch_tabulate.proofs.Answering.{Stepped, items_ready, fault_told, more_counted, all_counted, input_told, going_no_further, at_end}
 use Rattle.heesch_tabulate.proofs.tabulation.tabulate.Given as given
 use Rattle.heesch_tabulate.proofs.tabulation.tabulate.Goals as goal
-use Rattle.heesch_tabulate.proofs.tabulation.tabulate.Goals.{After-as_slice, In_ok-line, In_default}
+use Rattle.heesch_tabulate.proofs.tabulation.tabulate.Goals.{After-take, After-as_slice, In_ok-line, In_default}
 
 -- a step of the stream
 stepped : (g : given.Over) (c : After-as_slice g) → Stepped (g.R.Source.left c.args.source.now) (g.R.Source.left c.take.new.source) c.take.new.self c.take.new.items c.in_ok-onward.onward c.loop-items.table
@@ -50,29 +51,27 @@ returns-in-Fault-clause-ok g c =
     let a = goal.at.returns-in-Fault-clause-ok g c in
     inr (input_told (stepped g a.After-as_slice) c.count.new.self c.in-Fault.line c.in-Fault.number c.in-Fault.is (counted_all g a.In_default (counted g a.In_ok-line)))
 
+-- what was read before the last piece decides nothing
+no_further : (g : given.Over) (c : After-take g) → ReadsNoFurther (g.R.Source.left c.args.source.now) (g.R.Source.left c.take.new.source)
+no_further g c = going_no_further (g.R.Source.left c.args.source.now) (g.R.Source.left c.loop-items.source) (g.R.Source.left c.take.new.source) c.loop-items.stream c.loop-items.table c.loop-items.invariant.0 c.take.ensures.consumed
+
 pub returns-in_err-onward-clause-no_further : goal.returns-in_err-onward-clause-no_further
-returns-in_err-onward-clause-no_further g c =
-    going_no_further (g.R.Source.left c.args.source.now) (g.R.Source.left c.loop-items.source) (g.R.Source.left c.take.new.source) c.loop-items.stream c.loop-items.table c.loop-items.invariant.0 c.take.ensures.consumed
+returns-in_err-onward-clause-no_further g c = no_further g (goal.at.returns-in_err-onward-clause-no_further g c).After-take
 
 pub returns-in_err-line-clause-no_further : goal.returns-in_err-line-clause-no_further
-returns-in_err-line-clause-no_further g c =
-    going_no_further (g.R.Source.left c.args.source.now) (g.R.Source.left c.loop-items.source) (g.R.Source.left c.take.new.source) c.loop-items.stream c.loop-items.table c.loop-items.invariant.0 c.take.ensures.consumed
+returns-in_err-line-clause-no_further g c = no_further g (goal.at.returns-in_err-line-clause-no_further g c).After-take
 
 pub returns-in-Some-clause-no_further : goal.returns-in-Some-clause-no_further
-returns-in-Some-clause-no_further g c =
-    going_no_further (g.R.Source.left c.args.source.now) (g.R.Source.left c.loop-items.source) (g.R.Source.left c.take.new.source) c.loop-items.stream c.loop-items.table c.loop-items.invariant.0 c.take.ensures.consumed
+returns-in-Some-clause-no_further g c = no_further g (goal.at.returns-in-Some-clause-no_further g c).After-take
 
 pub returns-in_err-text-in-End-clause-no_further : goal.returns-in_err-text-in-End-clause-no_further
-returns-in_err-text-in-End-clause-no_further g c =
-    going_no_further (g.R.Source.left c.args.source.now) (g.R.Source.left c.loop-items.source) (g.R.Source.left c.take.new.source) c.loop-items.stream c.loop-items.table c.loop-items.invariant.0 c.take.ensures.consumed
+returns-in_err-text-in-End-clause-no_further g c = no_further g (goal.at.returns-in_err-text-in-End-clause-no_further g c).After-take
 
 pub returns-in-End-clause-no_further : goal.returns-in-End-clause-no_further
-returns-in-End-clause-no_further g c =
-    going_no_further (g.R.Source.left c.args.source.now) (g.R.Source.left c.loop-items.source) (g.R.Source.left c.take.new.source) c.loop-items.stream c.loop-items.table c.loop-items.invariant.0 c.take.ensures.consumed
+returns-in-End-clause-no_further g c = no_further g (goal.at.returns-in-End-clause-no_further g c).After-take
 
 pub returns-in-Fault-clause-no_further : goal.returns-in-Fault-clause-no_further
-returns-in-Fault-clause-no_further g c =
-    going_no_further (g.R.Source.left c.args.source.now) (g.R.Source.left c.loop-items.source) (g.R.Source.left c.take.new.source) c.loop-items.stream c.loop-items.table c.loop-items.invariant.0 c.take.ensures.consumed
+returns-in-Fault-clause-no_further g c = no_further g (goal.at.returns-in-Fault-clause-no_further g c).After-take
 
 pub returns-in-End-clause-ended : goal.returns-in-End-clause-ended
 unfolding stepped

@@ -1,4 +1,3 @@
-use Rattle.std.proofs.Common.{◌≡◌, Some}
 use Rattle.heesch_grid.specs.declared.GridName.{GridName}
 use Rattle.heesch_grid.specs.Names.{geometry_of}
 use Rattle.heesch_tabulate.specs.declared.table.Table.{Table}
