@@ -6,7 +6,6 @@ use Rattle.std.proofs.lemmas.List.Sums.{sum_by_push}
 use Rattle.heesch_cert.specs.declared.verdict.Verdict.{Verdict}
 use Rattle.heesch_table.specs.declared.tilings.TilingCounts.{TilingCounts}
 use Rattle.heesch_table.specs.declared.undecided.UndecidedCounts.{UndecidedCounts}
-use Rattle.heesch_table.specs.Verdicts.{is_translation, is_halfturn, is_periodic, is_isohedral, is_levels, is_holes, is_turns, is_size}
 use Rattle.heesch_table.specs.Steps.{with_one, with_tiling, with_undecided, TilingsAreWithin, UndecidedAreWithin}
 
 more : {X : Type 0} (p : X → Bool) (xs : List X) (x : X) → with_one (p x) (count_by p xs) ≡ count_by p (xs ++ x ∷ [])
@@ -16,20 +15,10 @@ one_within : (b : Bool) (count n : ℕ) → count ≤ n → with_one b count ≤
 one_within b count n l = grind arith
 
 pub tilings_within : (v : Verdict) (t : TilingCounts) (n : ℕ) → TilingsAreWithin n t → TilingsAreWithin (n + 1) (with_tiling v t)
-tilings_within v t n w = record {
-  translation = one_within (is_translation v) t.translation n w.translation;
-  halfturn = one_within (is_halfturn v) t.halfturn n w.halfturn;
-  periodic = one_within (is_periodic v) t.periodic n w.periodic;
-  isohedral = one_within (is_isohedral v) t.isohedral n w.isohedral;
-}
+tilings_within v t n w = grind (arith, one_within)
 
 pub undecided_within : (v : Verdict) (u : UndecidedCounts) (n : ℕ) → UndecidedAreWithin n u → UndecidedAreWithin (n + 1) (with_undecided v u)
-undecided_within v u n w = record {
-  levels = one_within (is_levels v) u.levels n w.levels;
-  holes = one_within (is_holes v) u.holes n w.holes;
-  turns = one_within (is_turns v) u.turns n w.turns;
-  size = one_within (is_size v) u.size n w.size;
-}
+undecided_within v u n w = grind (arith, one_within)
 
 pub flag_within : (b : Bool) (count more n : ℕ) → more ≡ bool_byte b → count ≤ n → count + more ≤ n + 1
 flag_within true count more n e l = omega arith
