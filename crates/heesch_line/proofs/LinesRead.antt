@@ -1,5 +1,5 @@
 -- Lines: what is read is spelled so.
-use Rattle.std.proofs.Common.{◌≡◌, ℕ, Bool, true, false, eqb, List, [], ◌++◌, length, Some, refl, sym, ap, subst, ◌∙◌}
+use Rattle.std.proofs.Common.{◌≡◌, ℕ, Bool, true, false, eqb, List, [], ◌++◌, length, Option, Some, refl, sym, ap, subst, ◌∙◌}
 use Rattle.std.specs.Prelude.{codes, decimal, if◌then◌else◌}
 use Rattle.std.specs.List.{AllByRecursion}
 use Rattle.std.proofs.lemmas.Bool.{eqb-true}
@@ -8,7 +8,7 @@ use Rattle.heesch_grid.specs.declared.Cell.{Cell}
 use Rattle.heesch_grid.specs.declared.isometries.Iso.{Iso}
 use Rattle.heesch_grid.specs.Lattice.{Triple}
 use Rattle.heesch_grid.specs.Vectors.{IsWithin}
-use Rattle.heesch_lattice.specs.Reduction.{lattice}
+use Rattle.heesch_lattice.specs.Reduction.{lattice, IsSmallTriple}
 use Rattle.heesch_cert.specs.Sizes.{IsSubject}
 use Rattle.heesch_cert.specs.declared.verdict.Kind.{Kind}
 use Rattle.heesch_cert.specs.declared.verdict.Phase.{Phase}
@@ -21,12 +21,12 @@ use Rattle.heesch_text.specs.Names.{version_text, kind_text, phase_text, outcome
 use Rattle.heesch_text.specs.Lines.{verdict_text, words_of}
 use Rattle.heesch_text.specs.Naturals.{IsNatural}
 use Rattle.heesch_line.specs.Forms.{IsVerdict, IsLine, AreSome, IsPlace, IsLiteral}
-use Rattle.heesch_line.specs.Reading.{by_words, names, nothing, made, parted, both_at, literal_at, number_at, iso_at, lit_at, is_triple, three_numbers_at, triple_of, version_at, grid_at, kind_at, phase_at, outcome_at, bare_outcome_at, subject_at, limits_at, more_words_at, some_words_at, cells_at}
+use Rattle.heesch_line.specs.Reading.{◌>>=◌, by_words, names, nothing, made, parted, both_at, literal_at, number_at, iso_at, lit_at, is_triple, three_numbers_at, triple_of, version_at, grid_at, kind_at, phase_at, outcome_at, bare_outcome_at, subject_at, limits_at, more_words_at, some_words_at, cells_at}
 use Rattle.heesch_line.specs.LineReading.{header_at, shape_at, tiles_at, heesch_at, stop_at, verdict_at, verdict_line_at, end_at, lattice_at, tile_at, coronas_at, layer_at, open_at, wall_at, bare_at, triple_line_at, learn_at, cut_at, empty_at, search_line_at, cover_line_at, front_line_at, line_at}
 use Rattle.heesch_line.specs.LineReading.{verdict_rows, refuted_rows, search_rows, cover_rows, front_rows}
-use Rattle.heesch_line.proofs.Steps.{some_is, none_some, bind_some, given_some, Takes, ◌▸◌, literal_part, IsRead, is_read, ReadsBehind, by_words_read, named, made_read, parted_read, read_first, both_read}
+use Rattle.heesch_line.proofs.Steps.{some, some_is, none_some, bind_some, given_some, Takes, ◌▸◌, literal_part, IsRead, is_read, ReadsBehind, by_words_read, named, made_read, parted_read, read_first, both_read}
 use Rattle.heesch_line.proofs.Numbers.{number_read}
-use Rattle.heesch_line.proofs.FieldLaws.{iso_words, version_read, iso_read, three_numbers_read, triple_fits, grid_read, kind_read, phase_read, outcome_read, bare_outcome_read, subject_read, limits_read}
+use Rattle.heesch_line.proofs.FieldLaws.{numbers_text, AreNatural, iso_words, version_read, iso_read, three_numbers_read, triple_fits, grid_read, kind_read, phase_read, outcome_read, bare_outcome_read, subject_read, limits_read}
 use Rattle.heesch_line.proofs.WordLaws.{numbers_read, all_numbers_read, literals_read, places_read, cells_read}
 
 -- the kind of a tiling and its domain
@@ -140,17 +140,21 @@ bare_read : ReadsBehind words_of IsLine (codes "bare ", bare_at)
 unfolding bare_at
 bare_read = parted_read decimal IsNatural bare_text (λ _. Unit {0}) words_of IsLine (codes "bare ") number_at (codes " ") bare_outcome_at lines.Bare number_read bare_outcome_read (λ a b. refl) (λ a b fits _. fits)
 
+-- three numbers that are those of a triple, and what is made of it and of the bytes behind them
+triple_read : {X : Type 0} (make : Triple → List ℕ → Option X) (bytes : List ℕ) (x : X) → (three_numbers_at bytes >>= λ n. triple_of n.0.0 n.0.1 n.0.2 >>= λ triple. make triple n.1) ≡ some x
+    → (n : (ℕ × ℕ × ℕ) × List ℕ) × IsRead numbers_text AreNatural bytes n × IsSmallTriple (lattice n.0.0 n.0.1 n.0.2) × (make (lattice n.0.0 n.0.1 n.0.2) n.1 ≡ some x)
+triple_read make bytes x e =
+    let n = bind_some (three_numbers_at bytes) _ x e in
+    let t = bind_some (triple_of n.0.0.0 n.0.0.1 n.0.0.2) _ x n.2 in
+    let g = given_some (is_triple n.0.0.0 n.0.0.1 n.0.0.2) (lattice n.0.0.0 n.0.0.1 n.0.0.2) t.0 t.1 in
+    (n.0, three_numbers_read bytes n.0 n.1, triple_fits n.0.0.0 n.0.0.1 n.0.0.2 g.0, ap (λ (u : Triple). make u n.0.1) g.1 ∙ t.2)
+
 lattice_read : (all bytes : List ℕ) (x : Line × List ℕ) → Takes all (codes "lattice ") bytes → lattice_at bytes ≡ Some x → IsRead words_of IsLine all x
 unfolding lattice_at
 lattice_read all bytes x front e =
-    let n = bind_some (three_numbers_at bytes) _ x e in
-    let t = bind_some (triple_of n.0.0.0 n.0.0.1 n.0.0.2) _ x n.2 in
-    let triple = lattice n.0.0.0 n.0.0.1 n.0.0.2 in
-    let g = given_some (is_triple n.0.0.0 n.0.0.1 n.0.0.2) triple t.0 t.1 in
-    let made : Line × List ℕ = (lines.Lattice triple, n.0.1) in
-    let read = three_numbers_read bytes n.0 n.1 in
-    let same : made ≡ x = ap (λ (u : Triple). (lines.Lattice u, n.0.1)) g.1 ∙ some_is (lines.Lattice t.0, n.0.1) x t.2 in
-    is_read {made = made} words_of IsLine all same (front ▸ read.takes) (triple_fits n.0.0.0 n.0.0.1 n.0.0.2 g.0)
+    let (n, read, small, is) = triple_read (λ triple rest. some (lines.Lattice triple, rest)) bytes x e in
+    let made : Line × List ℕ = (lines.Lattice (lattice n.0.0 n.0.1 n.0.2), n.1) in
+    is_read {made = made} words_of IsLine all (some_is made x is) (front ▸ read.takes) small
 
 -- the word behind a triple
 abbrev refuted_text : Bool → List ℕ
@@ -162,16 +166,11 @@ refuted_read bytes x e = by_words_read refuted_text (λ _. Unit {0}) refuted_row
 triple_line_read : (all bytes : List ℕ) (x : Line × List ℕ) → Takes all (codes "triple ") bytes → triple_line_at bytes ≡ Some x → IsRead words_of IsLine all x
 unfolding triple_line_at
 triple_line_read all bytes x front e =
-    let n = bind_some (three_numbers_at bytes) _ x e in
-    let t = bind_some (triple_of n.0.0.0 n.0.0.1 n.0.0.2) _ x n.2 in
-    let triple = lattice n.0.0.0 n.0.0.1 n.0.0.2 in
-    let g = given_some (is_triple n.0.0.0 n.0.0.1 n.0.0.2) triple t.0 t.1 in
-    let r = bind_some (by_words refuted_rows nothing n.0.1) _ x t.2 in
-    let fr = refuted_read n.0.1 r.0 r.1 in
-    let made : Line × List ℕ = (lines.Triple triple r.0.0, r.0.1) in
-    let read = three_numbers_read bytes n.0 n.1 in
-    let same : made ≡ x = ap (λ (u : Triple). (lines.Triple u r.0.0, r.0.1)) g.1 ∙ some_is (lines.Triple t.0 r.0.0, r.0.1) x r.2 in
-    is_read {made = made} words_of IsLine all same (front ▸ read.takes ▸ fr.takes) (triple_fits n.0.0.0 n.0.0.1 n.0.0.2 g.0)
+    let (n, read, small, is) = triple_read (λ triple rest. by_words refuted_rows nothing rest >>= λ refuted. some (lines.Triple triple refuted.0, refuted.1)) bytes x e in
+    let r = bind_some (by_words refuted_rows nothing n.1) _ x is in
+    let fr = refuted_read n.1 r.0 r.1 in
+    let made : Line × List ℕ = (lines.Triple (lattice n.0.0 n.0.1 n.0.2) r.0.0, r.0.1) in
+    is_read {made = made} words_of IsLine all (some_is made x r.2) (front ▸ read.takes ▸ fr.takes) small
 
 learn_read : ReadsBehind words_of IsLine (codes "learn", learn_at)
 unfolding learn_at

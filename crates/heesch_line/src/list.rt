@@ -1,6 +1,5 @@
 //! The text of a list of shapes, read line by line.
-ghost use Rattle.std.specs.Prelude.{◌≡◌, ℕ, List, IfOk, IfErr};
-ghost use Rattle.heesch_line.specs.declared.list.ListStop.TheVariants as stops;
+ghost use Rattle.std.specs.Prelude.{ℕ, List, IfOk, IfErr};
 ghost use Rattle.heesch_line.specs.Lists.{IsListText, AreRead, Stops};
 ghost use Rattle.heesch_line.specs.Reading.{Gives, list_line_at};
 
@@ -27,14 +26,6 @@ pub enum ListStop {
     /// Memory was refused.
     #[error("out of memory")]
     NoMemory,
-}
-
-impl From<NoMemory> for ListStop {
-    ghost from_gives = { λ _ e. e ≡ stops.NoMemory };
-
-    fn from(_error: NoMemory) -> ListStop {
-        ListStop::NoMemory
-    }
 }
 
 /// The cells of the first line, and the bytes behind it.
@@ -106,7 +97,9 @@ pub fn read_list(alloc: Global, text: &[u8]) -> Result<Seq<Cells>, ListStop>
     ensures ok { IfOk result (λ shapes. IsListText text.now shapes) }
     ensures stop { IfErr result (λ stop. Stops text.now stop) }
 {
-    let ListLines { shapes, stop } = read_lines(alloc, text)?;
+    let Ok(ListLines { shapes, stop }) = read_lines(alloc, text) else {
+        return Err(ListStop::NoMemory);
+    };
     match stop {
         None => Ok(shapes),
         Some(stop) => Err(stop),
