@@ -18,7 +18,7 @@ use std::thread::Threads;
 const TOO_LONG: u32 = 8;
 
 /// Whether the source's bytes are a valid catalogue, else its first invalid part, or that they are too many.
-#[tactic(auto, using(crate::proofs::Consumed::check_consumes))]
+#[tactic(auto, using(crate::proofs::Consumed::further_consumes))]
 pub fn checked_reply<T: Threads + Sync, R: Source, H: Gate + Sync>(
     rt: &T,
     alloc: Global,

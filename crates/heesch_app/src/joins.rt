@@ -15,7 +15,7 @@ use heesch_stream::INPUT_MAX;
 use std::alloc::Global;
 
 /// The catalogue text that the share texts are joined to which the source has left, or their first fault.
-#[tactic(auto, using(crate::proofs::Consumed::join_consumes))]
+#[tactic(auto, using(crate::proofs::Consumed::further_consumes))]
 pub fn join_reply<R: Source>(alloc: Global, source: &mut R) -> Result<Reply, IoStop>
     ensures ok { IfOk result (λ r. OfInput (R.left source.old) (IsJoinAnswer r.status r.text.items)) }
     ensures ended { IfOk result (λ r. r.status ≡ Status.Done → IsAtEnd (R.left source.new)) }

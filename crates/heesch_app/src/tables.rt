@@ -12,7 +12,7 @@ use heesch_tabulate::{Tabulated, tabulate};
 use std::alloc::Global;
 
 /// The tally of the catalogue that the source's bytes are, or their first fault.
-#[tactic(auto, using(crate::proofs::Consumed::tabulate_consumes))]
+#[tactic(auto, using(crate::proofs::Consumed::further_consumes))]
 pub fn table_reply<R: Source>(alloc: Global, source: &mut R) -> Result<Reply, IoStop>
     ensures ok { IfOk result (λ r. IsTableAnswer (R.left source.old) r.status r.text.items) }
     ensures consumed { ConsumesSome (R.left source.old) (R.left source.new) }

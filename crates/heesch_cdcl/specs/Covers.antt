@@ -1,6 +1,6 @@
 -- The clauses by which decisions are taken.
 use Rattle.std.specs.Prelude.{◌≡◌, ℕ, ◌+◌, ◌≤◌, List, length, All}
-use Rattle.heesch_cnf.specs.Flat.{AreEnds}
+use Rattle.heesch_io.specs.Pieces.{AreEnds}
 use Rattle.heesch_cnf.specs.Lines.{IsNumber}
 use Rattle.heesch_trail.specs.State.{State}
 

@@ -18,7 +18,8 @@ use Rattle.heesch_check.specs.declared.answers.Checked.{Checked}
 use Rattle.heesch_check.specs.declared.reading.Reading.{Reading}
 use Rattle.heesch_check.specs.declared.reading.Reading.TheVariants as readings
 use Rattle.heesch_check.specs.Judging.{AreAllGood, ArePlaced, IsFit, AreJudged, JudgesAll}
-use Rattle.heesch_check.specs.Reading.{IsAnswerOf, IsReading, Reads, Gathers, LacksItems, StopsGathering, StopsInTime, MayGather, LackRound, JudgesRound, IsPending, BeginWith, ReadsNoFurther}
+use Rattle.heesch_io.specs.Input.{ReadsNoFurther}
+use Rattle.heesch_check.specs.Reading.{IsAnswerOf, IsReading, Reads, Gathers, LacksItems, StopsGathering, StopsInTime, MayGather, LackRound, JudgesRound, IsPending, BeginWith, DecideNothing}
 use Rattle.heesch_check.proofs.Leading.{IsBounded}
 use Rattle.heesch_check.proofs.Batches.{batch_settled, stop_settled, stop_decided}
 use Rattle.heesch_check.proofs.Readings.{Answers, all_right, as_reading, reading_answers, batch_fits}
@@ -280,7 +281,7 @@ start_some header batch b = let many = ap length b.1 in omega (arith, many)
 -- ---- what is read of the source
 
 -- what was read before one more piece decides nothing
-pub reads_no_further : (first before now : Option (List ℕ)) (all : List Item) (s : Streamed) → HasRead first before all s → (all ≡ []) ⊎ LackRound all → TakesOnePiece before now → ReadsNoFurther first now
+pub reads_no_further : (first before now : Option (List ℕ)) (all : List Item) (s : Streamed) → HasRead first before all s → (all ≡ []) ⊎ LackRound all → TakesOnePiece before now → ReadsNoFurther DecideNothing first now
 reads_no_further first before now all s h judged piece = record {
   bytes = h.bytes;
   last = piece.0;
@@ -289,7 +290,7 @@ reads_no_further first before now all s h judged piece = record {
   undecided = record { all = all; begins = h.begins; judged = judged };
 }
 
-lacking : (first now : Option (List ℕ)) (found front : List Item) (enough : ℕ) → (l : LacksItems first now found front enough) → LackRound (found ++ (front ++ l.more)) → ReadsNoFurther first now
+lacking : (first now : Option (List ℕ)) (found front : List Item) (enough : ℕ) → (l : LacksItems first now found front enough) → LackRound (found ++ (front ++ l.more)) → ReadsNoFurther DecideNothing first now
 lacking first now found front enough l lack = record {
   bytes = l.bytes;
   last = l.last;
@@ -303,9 +304,9 @@ pub begin_on : (header : Header) (front after more : List Item) → after ≡ fr
 begin_on header front after more is b = (b.0 ++ more, is ∙ ap (λ (x : List Item). x ++ more) b.1)
 
 -- of the first round, with the header
-pub start_no_further : (first before now : Option (List ℕ)) (header : Header) (front : List Item) → header.brief ≡ false → BeginWith header front → StopsGathering first before now [] front 65 → ReadsNoFurther first before → ReadsNoFurther first now
+pub start_no_further : (first before now : Option (List ℕ)) (header : Header) (front : List Item) → header.brief ≡ false → BeginWith header front → StopsGathering first before now [] front 65 → ReadsNoFurther DecideNothing first before → ReadsNoFurther DecideNothing first now
 start_no_further first before now header front full b stops none = elim stops [
-  | inl same ↦ subst (ReadsNoFurther first) (sym same) none
+  | inl same ↦ subst (ReadsNoFurther DecideNothing first) (sym same) none
   | inr l ↦
       let all : front ++ l.more ≡ items.Header header ∷ (b.0 ++ l.more) = ap (λ (x : List Item). x ++ l.more) b.1 in
       let few : length (items.Header header ∷ (b.0 ++ l.more)) < 65 = subst (λ (x : List Item). length x < 65) all l.few in
@@ -322,9 +323,9 @@ start_no_further first before now header front full b stops none = elim stops [
 ]
 
 -- of a round behind items that were judged
-pub pending_no_further : (first before now : Option (List ℕ)) (header : Header) (round : List Item) (s : Streamed) (n enough : ℕ) (reading : Reading) → header.brief ≡ false → enough ≤ 256 → (p : IsPending header first before round s n reading) → StopsInTime before now s round reading enough → ReadsNoFurther first before → ReadsNoFurther first now
+pub pending_no_further : (first before now : Option (List ℕ)) (header : Header) (round : List Item) (s : Streamed) (n enough : ℕ) (reading : Reading) → header.brief ≡ false → enough ≤ 256 → (p : IsPending header first before round s n reading) → StopsInTime before now s round reading enough → ReadsNoFurther DecideNothing first before → ReadsNoFurther DecideNothing first now
 pending_no_further first before now header round s n enough reading full small p stops none = elim (stops.stops first p.found p.reads) [
-  | inl same ↦ subst (ReadsNoFurther first) (sym same) none
+  | inl same ↦ subst (ReadsNoFurther DecideNothing first) (sym same) none
   | inr l ↦
       let few = l.few in
       lacking first now p.found round enough l (record {

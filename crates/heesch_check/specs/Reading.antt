@@ -14,7 +14,8 @@ use Rattle.heesch_reader.specs.declared.progress.AtHand.{AtHand}
 use Rattle.heesch_reader.specs.declared.progress.AtHand.TheVariants as endings
 use Rattle.heesch_reader.specs.Endings.{ending_of}
 use Rattle.heesch_io.specs.Input.{IsAllOf}
-use Rattle.heesch_stream.specs.Taking.{Streamed, Begins, HasRead, IsCatalogue, HasFault, HasTooMany, piece_max}
+use Rattle.heesch_io.specs.Input.{piece_max}
+use Rattle.heesch_stream.specs.Taking.{Streamed, Begins, HasRead, IsCatalogue, HasFault, HasTooMany}
 use Rattle.heesch_check.specs.declared.answers.Checked.{Checked}
 use Rattle.heesch_check.specs.declared.answers.Checked.TheVariants as answers
 use Rattle.heesch_io.specs.declared.fault.IoStop.{IoStop}
@@ -167,11 +168,3 @@ pub record DecideNothing (bytes : List ℕ) : Type 0 where
   pub all : List Item
   pub begins : Begins bytes all
   pub judged : (all ≡ []) ⊎ LackRound all
-
--- no piece is read beyond the round that decides: what was read before the last piece decides nothing that is judged
-pub record ReadsNoFurther (first now : Option (List ℕ)) : Type 0 where
-  pub bytes : List ℕ
-  pub last : List ℕ
-  pub consumed : Consumes first now (bytes ++ last)
-  pub one_piece : length last ≤ piece_max
-  pub undecided : DecideNothing bytes

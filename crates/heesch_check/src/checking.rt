@@ -5,7 +5,7 @@ ghost use Rattle.heesch_cert.specs.Limits.{AreLimits};
 ghost use Rattle.heesch_grid.specs.Names.{geometry_of};
 ghost use Rattle.heesch_io.specs.Causes.{Rose};
 ghost use Rattle.heesch_cert.specs.Sizes.{IsSubject};
-ghost use Rattle.heesch_io.specs.Input.{IsAllOf};
+ghost use Rattle.heesch_io.specs.Input.{IsAllOf, ReadsNoFurther};
 ghost use Rattle.heesch_check.specs.Answers.{IsChecked};
 ghost use Rattle.heesch_check.specs.Judging.{HasShapes};
 ghost use Rattle.heesch_check.specs.Reading.{
@@ -15,7 +15,7 @@ ghost use Rattle.heesch_check.specs.Reading.{
   BeginWith,
   IsOpened,
   IsAnswered,
-  ReadsNoFurther,
+  DecideNothing,
 };
 
 use crate::ahead::{FIRST, round_from, round_size};
@@ -62,7 +62,7 @@ pub fn check<T: Threads + Sync, R: Source, H: Gate + Sync>(
 ) -> Result<Checked, IoStop>
     requires { (1 ≤ workers) × (workers ≤ 64) }
     ensures ok { IfOk result (λ c. (input : List ℕ) × IsAllOf (R.left source.old) input × IsChecked input c) }
-    ensures no_further { ReadsNoFurther (R.left source.old) (R.left source.new) }
+    ensures no_further { ReadsNoFurther DecideNothing (R.left source.old) (R.left source.new) }
     ensures failed { result ≡ Err IoStop.Failed → Rose (R.faults source.old) (R.faults source.new) }
     ensures later { R.faults source.old ≤ R.faults source.new }
 {
@@ -135,7 +135,7 @@ fn check_named<T: Threads + Sync, R: Source, H: Gate + Sync>(
     requires opened { IsOpened (R.left source.old) opening.header opening.items opening.stream opening.reading }
     requires workers { (1 ≤ workers) × (workers ≤ 64) }
     ensures ok { (first : Option (List ℕ)) → IsReading first (R.left source.old) opening.items opening.stream opening.reading → IsAnswered first result }
-    ensures no_further { (first : Option (List ℕ)) → IsReading first (R.left source.old) opening.items opening.stream opening.reading → ReadsNoFurther first (R.left source.old) → ReadsNoFurther first (R.left source.new) }
+    ensures no_further { (first : Option (List ℕ)) → IsReading first (R.left source.old) opening.items opening.stream opening.reading → ReadsNoFurther DecideNothing first (R.left source.old) → ReadsNoFurther DecideNothing first (R.left source.new) }
     ensures failed { result ≡ Err IoStop.Failed → Rose (R.faults source.old) (R.faults source.new) }
     ensures later { R.faults source.old ≤ R.faults source.new }
 {
@@ -158,7 +158,7 @@ fn check_under<G: Grid + Send + Sync, T: Threads + Sync, R: Source, H: Gate + Sy
     requires opened { IsOpened (R.left source.old) opening.header opening.items opening.stream opening.reading }
     requires workers { (1 ≤ workers) × (workers ≤ 64) }
     ensures ok { (first : Option (List ℕ)) → IsReading first (R.left source.old) opening.items opening.stream opening.reading → IsAnswered first result }
-    ensures no_further { (first : Option (List ℕ)) → IsReading first (R.left source.old) opening.items opening.stream opening.reading → ReadsNoFurther first (R.left source.old) → ReadsNoFurther first (R.left source.new) }
+    ensures no_further { (first : Option (List ℕ)) → IsReading first (R.left source.old) opening.items opening.stream opening.reading → ReadsNoFurther DecideNothing first (R.left source.old) → ReadsNoFurther DecideNothing first (R.left source.new) }
     ensures failed { result ≡ Err IoStop.Failed → Rose (R.faults source.old) (R.faults source.new) }
     ensures later { R.faults source.old ≤ R.faults source.new }
 {
@@ -242,7 +242,7 @@ fn check_behind<G: Grid + Send + Sync, T: Threads + Sync, R: Source, H: Gate + S
     requires workers { (1 ≤ workers) × (workers ≤ 64) }
     requires underway { IsUnderway (R.left source.old) items stream.old reading }
     ensures ok { (first : Option (List ℕ)) → IsReading first (R.left source.old) items stream.old reading → IsAnswered first result }
-    ensures no_further { (first : Option (List ℕ)) → IsReading first (R.left source.old) items stream.old reading → ReadsNoFurther first (R.left source.old) → ReadsNoFurther first (R.left source.new) }
+    ensures no_further { (first : Option (List ℕ)) → IsReading first (R.left source.old) items stream.old reading → ReadsNoFurther DecideNothing first (R.left source.old) → ReadsNoFurther DecideNothing first (R.left source.new) }
     ensures failed { result ≡ Err IoStop.Failed → Rose (R.faults source.old) (R.faults source.new) }
     ensures later { R.faults source.old ≤ R.faults source.new }
 {

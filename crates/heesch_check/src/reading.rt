@@ -2,7 +2,8 @@
 ghost use Rattle.std.specs.Prelude.{◌≡◌, ◌≢◌, ◌≤◌, ◌++◌, ℕ, List, [], Option, Err, IfOk};
 ghost use Rattle.heesch_io.specs.Causes.{Rose};
 ghost use Rattle.heesch_reader.specs.declared.item.Item.{Item as ItemOf};
-ghost use Rattle.heesch_check.specs.Reading.{Reads, Gathers, FirstReads, MayRead, MayGather, IsReading, ReadsNoFurther, StopsGathering};
+ghost use Rattle.heesch_io.specs.Input.{ReadsNoFurther};
+ghost use Rattle.heesch_check.specs.Reading.{Reads, Gathers, FirstReads, MayRead, MayGather, IsReading, DecideNothing, StopsGathering};
 ghost use Rattle.heesch_stream.specs.Taking.{HasRead, TakesOnePiece};
 
 use heesch_io::{IoStop, Seq, Source};
@@ -82,7 +83,7 @@ pub(crate) fn read_first<R: Source>(
     requires may { MayRead (R.left source.old) stream.old }
     ensures ok { IfOk result (FirstReads (R.left source.old) (R.left source.new) stream.old stream.new items.new) }
     ensures some { IfOk result (λ reading. reading ≡ Reading.More → items.new ≢ []) }
-    ensures no_further { (first : Option (List ℕ)) → HasRead first (R.left source.old) [] stream.old → ReadsNoFurther first (R.left source.new) }
+    ensures no_further { (first : Option (List ℕ)) → HasRead first (R.left source.old) [] stream.old → ReadsNoFurther DecideNothing first (R.left source.new) }
     ensures failed { result ≡ Err IoStop.Failed → Rose (R.faults source.old) (R.faults source.new) }
     ensures later { R.faults source.old ≤ R.faults source.new }
 {

@@ -1,7 +1,7 @@
 //! A formula in one array.
 ghost use Rattle.std.specs.Prelude.{◌≡◌, ◌<◌, ◌≤◌, ◌^◌, [], ◌∷◌, ◌++◌, All, length, take, IfOk, OnOk, OnErr, slice_index_or};
 ghost use Rattle.heesch_cnf.specs.Clauses.{IsClause, AreClauses};
-ghost use Rattle.heesch_cnf.specs.Flat.{AreEnds, start_at};
+ghost use Rattle.heesch_io.specs.Pieces.{AreEnds, start_at};
 
 use crate::{Formula, Lit, PackedLit};
 use heesch_io::{NoMemory, Seq};
@@ -18,7 +18,8 @@ pub struct FlatFormula {
 }
 
 impl Model for FlatFormula {
-    ghost use Rattle.heesch_cnf.specs.Flat.{Clauses, pieces, IsFlat};
+    ghost use Rattle.heesch_io.specs.Pieces.{pieces};
+    ghost use Rattle.heesch_cnf.specs.Flat.{Clauses, IsFlat};
 
     ghost Value = { Clauses };
 

@@ -6,11 +6,11 @@ use Rattle.std.proofs.lemmas.List.{length-take-le, append-nil}
 use Rattle.heesch_grid.specs.declared.Cell.{Cell}
 use Rattle.heesch_grid.specs.Geometry.{Geometry}
 use Rattle.heesch_line.specs.Scanning.{Scanned}
-use Rattle.heesch_io.specs.Input.{IsAllOf}
 use Rattle.heesch_io.proofs.KnownBytes.{all_given, consumes_both, front_given, front_read, one_byte}
 use Rattle.heesch_given.specs.declared.stop.GivenStop.{GivenStop}
 use Rattle.heesch_given.specs.declared.stop.GivenStop.TheVariants as stops
-use Rattle.heesch_given.specs.Given.{AreGiven, HasFault, GivesShapes, GivesFault, ReadsNoFurther}
+use Rattle.heesch_io.specs.Input.{IsAllOf, ReadsNoFurther}
+use Rattle.heesch_given.specs.Given.{AreGiven, HasFault, GivesShapes, GivesFault, DecideNothing}
 use Rattle.heesch_given.specs.Steps.{IsRead, IsFrontStop, IsWholeStop, IsStopBeyond}
 
 -- bytes were read since the source had `first` left, so many, and they decide nothing
@@ -109,7 +109,7 @@ beyond_not_failed g first before count old s e o is told = subst (IsStopBeyond g
 
 -- ---- what is read
 
-pub no_further : (g : Geometry) (first before now : Option (List ℕ)) (count more : ℕ) (room : List ℕ) (old : List (List Cell)) (s : Scanned) → Going g first before count old s → more ≤ length room → Consumes before now (take more room) → length room ≤ 4096 → ReadsNoFurther g first now
+pub no_further : (g : Geometry) (first before now : Option (List ℕ)) (count more : ℕ) (room : List ℕ) (old : List (List Cell)) (s : Scanned) → Going g first before count old s → more ≤ length room → Consumes before now (take more room) → length room ≤ 4096 → ReadsNoFurther (DecideNothing g) first now
 no_further g first before now count more room old s o fits c few = record {
   bytes = o.bytes;
   last = take more room;

@@ -102,14 +102,6 @@ pub record DecideNothing (g : Geometry) (bytes : List ℕ) : Type 0 where
   pub few : length given ≤ 10000
   pub full : length given ≡ 10000 → line ≡ []
 
--- no piece is read beyond the one that decides: what was read before it decides nothing
-pub record ReadsNoFurther (g : Geometry) (first now : Option (List ℕ)) : Type 0 where
-  pub bytes : List ℕ
-  pub last : List ℕ
-  pub consumed : Consumes first now (bytes ++ last)
-  pub one_piece : length last ≤ 4096
-  pub undecided : DecideNothing g bytes
-
 -- ---- statements
 
 -- no text is both a list of shapes and at fault

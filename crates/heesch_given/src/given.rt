@@ -2,7 +2,8 @@
 ghost use Rattle.std.specs.Prelude.{◌≡◌, ◌≤◌, Err, IfOk, IfErr, OnOk};
 ghost use Rattle.std.specs.Io.KnownBytes.{IsAtEnd};
 ghost use Rattle.heesch_io.specs.Causes.{Rose};
-ghost use Rattle.heesch_given.specs.Given.{GivesShapes, GivesFault, ReadsNoFurther};
+ghost use Rattle.heesch_io.specs.Input.{ReadsNoFurther};
+ghost use Rattle.heesch_given.specs.Given.{GivesShapes, GivesFault, DecideNothing};
 
 use crate::lines::GivenLines;
 use crate::stop::GivenStop;
@@ -28,7 +29,7 @@ pub fn shapes_given<G: Grid, R: Source, const MOST: u64>(
     ensures ok { IfOk result (λ shapes. GivesShapes MOST G.geometry (R.left source.old) shapes.items) }
     ensures stop { IfErr result (GivesFault MOST G.geometry (R.left source.old)) }
     ensures ended { OnOk result (IsAtEnd (R.left source.new)) }
-    ensures no_further { ReadsNoFurther G.geometry (R.left source.old) (R.left source.new) }
+    ensures no_further { ReadsNoFurther (DecideNothing G.geometry) (R.left source.old) (R.left source.new) }
     ensures failed { result ≡ Err GivenStop.Failed → Rose (R.faults source.old) (R.faults source.new) }
     ensures later { R.faults source.old ≤ R.faults source.new }
 {

@@ -1,3 +1,2 @@
-mod FlatLemmas
 pub mod NumberFacts
 mod EntryFacts

@@ -1,6 +1,6 @@
 //! Sets of cells in the order in which they were added.
 ghost use Rattle.std.specs.Prelude.{◌≡◌, ◌<◌, ◌≤◌, [], ◌∷◌, ◌++◌, length, OnOk, OnErr, slice_index_or};
-ghost use Rattle.heesch_index.specs.Flat.{AreEnds, start_at};
+ghost use Rattle.heesch_io.specs.Pieces.{AreEnds, start_at};
 
 use heesch_grid::Cell;
 use heesch_io::NoMemory;
@@ -17,7 +17,7 @@ pub struct CellSets {
 impl Model for CellSets {
     ghost use Rattle.std.specs.Prelude.{List, length};
     ghost use Rattle.heesch_grid.specs.declared.Cell.{Cell};
-    ghost use Rattle.heesch_index.specs.Flat.{pieces, AreEnds};
+    ghost use Rattle.heesch_io.specs.Pieces.{pieces, AreEnds};
 
     ghost Value = { List (List Cell) };
 

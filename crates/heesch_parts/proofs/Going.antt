@@ -4,7 +4,6 @@ use Rattle.std.specs.Prelude.{Option, Some, None, Result, Ok, Err, IfOk, IfErr, 
 use Rattle.std.specs.Io.KnownBytes.{Consumes, Keeps, IsAtEnd}
 use Rattle.std.proofs.lemmas.List.{length-take-le}
 use Rattle.heesch_reader.specs.declared.item.Item.{Item}
-use Rattle.heesch_io.specs.Input.{IsAllOf}
 use Rattle.heesch_io.proofs.KnownBytes.{all_given, consumes_both, front_given, front_read, one_byte}
 use Rattle.heesch_parts.specs.declared.join_stop.JoinStop.{JoinStop}
 use Rattle.heesch_parts.specs.declared.join_stop.JoinStop.TheVariants as join_stops
@@ -12,7 +11,8 @@ use Rattle.heesch_parts.specs.declared.input_stop.InputStop.{InputStop}
 use Rattle.heesch_parts.specs.declared.input_stop.InputStop.TheVariants as stops
 use Rattle.heesch_parts.specs.Faults.{HasFault}
 use Rattle.heesch_parts.specs.Joining.{Kept, IsFed, GoesTo, IsFrontStop, IsWholeStop, IsStopBeyond, Joins, LeavesRoom}
-use Rattle.heesch_parts.specs.Inputs.{stop_of, AreJoined, GivesJoined, GivesFault, ReadsNoFurther, IsWholeInputStop}
+use Rattle.heesch_io.specs.Input.{IsAllOf, ReadsNoFurther}
+use Rattle.heesch_parts.specs.Inputs.{stop_of, AreJoined, GivesJoined, GivesFault, DecideNothing, IsWholeInputStop}
 
 -- ---- known bytes
 
@@ -58,7 +58,7 @@ piece_stops most first before now count more room rest given after old new join_
 
 -- ---- what is read
 
-pub no_further : (first before now : Option (List ℕ)) (count more : ℕ) (room : List ℕ) (kept : Kept) (given : List Item) → Going first before count kept given → more ≤ length room → Consumes before now (take more room) → length room ≤ 4096 → ReadsNoFurther first now
+pub no_further : (first before now : Option (List ℕ)) (count more : ℕ) (room : List ℕ) (kept : Kept) (given : List Item) → Going first before count kept given → more ≤ length room → Consumes before now (take more room) → length room ≤ 4096 → ReadsNoFurther DecideNothing first now
 no_further first before now count more room kept given o fits c few = record {
   bytes = o.bytes;
   last = take more room;
@@ -110,7 +110,7 @@ pub record AtEnd (result : Result (List Item) InputStop) (most : ℕ) (first now
   pub ok : IfOk result (GivesJoined most first)
   pub stop : IfErr result (GivesFault most first)
   pub ended : OnOk result (IsAtEnd now)
-  pub no_further : ReadsNoFurther first now
+  pub no_further : ReadsNoFurther DecideNothing first now
   pub not_failed : result ≡ Err stops.Failed → ⊥
 
 pub at_end : (result : Result (List Item) InputStop) (most : ℕ) (first before now : Option (List ℕ)) (count more : ℕ) (room : List ℕ) (kept : Kept) (given : List Item) → Going first before count kept given → count ≤ most
@@ -153,7 +153,7 @@ ends_stopped before (join_stops.Fault line fault) h = h
 ends_stopped before join_stops.NoMemory h = tt
 
 -- the source failed, and gave nothing
-pub no_further_kept : (first before now : Option (List ℕ)) (count : ℕ) (kept : Kept) (given : List Item) → Going first before count kept given → Keeps before now → ReadsNoFurther first now
+pub no_further_kept : (first before now : Option (List ℕ)) (count : ℕ) (kept : Kept) (given : List Item) → Going first before count kept given → Keeps before now → ReadsNoFurther DecideNothing first now
 no_further_kept first before now count kept given o same = record {
   bytes = o.bytes;
   last = [];

@@ -50,14 +50,6 @@ pub record DecideNothing (bytes : List ℕ) : Type 0 where
   pub forms : AllByRecursion IsPartLine ended
   pub walk : Walk start ended stage
 
--- no piece is read beyond the one that decides: what was read before it decides nothing
-pub record ReadsNoFurther (first now : Option (List ℕ)) : Type 0 where
-  pub bytes : List ℕ
-  pub last : List ℕ
-  pub consumed : Consumes first now (bytes ++ last)
-  pub one_piece : length last ≤ 4096
-  pub undecided : DecideNothing bytes
-
 -- the text has the fault, where all of it is read
 abbrev pub IsWholeInputStop : List ℕ → InputStop → Type 0
 IsWholeInputStop text (stops.Fault line fault) = (most : ℕ) → length text ≤ most → HasFault most text line fault

@@ -3,7 +3,8 @@ ghost use Rattle.std.specs.Prelude.{◌≡◌, ◌≤◌, List, ℕ, None, Err, 
 ghost use Rattle.std.specs.Io.KnownBytes.{IsAtEnd};
 ghost use Rattle.heesch_io.specs.Causes.{Rose};
 ghost use Rattle.heesch_parts.specs.Joining.{IsFed};
-ghost use Rattle.heesch_parts.specs.Inputs.{GivesJoined, GivesFault, ReadsNoFurther, AreJoined, IsWholeInputStop};
+ghost use Rattle.heesch_io.specs.Input.{ReadsNoFurther};
+ghost use Rattle.heesch_parts.specs.Inputs.{GivesJoined, GivesFault, DecideNothing, AreJoined, IsWholeInputStop};
 
 use crate::input_stop::InputStop;
 use crate::joiner::Joiner;
@@ -28,7 +29,7 @@ pub fn joined<R: Source, const MOST: u64>(
     ensures ok { IfOk result (GivesJoined MOST (R.left source.old)) }
     ensures stop { IfErr result (GivesFault MOST (R.left source.old)) }
     ensures ended { OnOk result (IsAtEnd (R.left source.new)) }
-    ensures no_further { ReadsNoFurther (R.left source.old) (R.left source.new) }
+    ensures no_further { ReadsNoFurther DecideNothing (R.left source.old) (R.left source.new) }
     ensures failed { result ≡ Err InputStop.Failed → Rose (R.faults source.old) (R.faults source.new) }
     ensures later { R.faults source.old ≤ R.faults source.new }
 {

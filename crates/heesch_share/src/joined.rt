@@ -2,7 +2,8 @@
 ghost use Rattle.std.specs.Prelude.{◌≡◌, ◌≤◌, ◌++◌, All, Err, IfOk, IfErr, OnOk};
 ghost use Rattle.std.specs.Io.KnownBytes.{IsAtEnd};
 ghost use Rattle.heesch_io.specs.Causes.{Rose};
-ghost use Rattle.heesch_parts.specs.Inputs.{GivesFault, ReadsNoFurther};
+ghost use Rattle.heesch_io.specs.Input.{ReadsNoFurther};
+ghost use Rattle.heesch_parts.specs.Inputs.{GivesFault, DecideNothing};
 ghost use Rattle.heesch_reader.specs.Items.{item_lines, lines_of};
 ghost use Rattle.heesch_text.specs.Lines.{text_of};
 ghost use Rattle.heesch_share.specs.Joined.{GivesText, IsFull};
@@ -25,7 +26,7 @@ pub fn joined_text<R: Source, const MOST: u64>(
     ensures ok { IfOk result (λ text. GivesText MOST (R.left source.old) text.items) }
     ensures stop { IfErr result (GivesFault MOST (R.left source.old)) }
     ensures ended { OnOk result (IsAtEnd (R.left source.new)) }
-    ensures no_further { ReadsNoFurther (R.left source.old) (R.left source.new) }
+    ensures no_further { ReadsNoFurther DecideNothing (R.left source.old) (R.left source.new) }
     ensures failed { result ≡ Err InputStop.Failed → Rose (R.faults source.old) (R.faults source.new) }
     ensures later { R.faults source.old ≤ R.faults source.new }
 {

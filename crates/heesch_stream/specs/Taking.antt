@@ -15,17 +15,13 @@ use Rattle.heesch_stream.specs.declared.answers.Taken.{Taken}
 use Rattle.heesch_stream.specs.declared.answers.Taken.TheVariants as takens
 use Rattle.heesch_stream.specs.declared.answers.StreamStop.{StreamStop}
 use Rattle.heesch_stream.specs.declared.answers.StreamStop.TheVariants as stops
-use Rattle.heesch_io.specs.Input.{IsAllOf}
+use Rattle.heesch_io.specs.Input.{IsAllOf, piece_max}
 use Rattle.heesch_stream.specs.Answers.{stop_of}
 use Rattle.heesch_stream.specs.Input.{newlines, IsWholeCatalogue}
 
 -- the most bytes that are read
 abbrev pub input_max : ℕ
 input_max = 1099511627776
-
--- the most bytes of one read
-abbrev pub piece_max : ℕ
-piece_max = 4096
 
 -- what a stream is known by: what its reader keeps, the number of bytes that were read, and the line that the next byte is on
 pub record Streamed : Type 0 where

@@ -20,7 +20,6 @@ use Rattle.heesch_stream.specs.declared.answers.Taken.{Taken}
 use Rattle.heesch_stream.specs.declared.answers.Taken.TheVariants as takens
 use Rattle.heesch_stream.specs.declared.answers.StreamStop.{StreamStop}
 use Rattle.heesch_stream.specs.declared.answers.StreamStop.TheVariants as stream_stops
-use Rattle.heesch_io.specs.Input.{IsAllOf}
 use Rattle.heesch_stream.specs.Input.{IsWholeCatalogue}
 use Rattle.heesch_stream.specs.Taking.{Streamed, HasRead, HasFault, HasTooMany, TakeResult, TakesOnePiece}
 use Rattle.heesch_io.proofs.KnownBytes.{consumes_both}
@@ -32,7 +31,8 @@ use Rattle.heesch_tabulate.specs.declared.answers.Onward.TheVariants as onwards
 use Rattle.heesch_tabulate.specs.declared.table.Table.{Table}
 use Rattle.heesch_tabulate.specs.Entries.{entries_of, IsEntryAt, IsOfGrid, AreShapes}
 use Rattle.heesch_tabulate.specs.Steps.{IsOnward, HasTable, AreReady, CountsItems, StopsAtFault}
-use Rattle.heesch_tabulate.specs.Tabulating.{IsTallied, AreWholeAt, HasShapeFault, HasTextFault, HasLengthFault, ReadsNoFurther}
+use Rattle.heesch_io.specs.Input.{IsAllOf, ReadsNoFurther}
+use Rattle.heesch_tabulate.specs.Tabulating.{IsTallied, AreWholeAt, HasShapeFault, HasTextFault, HasLengthFault, DecideNothing}
 use Rattle.heesch_tabulate.proofs.Standing.{all_both, entries_append, ready}
 use Rattle.heesch_reader.proofs.Whole.{IsEntryItem, WholeAt, StandAt, stand_at, last_is_end, entry_whole}
 
@@ -344,7 +344,7 @@ input_told {first} {now} {new} {items} s after line number fault k =
     input_fault first s.before now s.failed s.fails s.old new items s.going.found s.taken after line number s.going.has_read s.result (subst (λ (o : Onward). IsOnward s.taken (Ok o)) fault s.onward_is) (k s.going.found s.going.table (items_ready s))
 
 -- what was read before one more piece decides nothing
-pub going_no_further : (first before now : Option (List ℕ)) (s : Streamed) (table : Table) → Going first before s table → TakesOnePiece before now → ReadsNoFurther first now
+pub going_no_further : (first before now : Option (List ℕ)) (s : Streamed) (table : Table) → Going first before s table → TakesOnePiece before now → ReadsNoFurther DecideNothing first now
 going_no_further first before now s table going piece =
     let h = going.has_read in
     let t = going.table in

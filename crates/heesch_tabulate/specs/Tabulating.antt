@@ -18,7 +18,7 @@ use Rattle.heesch_reader.specs.Faults.{begins_next}
 use Rattle.heesch_reader.specs.Items.{lines_of, AreItemsAt}
 use Rattle.heesch_io.specs.Input.{IsAllOf}
 use Rattle.heesch_stream.specs.Input.{IsWholeCatalogue}
-use Rattle.heesch_stream.specs.Taking.{Begins, HasFault, HasTooMany, input_max, piece_max}
+use Rattle.heesch_stream.specs.Taking.{Begins, HasFault, HasTooMany, input_max}
 use Rattle.heesch_table.specs.Texts.{tally_text}
 use Rattle.heesch_tabulate.specs.declared.answers.Tabulated.{Tabulated}
 use Rattle.heesch_tabulate.specs.declared.answers.Tabulated.TheVariants as answers
@@ -118,14 +118,6 @@ pub record DecideNothing (bytes : List ℕ) : Type 0 where
   pub grid : GridName
   pub of_grid : IsOfGrid grid all
   pub shapes : AreShapes (geometry_of grid) (entries_of all)
-
--- no piece is read beyond the one that decides: what was read before it decides nothing
-pub record ReadsNoFurther (first now : Option (List ℕ)) : Type 0 where
-  pub bytes : List ℕ
-  pub last : List ℕ
-  pub consumed : Consumes first now (bytes ++ last)
-  pub one_piece : length last ≤ piece_max
-  pub undecided : DecideNothing bytes
 
 -- a tally comes at the end of the input alone
 abbrev pub EndsAtTally : Option (List ℕ) → Tabulated → Type 0

@@ -1,7 +1,8 @@
 //! The tally of a catalogue.
 ghost use Rattle.std.specs.Prelude.{◌≡◌, ◌≤◌, Err, IfOk};
 ghost use Rattle.heesch_io.specs.Causes.{Rose};
-ghost use Rattle.heesch_tabulate.specs.Tabulating.{IsTabulated, ReadsNoFurther, EndsAtTally};
+ghost use Rattle.heesch_io.specs.Input.{ReadsNoFurther};
+ghost use Rattle.heesch_tabulate.specs.Tabulating.{IsTabulated, DecideNothing, EndsAtTally};
 
 use crate::answers::{EntryFault, Onward, Tabulated};
 use crate::table::Table;
@@ -18,7 +19,7 @@ use std::alloc::Global;
 /// bytes.
 pub fn tabulate<R: Source>(alloc: Global, source: &mut R) -> Result<Tabulated, IoStop>
     ensures ok { IfOk result (IsTabulated (R.left source.old)) }
-    ensures no_further { ReadsNoFurther (R.left source.old) (R.left source.new) }
+    ensures no_further { ReadsNoFurther DecideNothing (R.left source.old) (R.left source.new) }
     ensures ended { IfOk result (EndsAtTally (R.left source.new)) }
     ensures failed { result ≡ Err IoStop.Failed → Rose (R.faults source.old) (R.faults source.new) }
     ensures later { R.faults source.old ≤ R.faults source.new }

@@ -5,7 +5,8 @@ use Rattle.heesch_given.specs.Given.{GivesFault, GivesShapes}
 use Rattle.heesch_stream.specs.Taking.{input_max}
 use Rattle.heesch_app.specs.GivenTexts.{IsBegunTextOf, IsTextOf}
 use Rattle.heesch_app.proofs.CatalogueEndings.{GivenBegun, GivenWhole, listed_ends, told_ends}
-use Rattle.heesch_app.proofs.Consumed.{given_consumes}
+use Rattle.heesch_given.specs.Given.{DecideNothing}
+use Rattle.heesch_app.proofs.Consumed.{further_consumes}
 use Rattle.heesch_app.proofs.Endings.{failure_ends, memory_ends}
 use Rattle.heesch_app.proofs.GivenLists.{given_are_canonical}
 use Rattle.heesch_app.proofs.given.write_given.Goals as goal
@@ -49,13 +50,13 @@ returns-in-Err-NoMemory-clause-ends g c =
     memory_ends (GivenWhole geometry (IsTextOf geometry c.args.text.now) left) (GivenBegun geometry (IsBegunTextOf geometry c.args.text.now) left) (g.W.Sink.held c.args.sink.now)
 
 pub returns-in-Ok-clause-consumed : goal.returns-in-Ok-clause-consumed
-returns-in-Ok-clause-consumed g c = given_consumes g.G.Grid.geometry (g.R.Source.left c.args.source.now) (g.R.Source.left c.shapes_given.new.source) c.shapes_given.ensures.no_further
+returns-in-Ok-clause-consumed g c = further_consumes (DecideNothing g.G.Grid.geometry) (g.R.Source.left c.args.source.now) (g.R.Source.left c.shapes_given.new.source) c.shapes_given.ensures.no_further
 
 pub returns-in-Err-Fault-clause-consumed : goal.returns-in-Err-Fault-clause-consumed
-returns-in-Err-Fault-clause-consumed g c = given_consumes g.G.Grid.geometry (g.R.Source.left c.args.source.now) (g.R.Source.left c.shapes_given.new.source) c.shapes_given.ensures.no_further
+returns-in-Err-Fault-clause-consumed g c = further_consumes (DecideNothing g.G.Grid.geometry) (g.R.Source.left c.args.source.now) (g.R.Source.left c.shapes_given.new.source) c.shapes_given.ensures.no_further
 
 pub returns-in-Err-Failed-clause-consumed : goal.returns-in-Err-Failed-clause-consumed
-returns-in-Err-Failed-clause-consumed g c = given_consumes g.G.Grid.geometry (g.R.Source.left c.args.source.now) (g.R.Source.left c.shapes_given.new.source) c.shapes_given.ensures.no_further
+returns-in-Err-Failed-clause-consumed g c = further_consumes (DecideNothing g.G.Grid.geometry) (g.R.Source.left c.args.source.now) (g.R.Source.left c.shapes_given.new.source) c.shapes_given.ensures.no_further
 
 pub returns-in-Err-NoMemory-clause-consumed : goal.returns-in-Err-NoMemory-clause-consumed
-returns-in-Err-NoMemory-clause-consumed g c = given_consumes g.G.Grid.geometry (g.R.Source.left c.args.source.now) (g.R.Source.left c.shapes_given.new.source) c.shapes_given.ensures.no_further
+returns-in-Err-NoMemory-clause-consumed g c = further_consumes (DecideNothing g.G.Grid.geometry) (g.R.Source.left c.args.source.now) (g.R.Source.left c.shapes_given.new.source) c.shapes_given.ensures.no_further

@@ -1,5 +1,6 @@
 use Rattle.std.proofs.Common.{◌≡◌, ℕ, ◌+◌, ◌-◌, ◌≤◌, List, Option, length}
-use Rattle.heesch_check.specs.Reading.{IsPending, IsReading, ReadsNoFurther}
+use Rattle.heesch_io.specs.Input.{ReadsNoFurther}
+use Rattle.heesch_check.specs.Reading.{IsPending, IsReading, DecideNothing}
 use Rattle.heesch_check.proofs.checking.check_behind.Given as goal
 
 abbrev pub invariant-rounds : goal.invariant-rounds
@@ -8,7 +9,7 @@ invariant-rounds g l =
     record {
       kept : l.judge ≡ record l.fn.judge { entries = l.judge.entries };
       pending : (first : Option (List ℕ)) → IsReading first (left l.fn.source) l.fn.items l.fn.stream l.fn.reading → IsPending l.fn.judge.header first (left l.source) l.at_hand l.stream l.judge.entries l.came_to;
-      no_further : (first : Option (List ℕ)) → IsReading first (left l.fn.source) l.fn.items l.fn.stream l.fn.reading → ReadsNoFurther first (left l.fn.source) → ReadsNoFurther first (left l.source);
+      no_further : (first : Option (List ℕ)) → IsReading first (left l.fn.source) l.fn.items l.fn.stream l.fn.reading → ReadsNoFurther DecideNothing first (left l.fn.source) → ReadsNoFurther DecideNothing first (left l.source);
       later : g.R.Source.faults l.fn.source ≤ g.R.Source.faults l.source;
     }
 

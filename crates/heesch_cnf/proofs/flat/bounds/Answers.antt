@@ -1,5 +1,5 @@
 use Rattle.std.proofs.Common.{arith}
-use Rattle.heesch_cnf.proofs.FlatLemmas.{start-end, end-size}
+use Rattle.heesch_io.proofs.Pieces.{start-end, end-size}
 use Rattle.heesch_cnf.proofs.flat.bounds.Goals as goal
 
 pub returns-clause-rising : goal.returns-clause-rising

@@ -1,7 +1,8 @@
 use Rattle.std.proofs.Common.{◌≡◌, None, inl, inr, sym, subst, rules, arith}
 use Rattle.heesch_stream.specs.Taking.{TakeResult}
 use Rattle.heesch_tabulate.specs.Steps.{AreReady, CountsItems}
-use Rattle.heesch_tabulate.specs.Tabulating.{ReadsNoFurther}
+use Rattle.heesch_io.specs.Input.{ReadsNoFurther}
+use Rattle.heesch_tabulate.specs.Tabulating.{DecideNothing}
 use Rattle.heesch_tabulate.proofs.Answering.{Stepped, items_ready, fault_told, more_counted, all_counted, input_told, going_no_further, at_end}
 use Rattle.heesch_tabulate.proofs.tabulation.tabulate.Given as given
 use Rattle.heesch_tabulate.proofs.tabulation.tabulate.Goals as goal
@@ -52,7 +53,7 @@ returns-in-Fault-clause-ok g c =
     inr (input_told (stepped g a.After-as_slice) c.count.new.self c.in-Fault.line c.in-Fault.number c.in-Fault.is (counted_all g a.In_default (counted g a.In_ok-line)))
 
 -- what was read before the last piece decides nothing
-no_further : (g : given.Over) (c : After-take g) → ReadsNoFurther (g.R.Source.left c.args.source.now) (g.R.Source.left c.take.new.source)
+no_further : (g : given.Over) (c : After-take g) → ReadsNoFurther DecideNothing (g.R.Source.left c.args.source.now) (g.R.Source.left c.take.new.source)
 no_further g c = going_no_further (g.R.Source.left c.args.source.now) (g.R.Source.left c.loop-items.source) (g.R.Source.left c.take.new.source) c.loop-items.stream c.loop-items.table c.loop-items.invariant.0 c.take.ensures.consumed
 
 pub returns-in_err-onward-clause-no_further : goal.returns-in_err-onward-clause-no_further

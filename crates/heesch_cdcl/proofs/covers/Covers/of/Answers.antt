@@ -1,8 +1,8 @@
 use Rattle.std.proofs.Common.{◌≡◌, [], ◌∷◌, ◌++◌, All, length, length-append, map, sym, ap, subst, ◌∙◌, arith, rules}
 use Rattle.std.proofs.lemmas.List.Elements.{All-map}
-use Rattle.heesch_cnf.specs.Flat.{AreEnds}
+use Rattle.heesch_io.specs.Pieces.{AreEnds}
 use Rattle.heesch_cnf.specs.Lines.{IsNumber}
-use Rattle.heesch_cnf.proofs.FlatLemmas.{AreEnds-push}
+use Rattle.heesch_io.proofs.Pieces.{AreEnds-push}
 use Rattle.heesch_cdcl.specs.declared.covers.Cover.{Cover}
 use Rattle.heesch_cdcl.proofs.covers.Covers.of.Goals as goal
 

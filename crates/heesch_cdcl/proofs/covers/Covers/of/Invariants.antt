@@ -1,5 +1,5 @@
 use Rattle.std.proofs.Common.{◌≡◌, ◌≤◌, length}
-use Rattle.heesch_cnf.specs.Flat.{AreEnds}
+use Rattle.heesch_io.specs.Pieces.{AreEnds}
 use Rattle.heesch_cdcl.proofs.covers.Covers.of.Given as goal
 
 abbrev pub invariant-loop-guard : goal.invariant-loop-guard

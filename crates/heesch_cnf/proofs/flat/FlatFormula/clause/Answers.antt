@@ -1,6 +1,7 @@
 use Rattle.std.proofs.Common.{◌≡◌, [], length, get_or, slice_range, sym, ap, ◌∙◌, arith, rules}
-use Rattle.heesch_cnf.specs.Flat.{Clauses, start_at}
-use Rattle.heesch_cnf.proofs.FlatLemmas.{pieces-at, length-pieces}
+use Rattle.heesch_io.specs.Pieces.{start_at}
+use Rattle.heesch_cnf.specs.Flat.{Clauses}
+use Rattle.heesch_io.proofs.Pieces.{pieces-at, length-pieces}
 use Rattle.heesch_cnf.proofs.flat.FlatFormula.clause.Goals as goal
 
 pub bounds-start-requires-clause-index : goal.bounds-start-requires-clause-index

@@ -1,6 +1,6 @@
 use Rattle.std.proofs.Common.{length, ap, arith}
 use Rattle.heesch_cnf.specs.Flat.{Clauses}
-use Rattle.heesch_cnf.proofs.FlatLemmas.{length-pieces}
+use Rattle.heesch_io.proofs.Pieces.{length-pieces}
 use Rattle.heesch_cnf.proofs.flat.FlatFormula.len.Goals as goal
 
 pub returns-clause-count : goal.returns-clause-count

@@ -1,5 +1,5 @@
 use Rattle.std.proofs.Common.{length, ap, arith}
-use Rattle.heesch_index.proofs.FlatLemmas.{length-pieces}
+use Rattle.heesch_io.proofs.Pieces.{length-pieces}
 use Rattle.heesch_index.proofs.sets.CellSets.len.Goals as goal
 
 pub returns : goal.returns

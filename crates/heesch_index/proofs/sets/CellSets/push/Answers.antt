@@ -1,6 +1,6 @@
 use Rattle.std.proofs.Common.{◌≡◌, [], ◌∷◌, ◌++◌, length, length-append, ap, sym, subst, ◌∙◌, arith, rules}
-use Rattle.heesch_index.specs.Flat.{pieces, AreEnds}
-use Rattle.heesch_index.proofs.FlatLemmas.{pieces-push, AreEnds-push}
+use Rattle.heesch_io.specs.Pieces.{pieces, AreEnds}
+use Rattle.heesch_io.proofs.Pieces.{pieces-push, AreEnds-push}
 use Rattle.heesch_index.proofs.sets.CellSets.push.Goals as goal
 
 pub invariant_of-self-else-is_err-2 : goal.invariant_of-self-else-is_err-2

@@ -1,6 +1,6 @@
 use Rattle.std.proofs.Common.{◌≡◌, [], length, get_or, slice_range, sym, ap, ◌∙◌, arith}
-use Rattle.heesch_index.specs.Flat.{start_at}
-use Rattle.heesch_index.proofs.FlatLemmas.{pieces-at, length-pieces}
+use Rattle.heesch_io.specs.Pieces.{start_at}
+use Rattle.heesch_io.proofs.Pieces.{pieces-at, length-pieces}
 use Rattle.heesch_index.proofs.sets.CellSets.set.Goals as goal
 
 pub bounds-start-requires-clause-index : goal.bounds-start-requires-clause-index

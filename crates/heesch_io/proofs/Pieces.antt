@@ -1,6 +1,7 @@
+-- Lists that lie one after another in one list: how many, where each lies, and one more behind them.
 use Rattle.std.proofs.Common.{◌≡◌, ℕ, zero, suc, ◌+◌, ◌-◌, ◌<◌, ◌≤◌, List, [], ◌∷◌, ◌++◌, length, get_or, take, drop, slice_range, sym, ap, ◌∙◌, refl, subst, arith, length-drop}
 use Rattle.std.proofs.lemmas.List.{drop-append-le, take-append-le, take_all, drop_at}
-use Rattle.heesch_index.specs.Flat.{pieces, AreEnds, start_at}
+use Rattle.heesch_io.specs.Pieces.{pieces, AreEnds, start_at}
 
 pub length-pieces : {X : Type 0} → (items : List X) (start : ℕ) (ends : List ℕ) → length (pieces items start ends) ≡ length ends
 length-pieces items start [] = refl

@@ -1,4 +1,4 @@
--- Lists that lie one after another in one list.
+-- Lists that lie one after another in one list, with the place where each of them ends.
 use Rattle.std.specs.Prelude.{◌≡◌, ℕ, ◌≤◌, List, [], ◌∷◌, slice_index_or}
 use Rattle.std.specs.List.{slice_range}
 
