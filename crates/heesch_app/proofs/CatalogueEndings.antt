@@ -8,7 +8,7 @@ use Rattle.heesch_cert.specs.declared.header.Header.{Header}
 use Rattle.heesch_cert.specs.declared.header.Subject.{Subject}
 use Rattle.heesch_cert.specs.declared.header.Subject.TheVariants.{Size, Given}
 use Rattle.heesch_cert.specs.declared.limits.Limits.{Limits}
-use Rattle.heesch_given.specs.declared.stop.GivenStop.TheVariants.{Fault}
+use Rattle.heesch_line.specs.declared.stops.InputStop.TheVariants.{Fault}
 use Rattle.heesch_given.specs.Given.{GivesFault, GivesShapes}
 use Rattle.heesch_grid.specs.declared.Cell.{Cell}
 use Rattle.heesch_grid.specs.declared.GridName.{GridName}
@@ -22,8 +22,6 @@ use Rattle.heesch_words.specs.declared.requests.Request.TheVariants.{Share as Sh
 use Rattle.heesch_app.specs.declared.reply.Reply.{Reply}
 use Rattle.heesch_app.specs.declared.status.Status.{Status}
 use Rattle.heesch_app.specs.declared.status.Status.TheVariants.{BadInput}
-use Rattle.heesch_app.specs.declared.given.GivenText.{GivenText}
-use Rattle.heesch_app.specs.GivenTexts.{IsTextOf, IsBegunTextOf}
 use Rattle.heesch_app.specs.Endings.{EndsAs, IsPut, read_status, written_status}
 use Rattle.heesch_app.specs.Inputs.{bad_input_text}
 use Rattle.heesch_app.specs.Outputs.{IsOutput, IsBegunOutput, IsBegunGivenAnswer, IsGivenAnswer, OfInput, classify_of, header_of}
@@ -66,13 +64,6 @@ told_ends g One Part left line number S held old new before now reply result (in
     begins : (reply : Result Reply IoStop) → IfOk reply (λ r. r.text.items ≡ bad_input_text line number) → IfOk reply (λ r. GivenBegun g Part left r.text.items)
     begins (Ok r) text = (input, all, inr (line, number, fault, text))
     begins (Err stop) text = tt
-
--- of the grid that is named
-pub on_grid : (text : GivenText) (grid name : GridName) (left old new : Option (List ℕ)) (result : Status) → grid ≡ name
-    → EndsAs (GivenWhole (geometry_of name) (IsTextOf (geometry_of name) text) left) (GivenBegun (geometry_of name) (IsBegunTextOf (geometry_of name) text) left) old new result
-    → EndsAs (GivenWhole (geometry_of grid) (IsTextOf (geometry_of grid) text) left) (GivenBegun (geometry_of grid) (IsBegunTextOf (geometry_of grid) text) left) old new result
-on_grid text grid name left old new result same ends =
-    subst (λ n. EndsAs (GivenWhole (geometry_of n) (IsTextOf (geometry_of n) text) left) (GivenBegun (geometry_of n) (IsBegunTextOf (geometry_of n) text) left) old new result) (sym same) ends
 
 -- ---- of a request
 

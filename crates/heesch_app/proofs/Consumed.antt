@@ -2,7 +2,6 @@
 use Rattle.std.proofs.Common.{ℕ, List, [], ◌++◌, Option}
 use Rattle.std.proofs.KnownBytes.{Consumes-kept}
 use Rattle.std.specs.Io.KnownBytes.{Consumes, Keeps}
-use Rattle.heesch_grid.specs.Geometry.{Geometry}
 use Rattle.heesch_io.specs.Input.{ReadsNoFurther}
 use Rattle.heesch_io.proofs.KnownBytes.{consumes_both, consumes_none}
 use Rattle.heesch_app.specs.Inputs.{ConsumesSome}

@@ -2,8 +2,8 @@
 use Rattle.std.proofs.Common.{◌≡◌, ◌⊎◌, ℕ, List, Vec, Global, sym, subst, inl, inr}
 use Rattle.std.specs.Prelude.{Option, Result, Ok, Err, IfOk, IfErr, MatchResult}
 use Rattle.heesch_cnf.specs.declared.version.Version.{Version}
-use Rattle.heesch_exchange.specs.declared.stop.ExchangeStop.{ExchangeStop}
-use Rattle.heesch_exchange.specs.declared.stop.ExchangeStop.TheVariants.{Fault, NoMemory}
+use Rattle.heesch_line.specs.declared.stops.LineStop.{LineStop}
+use Rattle.heesch_line.specs.declared.stops.LineStop.TheVariants.{Fault, NoMemory}
 use Rattle.heesch_grid.specs.declared.GridName.{GridName}
 use Rattle.heesch_grid.specs.Names.{geometry_of}
 use Rattle.heesch_io.specs.declared.fault.IoStop.{IoStop}
@@ -19,7 +19,7 @@ use Rattle.heesch_app.specs.Outputs.{OfInput, Writes}
 use Rattle.heesch_app.proofs.Endings.{asked_output}
 
 -- the text, which is as wanted, with the status Done, or the line of the fault
-told : {V : Type 0} (items : V → List ℕ) (P : List ℕ → Type 0) (Q : ExchangeStop → Type 0) (text : Result V ExchangeStop) (status : Status) (written : V)
+told : {V : Type 0} (items : V → List ℕ) (P : List ℕ → Type 0) (Q : LineStop ℕ → Type 0) (text : Result V (LineStop ℕ)) (status : Status) (written : V)
     → IfOk text (λ t. P (items t)) → IfErr text Q → MatchResult text (λ t. (status ≡ Done) × (written ≡ t)) (λ stop. IsFaultTold stop status (items written))
     → ((status ≡ Done) × P (items written)) ⊎ ((status ≡ BadInput) × ((line : ℕ) × (number : ℕ) × Q (Fault line number) × (items written ≡ bad_input_text line number)))
 told items P Q (Ok t) status written is _ (done, same) = inl (done, subst (λ v. P (items v)) (sym same) is)
@@ -27,7 +27,7 @@ told items P Q (Err (Fault line number)) status written _ is (bad, line_is) = in
 told items P Q (Err NoMemory) status written _ _ none = absurd none
 
 -- what is told of all bytes that the source had left
-pub told_of_input : (P : List ℕ → List ℕ → Type 0) (Q : List ℕ → ExchangeStop → Type 0) (left : Option (List ℕ)) (bytes input : List ℕ) (text : Result (Vec ℕ Global) ExchangeStop) (reply : Result Reply IoStop)
+pub told_of_input : (P : List ℕ → List ℕ → Type 0) (Q : List ℕ → LineStop ℕ → Type 0) (left : Option (List ℕ)) (bytes input : List ℕ) (text : Result (Vec ℕ Global) (LineStop ℕ)) (reply : Result Reply IoStop)
     → IsAllOf left bytes → input ≡ bytes → IfOk text (λ t. P input t.items) → IfErr text (Q input)
     → IfOk reply (λ r. MatchResult text (λ t. (r.status ≡ Done) × (r.text ≡ t)) (λ stop. IsFaultTold stop r.status r.text.items))
     → IfOk reply (λ r. OfInput left (λ i. ((r.status ≡ Done) × P i r.text.items) ⊎ ((r.status ≡ BadInput) × ((line : ℕ) × (number : ℕ) × Q i (Fault line number) × (r.text.items ≡ bad_input_text line number)))))

@@ -4,8 +4,8 @@ use Rattle.std.specs.Io.KnownBytes.{Appends}
 use Rattle.heesch_cnf.specs.declared.version.Version.{Version}
 use Rattle.heesch_exchange.specs.Answers.{IsAnswer, HasAnswerFault}
 use Rattle.heesch_exchange.specs.Formulas.{IsFormula, HasFormulaFault}
-use Rattle.heesch_exchange.specs.declared.stop.ExchangeStop.{ExchangeStop}
-use Rattle.heesch_exchange.specs.declared.stop.ExchangeStop.TheVariants.{Fault, NoMemory}
+use Rattle.heesch_line.specs.declared.stops.LineStop.{LineStop}
+use Rattle.heesch_line.specs.declared.stops.LineStop.TheVariants.{Fault, NoMemory}
 use Rattle.heesch_grid.specs.Geometry.{Geometry}
 use Rattle.heesch_io.specs.Input.{IsAllOf}
 use Rattle.heesch_app.specs.declared.exchanges.Exchange.{Exchange}
@@ -32,7 +32,7 @@ IsExchangeAnswer Formula version g j size status output input = IsFormulaAnswer 
 IsExchangeAnswer Answer version g j size status output input = IsModelAnswer version g j size status output input
 
 -- the line of a fault
-abbrev pub IsFaultTold : ExchangeStop → Status → List ℕ → Type 0
+abbrev pub IsFaultTold : LineStop ℕ → Status → List ℕ → Type 0
 IsFaultTold (Fault line number) status output = (status ≡ BadInput) × (output ≡ bad_input_text line number)
 IsFaultTold NoMemory status output = ⊥
 

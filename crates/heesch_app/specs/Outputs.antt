@@ -80,14 +80,11 @@ Reads JoinRequest = ⊤
 Reads (OuterRequest grid Given limits workers) = ⊤
 Reads _ = ⊥
 
--- the request reads to the end what the source has left
+-- the request reads to the end what the source has left, as each that reads does but `check` and `table`
 abbrev pub ReadsToEnd : Request → Type 0
-ReadsToEnd (ClassifyRequest grid Given limits workers brief) = ⊤
-ReadsToEnd (FormulaRequest grid level size version) = ⊤
-ReadsToEnd (AnswerRequest grid level size version) = ⊤
-ReadsToEnd JoinRequest = ⊤
-ReadsToEnd (OuterRequest grid Given limits workers) = ⊤
-ReadsToEnd _ = ⊥
+ReadsToEnd (CheckRequest workers) = ⊥
+ReadsToEnd TableRequest = ⊥
+ReadsToEnd request = Reads request
 
 -- what the request asks for is one text, which is put at once; a catalogue, a share of one and an outer text are written as they are made
 abbrev pub HasOneText : Request → Type 0

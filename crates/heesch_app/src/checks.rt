@@ -1,5 +1,5 @@
 //! The answer to `check`.
-ghost use Rattle.std.specs.Prelude.{◌≡◌, ◌≤◌, Err, IfErr, IfOk};
+ghost use Rattle.std.specs.Prelude.{◌≡◌, Err, IfErr, IfOk};
 ghost use Rattle.heesch_io.specs.Causes.{Rose};
 ghost use Rattle.heesch_app.specs.Checks.{check_status, check_text};
 ghost use Rattle.heesch_app.specs.Inputs.{ConsumesSome};
@@ -10,7 +10,7 @@ use crate::bad_input::bad_input;
 use crate::reply::Reply;
 use heesch_check::{Checked, check, write_checked};
 use heesch_io::{IoStop, Source};
-use heesch_pool::Gate;
+use heesch_pool::{Crew, Gate};
 use std::alloc::Global;
 use std::thread::Threads;
 
@@ -20,19 +20,15 @@ const TOO_LONG: u32 = 8;
 /// Whether the source's bytes are a valid catalogue, else its first invalid part, or that they are too many.
 #[tactic(auto, using(crate::proofs::Consumed::further_consumes))]
 pub fn checked_reply<T: Threads + Sync, R: Source, H: Gate + Sync>(
-    rt: &T,
-    alloc: Global,
+    crew: &Crew<'_, T, H>,
     source: &mut R,
-    workers: u32,
-    gate: &H,
 ) -> Result<Reply, IoStop>
-    requires workers { (1 ≤ workers) × (workers ≤ 64) }
     ensures ok { IfOk result (λ r. OfInput (R.left source.old) (IsCheckAnswer r.status r.text.items)) }
     ensures consumed { ConsumesSome (R.left source.old) (R.left source.new) }
     ensures failed { result ≡ Err IoStop.Failed → Rose (R.faults source.old) (R.faults source.new) }
 {
-    let checked = check(rt, alloc, source, workers, gate)?;
-    told(alloc, checked)
+    let checked = check(crew, source)?;
+    told(crew.alloc, checked)
 }
 
 /// The line of an answer, and the status that comes with it.

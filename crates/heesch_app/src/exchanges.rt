@@ -12,9 +12,10 @@ use crate::bad_input::bad_input;
 use crate::reading::read_all;
 use crate::reply::Reply;
 use heesch_cnf::Version;
-use heesch_exchange::{ExchangeStop, answer, formula};
+use heesch_exchange::{answer, formula};
 use heesch_grid::GridName;
 use heesch_io::{IoStop, Source};
+use heesch_line::LineStop;
 use std::alloc::Global;
 
 /// What is asked of a source's bytes, which begin with the line of a shape.
@@ -51,7 +52,7 @@ pub fn exchange_reply<R: Source>(
 }
 
 /// The text with the status Done, or the line of the fault.
-fn told(alloc: Global, text: Result<Vec<u8>, ExchangeStop>) -> Result<Reply, IoStop>
+fn told(alloc: Global, text: Result<Vec<u8>, LineStop<u32>>) -> Result<Reply, IoStop>
     ensures ok { IfOk result (λ r. MatchResult text
         (λ written. (r.status ≡ Status.Done) × (r.text ≡ written))
         (λ stop. IsFaultTold stop r.status r.text.items)) }
@@ -63,7 +64,7 @@ fn told(alloc: Global, text: Result<Vec<u8>, ExchangeStop>) -> Result<Reply, IoS
             status: Status::Done,
             text,
         }),
-        Err(ExchangeStop::Fault { line, number }) => bad_input(alloc, line, number),
-        Err(ExchangeStop::NoMemory) => Err(IoStop::NoMemory),
+        Err(LineStop::Fault { line, fault }) => bad_input(alloc, line, fault),
+        Err(LineStop::NoMemory) => Err(IoStop::NoMemory),
     }
 }

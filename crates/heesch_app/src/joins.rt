@@ -9,7 +9,7 @@ use crate::Status;
 use crate::bad_input::bad_input;
 use crate::reply::Reply;
 use heesch_io::{IoStop, Source};
-use heesch_parts::InputStop;
+use heesch_line::InputStop;
 use heesch_share::joined_text;
 use heesch_stream::INPUT_MAX;
 use std::alloc::Global;

@@ -9,7 +9,7 @@ use heesch_grid::{Grid, GridName};
 use heesch_io::NoMemory;
 use heesch_kite::on_grid;
 use heesch_listing::all_shapes;
-use heesch_pool::Gate;
+use heesch_pool::{Crew, Gate};
 use heesch_shape::Shape;
 use heesch_text::write_shape;
 use std::alloc::Global;
@@ -26,42 +26,31 @@ pub enum ListForm {
 
 /// The text of the free list of a grid and a size in cells.
 pub fn free_list_text<T: Threads + Sync, H: Gate + Sync>(
-    rt: &T,
-    alloc: Global,
+    crew: &Crew<'_, T, H>,
     form: ListForm,
     grid: GridName,
     n: u32,
-    workers: u32,
-    gate: &H,
 ) -> Result<Vec<u8>, NoMemory>
     requires size { (1 ≤ n) × (n ≤ 31) }
-    requires workers { (1 ≤ workers) × (workers ≤ 64) }
     ensures { IfOk result (λ text. IsListText form (geometry_of grid) n text.items) }
 {
-    on_grid!(
-        grid,
-        free_list_text_of::<_, T, H>(rt, alloc, form, n, workers, gate)
-    )
+    on_grid!(grid, free_list_text_of::<_, T, H>(crew, form, n))
 }
 
 fn free_list_text_of<G: Grid + Send + Sync, T: Threads + Sync, H: Gate + Sync>(
-    rt: &T,
-    alloc: Global,
+    crew: &Crew<'_, T, H>,
     form: ListForm,
     n: u32,
-    workers: u32,
-    gate: &H,
 ) -> Result<Vec<u8>, NoMemory>
     requires size { (1 ≤ n) × (n ≤ 31) }
-    requires workers { (1 ≤ workers) × (workers ≤ 64) }
     ensures { IfOk result (λ text. IsListText form G.geometry n text.items) }
 {
-    let shapes = all_shapes::<G, T, H>(rt, alloc, n, workers, gate)?;
+    let shapes = all_shapes::<G, T, H>(crew, n)?;
     match form {
-        ListForm::Cells => text_of(alloc, &shapes),
+        ListForm::Cells => text_of(crew.alloc, &shapes),
         ListForm::Tilings => {
-            let tilings = tilings_of(rt, alloc, &shapes, workers, gate)?;
-            plain_text_of(alloc, &shapes, &tilings)
+            let tilings = tilings_of(crew, &shapes)?;
+            plain_text_of(crew.alloc, &shapes, &tilings)
         }
     }
 }

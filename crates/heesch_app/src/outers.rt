@@ -1,5 +1,5 @@
 //! The outer text that a request asks for.
-ghost use Rattle.std.specs.Prelude.{◌≡◌, ◌≤◌};
+ghost use Rattle.std.specs.Prelude.{◌≡◌};
 ghost use Rattle.std.specs.Io.KnownBytes.{IsAtEnd};
 ghost use Rattle.heesch_cert.specs.Limits.{AreLimits};
 ghost use Rattle.heesch_io.specs.Causes.{Rose};
@@ -15,47 +15,42 @@ use heesch_cert::{Limits, Subject};
 use heesch_grid::GridName;
 use heesch_io::{Sink, Source};
 use heesch_outers::write_outers_of_size;
-use heesch_pool::Gate;
-use std::alloc::Global;
+use heesch_pool::{Crew, Gate};
 use std::thread::Threads;
 
 /// Writes the outer text of the polyforms of a size, or of the shapes of the list text that the source has left; or the
 /// first fault of the list text.
 #[tactic(auto, using(crate::proofs::Consumed::none_consumed))]
 pub fn write_outer_numbers<T: Threads + Sync, R: Source, W: Sink, H: Gate + Sync>(
-    rt: &T,
-    alloc: Global,
+    crew: &Crew<'_, T, H>,
     grid: GridName,
     subject: Subject,
     limits: Limits,
-    workers: u32,
     source: &mut R,
     sink: &mut W,
-    gate: &H,
 ) -> Status
     requires subject { IsSubjectInRange subject }
     requires limits { AreLimits limits }
-    requires workers { (1 ≤ workers) × (workers ≤ 64) }
-    ensures ends { EndsAs (IsOutput (OuterRequest grid subject limits workers) (R.left source.old))
-        (IsBegunOutput (OuterRequest grid subject limits workers) (R.left source.old))
+    ensures ends { EndsAs (IsOutput (OuterRequest grid subject limits crew.now.workers) (R.left source.old))
+        (IsBegunOutput (OuterRequest grid subject limits crew.now.workers) (R.left source.old))
         (W.held sink.old) (W.held sink.new) result }
-    ensures ended { result ≡ Status.Done → ReadsToEnd (OuterRequest grid subject limits workers)
+    ensures ended { result ≡ Status.Done → ReadsToEnd (OuterRequest grid subject limits crew.now.workers)
         → IsAtEnd (R.left source.new) }
     ensures consumed { ConsumesSome (R.left source.old) (R.left source.new) }
     ensures read_fault { result ≡ Status.ReadFault
-        → Reads (OuterRequest grid subject limits workers) × Rose (R.faults source.old) (R.faults source.new) }
+        → Reads (OuterRequest grid subject limits crew.now.workers) × Rose (R.faults source.old) (R.faults source.new) }
     ensures unwritten { result ≡ Status.ReadFault → sink.new ≡ sink.old }
     ensures write_fault { result ≡ Status.WriteFault → Rose (W.faults sink.old) (W.faults sink.new) }
-    ensures unread { ¬ Reads (OuterRequest grid subject limits workers) → source.new ≡ source.old }
+    ensures unread { ¬ Reads (OuterRequest grid subject limits crew.now.workers) → source.new ≡ source.old }
 {
     match subject {
         Subject::Size { n } => {
-            let written = write_outers_of_size(rt, alloc, grid, n, limits, workers, gate, sink);
+            let written = write_outers_of_size(crew, grid, n, limits, sink);
             Status::of_writing(written)
         }
         Subject::Given => {
             let text = GivenText::Outers { limits };
-            write_given_text(rt, alloc, grid, &text, workers, source, sink, gate)
+            write_given_text(crew, grid, &text, source, sink)
         }
     }
 }

@@ -29,7 +29,7 @@ use crate::reply::{Reply, put_reply};
 use crate::tables::table_reply;
 use heesch_cert::{Header, Subject};
 use heesch_io::{IoStop, Sink, Source};
-use heesch_pool::Gate;
+use heesch_pool::{Crew, Gate};
 use heesch_sample::sample;
 use heesch_share::write_share;
 use heesch_words::{Request, Usage, parse};
@@ -154,7 +154,8 @@ fn answer<T: Threads + Sync, R: Source, W: Sink, H: Gate + Sync>(
                 subject,
                 limits,
             };
-            write_asked_catalogue(rt, alloc, &header, workers, source, sink, gate)
+            let crew = Crew::new(rt, alloc, workers, gate);
+            write_asked_catalogue(&crew, &header, source, sink)
         }
         Request::Share {
             grid,
@@ -170,7 +171,8 @@ fn answer<T: Threads + Sync, R: Source, W: Sink, H: Gate + Sync>(
                 subject: Subject::Size { n },
                 limits,
             };
-            let written = write_share(rt, alloc, &header, n, i, k, workers, gate, sink);
+            let crew = Crew::new(rt, alloc, workers, gate);
+            let written = write_share(&crew, &header, n, i, k, sink);
             Status::of_writing(written)
         }
         Request::Outer {
@@ -178,9 +180,10 @@ fn answer<T: Threads + Sync, R: Source, W: Sink, H: Gate + Sync>(
             subject,
             limits,
             workers,
-        } => write_outer_numbers(
-            rt, alloc, grid, subject, limits, workers, source, sink, gate,
-        ),
+        } => {
+            let crew = Crew::new(rt, alloc, workers, gate);
+            write_outer_numbers(&crew, grid, subject, limits, source, sink)
+        }
         _ => put_reply(reply(rt, alloc, request, source, gate), sink),
     }
 }
@@ -205,12 +208,16 @@ fn reply<T: Threads + Sync, R: Source, H: Gate + Sync>(
 {
     match request {
         Request::List { grid, n, workers } => {
-            Reply::done(free_list_text(rt, alloc, ListForm::Cells, grid, n, workers, gate))
+            let crew = Crew::new(rt, alloc, workers, gate);
+            Reply::done(free_list_text(&crew, ListForm::Cells, grid, n))
         }
         Request::Plain { grid, n, workers } => {
-            Reply::done(free_list_text(rt, alloc, ListForm::Tilings, grid, n, workers, gate))
+            let crew = Crew::new(rt, alloc, workers, gate);
+            Reply::done(free_list_text(&crew, ListForm::Tilings, grid, n))
         }
-        Request::Check { workers } => checked_reply(rt, alloc, source, workers, gate),
+        Request::Check { workers } => {
+            checked_reply(&Crew::new(rt, alloc, workers, gate), source)
+        }
         Request::Table => table_reply(alloc, source),
         Request::Formula {
             grid,
@@ -231,7 +238,10 @@ fn reply<T: Threads + Sync, R: Source, H: Gate + Sync>(
             seed,
             limits,
             workers,
-        } => Reply::done(sample(rt, alloc, grid, n, count, seed, limits, workers, gate)),
+        } => {
+            let crew = Crew::new(rt, alloc, workers, gate);
+            Reply::done(sample(&crew, grid, n, count, seed, limits))
+        }
         Request::Join => join_reply(alloc, source),
         Request::Classify { .. } | Request::Share { .. } | Request::Outer { .. } => {
             unreachable!()

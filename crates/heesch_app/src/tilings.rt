@@ -1,5 +1,5 @@
 //! The plain tilings of shapes, and their text.
-ghost use Rattle.std.specs.Prelude.{◌≡◌, ◌≤◌, length, IfOk, IsTrue};
+ghost use Rattle.std.specs.Prelude.{◌≡◌, length, IfOk, IsTrue};
 ghost use Rattle.heesch_listing.specs.Parts.{are_small};
 ghost use Rattle.heesch_app.specs.Plains.{plain_list_text};
 ghost use Rattle.heesch_app.specs.Tilings.{ArePlain};
@@ -7,7 +7,7 @@ ghost use Rattle.heesch_app.specs.Tilings.{ArePlain};
 use crate::plains::write_plain;
 use heesch_grid::Grid;
 use heesch_io::NoMemory;
-use heesch_pool::{Answer, Gate, Job, run_all};
+use heesch_pool::{Answer, Crew, Gate, Job};
 use heesch_shape::Shape;
 use heesch_tiling::{Plain, plain};
 use std::alloc::Global;
@@ -39,21 +39,17 @@ impl<'a, G: Grid> Answer<Option<Plain>> for PlainOf<'a, G> {
 
 /// The plain tilings of the shapes, in their order.
 pub fn tilings_of<G: Grid + Send + Sync, T: Threads + Sync, H: Gate + Sync>(
-    rt: &T,
-    alloc: Global,
+    crew: &Crew<'_, T, H>,
     shapes: &[Shape<G>],
-    workers: u32,
-    gate: &H,
 ) -> Result<Vec<Option<Plain>>, NoMemory>
     requires small { IsTrue (are_small shapes.now) }
-    requires workers { (1 ≤ workers) × (workers ≤ 64) }
     ensures { IfOk result (λ tilings. ArePlain G.geometry shapes.now tilings.items) }
 {
     let Ok(count) = u32::try_from(shapes.len()) else {
         return Err(NoMemory);
     };
     let job = Job::new(PlainOf { shapes }, count);
-    run_all(rt, alloc, &job, workers, gate)
+    crew.run_all(&job)
 }
 
 /// A line for each shape and its tiling.

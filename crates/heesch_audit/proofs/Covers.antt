@@ -1,5 +1,5 @@
 -- What the answer on a cover says, and places in range.
-use Rattle.std.proofs.Common.{◌≡◌, refl, sym, ◌∙◌, List, All}
+use Rattle.std.proofs.Common.{sym, ◌∙◌, List, All}
 use Rattle.std.proofs.lemmas.List.Elements.{All-contains}
 use Rattle.heesch_grid.specs.declared.Cell.{Cell}
 use Rattle.heesch_grid.specs.declared.isometries.Iso.{Iso}
@@ -9,8 +9,7 @@ use Rattle.heesch_grid.specs.Tiling.{IsPeriodicCover}
 use Rattle.heesch_grid.proofs.ListFacts.{All-from_members}
 use Rattle.heesch_tiling.specs.Counting.{IsDoubled, IsInRange, IsMissed}
 use Rattle.heesch_tiling.specs.CoverAnswer.{IsCoverAnswer}
-use Rattle.heesch_tiling.specs.declared.check.Cover.{Cover}
-use Rattle.heesch_tiling.specs.declared.check.Cover.TheVariants.{Exact, Doubled, Missed}
+use Rattle.heesch_tiling.specs.declared.check.Cover.TheVariants.{Doubled, Missed}
 use Rattle.heesch_audit.specs.Near.{IsNearIso}
 
 pub in_range : (g : Geometry) (places : List Iso) → All (IsIsometry g) places → All IsNearIso places → All (IsInRange g) places
@@ -28,7 +27,8 @@ module _ (g : Geometry) (shape : List Cell) (t : Triple) (places : List Iso) (co
       m.none once.value once.holds
 
 -- an answer but that the cover is exact rules it out
-pub not_exact : (g : Geometry) (shape : List Cell) (t : Triple) (places : List Iso) (answer : Cover) → IsCoverAnswer g shape t places answer → ¬ (answer ≡ Exact) → ¬ IsPeriodicCover g shape t places
-not_exact g shape t places Exact found other cover = other refl
-not_exact g shape t places (Doubled c) found other cover = not_doubled g shape t places cover c found.holds.0 found.holds.1
-not_exact g shape t places (Missed c) found other cover = not_missed g shape t places cover c found.1.holds.0 found.1.holds.1
+pub doubled_not_exact : (g : Geometry) (shape : List Cell) (t : Triple) (places : List Iso) (c : Cell) → IsCoverAnswer g shape t places (Doubled c) → ¬ IsPeriodicCover g shape t places
+doubled_not_exact g shape t places c found cover = not_doubled g shape t places cover c found.holds.0 found.holds.1
+
+pub missed_not_exact : (g : Geometry) (shape : List Cell) (t : Triple) (places : List Iso) (c : Cell) → IsCoverAnswer g shape t places (Missed c) → ¬ IsPeriodicCover g shape t places
+missed_not_exact g shape t places c found cover = not_missed g shape t places cover c found.1.holds.0 found.1.holds.1

@@ -1,6 +1,6 @@
 -- An entry is true exactly where each portion of it holds.
 use Rattle.std.proofs.Common.{◌≡◌, refl, sym, subst, ℕ, zero, suc, ◌<◌, ◌≤◌, ◌%◌, true, false, List, length, get_or, All, arith, inl, inr, true≢false}
-use Rattle.std.specs.Prelude.{◌↔◌, Option, Some, None, IfSome, IfNone, Bool, is_some, not, IsTrue, slice_get}
+use Rattle.std.specs.Prelude.{◌↔◌, Option, Some, None, MatchOption, Bool, is_some, not, IsTrue, slice_get}
 use Rattle.std.proofs.Math.Nat.{mod-eq_of_lt, mod-le, mod-lt, mod-one}
 use Rattle.std.proofs.lemmas.List.Elements.{All-nil, All-get_or}
 use Rattle.std.proofs.lemmas.Option.{get_or_from_slice_get, slice_get-get_or, slice_get_cases, slice_get_within}
@@ -21,7 +21,7 @@ use Rattle.heesch_cert.specs.TrueEntry.{IsTrueEntry, TriplesHold}
 use Rattle.heesch_audit.specs.Portions.{triples_of, AreProved, AreTriplesAsked, AreTriplesFor, HoldsBesideProofs, PartsHold, PortionHolds}
 use Rattle.heesch_audit.specs.Shapes.{AreCanonical}
 use Rattle.heesch_audit.proofs.Listed.{have_domains}
-use Rattle.heesch_audit.proofs.Parts.{all_hold}
+use Rattle.heesch_audit.proofs.Parts.{parts_hold, true_where}
 
 -- what holds of each item by its place holds of all, and the other way round
 pub all_at : {X : Type 0} (P : X → Type 0) (xs : List X) → ((at : ℕ) (x : X) → slice_get xs at ≡ Some x → P x) → All P xs
@@ -102,25 +102,18 @@ module _ (g : Geometry) (limits : Limits) (entry : Entry) where
   fails_beside : AreCanonical g entry.cells → (part : ℕ) → part ≤ 8 → IsLeastFailing g limits entry part → ¬ PartsHold g limits entry
   fails_beside shape zero few f h = f.fails tt
   fails_beside shape (suc zero) few f h = f.fails shape
-  fails_beside shape (suc (suc zero)) few f h = f.fails h.form
-  fails_beside shape (suc (suc (suc zero))) few f h = f.fails h.cover
-  fails_beside shape (suc (suc (suc (suc zero)))) few f h = f.fails h.classes
-  fails_beside shape (suc (suc (suc (suc (suc zero))))) few f h = f.fails h.free
-  fails_beside shape (suc (suc (suc (suc (suc (suc zero)))))) few f h = f.fails h.wall
-  fails_beside shape (suc (suc (suc (suc (suc (suc (suc zero))))))) few f h = f.fails h.wider
-  fails_beside shape (suc (suc (suc (suc (suc (suc (suc (suc zero)))))))) few f h = f.fails h.bare
-  fails_beside shape (suc (suc (suc (suc (suc (suc (suc (suc (suc n))))))))) few f h = absurd (omega (arith, few))
+  fails_beside shape (suc (suc n)) few f h = f.fails (h (suc (suc n)) (omega arith) few)
 
   -- whether no part fails is whether the parts hold
-  pub parts_answer : AreCanonical g entry.cells → (failing : Option ℕ) (none : Bool) → is_some failing ≡ not none → IfNone failing (PartsHold g limits entry) → IfSome failing (λ part. (part ≤ 8) × IsLeastFailing g limits entry part) → IsTrue none ↔ PartsHold g limits entry
-  parts_answer shape None true is hold fail = ((λ t. hold), (λ parts. refl))
-  parts_answer shape None false is hold fail = absurd (true≢false (sym is))
-  parts_answer shape (Some part) true is hold fail = absurd (true≢false is)
-  parts_answer shape (Some part) false is hold fail = ((λ t. absurd (true≢false (sym t))), (λ parts. absurd (fails_beside shape part fail.0 fail.1 parts)))
+  pub parts_answer : AreCanonical g entry.cells → (failing : Option ℕ) (none : Bool) → is_some failing ≡ not none → MatchOption failing (PartsHold g limits entry) (λ part. (part ≤ 8) × IsLeastFailing g limits entry part) → IsTrue none ↔ PartsHold g limits entry
+  parts_answer shape None true is hold = ((λ t. hold), (λ parts. refl))
+  parts_answer shape None false is hold = absurd (true≢false (sym is))
+  parts_answer shape (Some part) true is fail = absurd (true≢false is)
+  parts_answer shape (Some part) false is fail = ((λ t. absurd (true≢false (sym t))), (λ parts. absurd (fails_beside shape part fail.0 fail.1 parts)))
 
 module _ (g : Geometry) (limits : Limits) (entry : Entry) where
   parts_of : IsTrueEntry g limits entry → PartsHold g limits entry
-  parts_of e = record { form = e.form; cover = e.cover; classes = e.classes; free = e.free; wall = e.wall; wider = e.wider; bare = e.bare }
+  parts_of e = parts_hold g limits entry e.shape e.form e.cover e.classes e.free e.wall e.wider e.bare
 
   portion_of : IsTrueEntry g limits entry → (portion portions : ℕ) → PortionHolds g limits entry portion portions
   portion_of e portion portions =
@@ -130,9 +123,8 @@ module _ (g : Geometry) (limits : Limits) (entry : Entry) where
   entry_of : (portions : ℕ) → 1 ≤ portions → ((portion : ℕ) → portion < portions → PortionHolds g limits entry portion portions) → IsTrueEntry g limits entry
   entry_of portions some each =
       let all = (each 0 some).beside refl in
-      let parts = all.parts in
       let settled = all_at (Settles g limits entry.cells) (triples_of entry.evidence) (λ at x is. ((each (at % portions) (mod-lt at some)).proofs at x is refl).settled) in
-      all_hold g limits entry all.shape parts.form parts.cover parts.classes parts.free parts.wall parts.wider parts.bare (triples_from g limits entry.cells entry.verdict entry.evidence all.asked settled)
+      true_where g limits entry all.shape all.parts (triples_from g limits entry.cells entry.verdict entry.evidence all.asked settled)
 
 -- an entry is true exactly where each of its portions holds
 pub portions_make_the_entry : (g : Geometry) (limits : Limits) (entry : Entry) (portions : ℕ) → 1 ≤ portions → IsTrueEntry g limits entry ↔ ((portion : ℕ) → portion < portions → PortionHolds g limits entry portion portions)

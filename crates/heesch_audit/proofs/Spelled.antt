@@ -22,14 +22,14 @@ use Rattle.heesch_corona.specs.Tiles.{IsInRange, AreTilesOf}
 use Rattle.heesch_audit.specs.Near.{IsNearIso, AreNearLayers}
 use Rattle.heesch_audit.specs.Spelling.{IsSpelledAfter, tile_of}
 
-less_is : (o : Ordering) → is_lt o ≡ true → o ≡ Less
-less_is Less e = refl
-less_is Equal e = absurd (let n : ⊥ = cc in n)
-less_is Greater e = absurd (let n : ⊥ = cc in n)
-
 before_trans : (x y z : List Cell) → cells_before x y ≡ true → cells_before y z ≡ true → cells_before x z ≡ true
 before_trans x y z p q =
     sym (cells_less x z) ∙ ap is_lt (list_total.trans x y z (less_is (slice_cmp cell_cmp x y) (cells_less x y ∙ p)) (less_is (slice_cmp cell_cmp y z) (cells_less y z ∙ q)))
+  where
+    less_is : (o : Ordering) → is_lt o ≡ true → o ≡ Less
+    less_is Less e = refl
+    less_is Equal e = absurd (let n : ⊥ = cc in n)
+    less_is Greater e = absurd (let n : ⊥ = cc in n)
 
 module _ (g : Geometry) (shape : List Cell) where
   pub spelled_none : (last : Option (List Cell)) → IsSpelledAfter g shape last []

@@ -1,5 +1,5 @@
 -- An audit in portions, which share the proofs of triples among them.
-use Rattle.std.specs.Prelude.{◌≡◌, ◌%◌, ℕ, Some, List, [], map, length, slice_get, ⊤}
+use Rattle.std.specs.Prelude.{◌≡◌, ◌≤◌, ◌%◌, ℕ, Some, List, [], map, length, slice_get, ⊤}
 use Rattle.heesch_grid.specs.declared.Cell.{Cell}
 use Rattle.heesch_grid.specs.Geometry.{Geometry}
 use Rattle.heesch_grid.specs.Listing.{ListsExactly}
@@ -9,8 +9,9 @@ use Rattle.heesch_cert.specs.declared.entry.TripleProof.{TripleProof}
 use Rattle.heesch_cert.specs.declared.entry.Evidence.{Evidence}
 use Rattle.heesch_cert.specs.declared.entry.Evidence.TheVariants.{Cover, Search}
 use Rattle.heesch_cert.specs.declared.entry.Entry.{Entry}
+use Rattle.heesch_cert.specs.Parts.{PartHolds}
 use Rattle.heesch_cert.specs.Proofs.{SettlesTriple}
-use Rattle.heesch_cert.specs.TrueEntry.{area_before, IsSearchedTriple, IsUndecided, ShapeHolds, FormHolds, CoverHolds, ClassesHold, FreeHolds, WallHolds, OpenHolds, BareHolds}
+use Rattle.heesch_cert.specs.TrueEntry.{area_before, IsSearchedTriple, IsUndecided, ShapeHolds}
 use Rattle.heesch_audit.specs.Shapes.{AreCanonical}
 
 -- the triples whose proofs the evidence has
@@ -29,14 +30,8 @@ AreTriplesAsked g limits shape verdict (Cover tiling classes) = ⊤
 AreTriplesAsked g limits shape verdict (Search free wall bare wider triples) = AreTriplesFor g limits shape verdict triples
 
 -- the parts 2 to 8 of the entry hold
-pub record PartsHold (g : Geometry) (limits : Limits) (entry : Entry) : Type 0 where
-  pub form : FormHolds g limits entry
-  pub cover : CoverHolds g entry.cells entry.evidence
-  pub classes : ClassesHold g entry.cells entry.verdict entry.evidence
-  pub free : FreeHolds g entry.cells entry.verdict entry.evidence
-  pub wall : WallHolds g limits entry.cells entry.verdict entry.evidence
-  pub wider : OpenHolds g entry.cells entry.evidence
-  pub bare : BareHolds g limits entry.cells entry.verdict entry.evidence
+abbrev pub PartsHold : Geometry → Limits → Entry → Type 0
+PartsHold g limits entry = (part : ℕ) → 2 ≤ part → part ≤ 8 → PartHolds g limits entry part
 
 -- all of a true entry but that the proofs of its triples settle them
 pub record HoldsBesideProofs (g : Geometry) (limits : Limits) (entry : Entry) : Type 0 where

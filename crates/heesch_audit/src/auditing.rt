@@ -1,5 +1,5 @@
 //! The audit of an entry.
-ghost use Rattle.std.specs.Prelude.{◌≡◌, ◌≤◌, ◌↔◌, ℕ, IfOk, IfSome, IfNone};
+ghost use Rattle.std.specs.Prelude.{◌≡◌, ◌≤◌, ◌↔◌, ℕ, IfOk, MatchOption};
 ghost use Rattle.heesch_cert.specs.Limits.{AreLimits};
 ghost use Rattle.heesch_cert.specs.Parts.{IsLeastFailing};
 ghost use Rattle.heesch_cert.specs.RightVerdict.{HasRightVerdict};
@@ -8,16 +8,11 @@ ghost use Rattle.heesch_audit.specs.Near.{IsNearEntry};
 ghost use Rattle.heesch_audit.specs.Portions.{PartsHold};
 ghost use Rattle.heesch_audit.specs.Shapes.{AreCanonical, IsCanonicalShape};
 
-use crate::coronas::free_holds;
-use crate::cover::{classes_hold, cover_holds};
-use crate::form::form_fits;
+use crate::audited::Audited;
 use crate::shaped::canonical_shape;
-use crate::triples::triples_hold;
-use crate::walls::failing_search;
 use heesch_cert::{Entry, Limits};
 use heesch_grid::Grid;
 use heesch_io::NoMemory;
-use heesch_shape::Shape;
 use std::alloc::Global;
 use std::thread::Threads;
 
@@ -32,35 +27,34 @@ pub enum EntryAnswer {
     Invalid { part: u32 },
 }
 
-/// The least of the parts 2 to 8 that fails, where the shape is that of the entry.
-pub(crate) fn failing_part<G: Grid, R: Threads + Sync>(
-    rt: &R,
-    alloc: Global,
-    shape: &Shape<G>,
-    entry: &Entry,
-    limits: Limits,
-) -> Result<Option<u32>, NoMemory>
-    requires shape { IsCanonicalShape G.geometry shape.now }
-    requires same { shape.now ≡ entry.now.cells }
-    requires canonical { AreCanonical G.geometry entry.now.cells }
-    requires limits { AreLimits limits }
-    requires near { IsNearEntry entry.now }
-    ensures none { IfOk result (λ failing. IfNone failing (PartsHold G.geometry limits entry.now)) }
-    ensures some { IfOk result (λ failing. IfSome failing (λ part. (part ≤ 8) × IsLeastFailing G.geometry limits entry.now part)) }
-{
-    if !form_fits(shape, limits, entry.verdict, &entry.evidence) {
-        return Ok(Some(2));
+impl<'a, G: Grid> Audited<'a, G> {
+    /// The least of the parts 2 to 8 that fails, where the shape is that of the entry.
+    pub(crate) fn failing_part<R: Threads + Sync>(
+        &self,
+        rt: &R,
+        alloc: Global,
+    ) -> Result<Option<u32>, NoMemory>
+        requires shape { IsCanonicalShape G.geometry self.now.shape.now }
+        requires same { self.now.shape.now ≡ self.now.entry.now.cells }
+        requires canonical { AreCanonical G.geometry self.now.entry.now.cells }
+        requires limits { AreLimits self.now.limits }
+        requires near { IsNearEntry self.now.entry.now }
+        ensures { IfOk result (λ failing. MatchOption failing (PartsHold G.geometry self.now.limits self.now.entry.now) (λ part. (part ≤ 8) × IsLeastFailing G.geometry self.now.limits self.now.entry.now part)) }
+    {
+        if !self.form_fits() {
+            return Ok(Some(2));
+        }
+        if !self.cover_holds(alloc)? {
+            return Ok(Some(3));
+        }
+        if !self.classes_hold(alloc)? {
+            return Ok(Some(4));
+        }
+        if !self.free_holds(alloc)? {
+            return Ok(Some(5));
+        }
+        self.failing_search(rt, alloc)
     }
-    if !cover_holds(alloc, shape, &entry.evidence)? {
-        return Ok(Some(3));
-    }
-    if !classes_hold(alloc, shape, entry.verdict, &entry.evidence)? {
-        return Ok(Some(4));
-    }
-    if !free_holds(alloc, shape, entry.verdict, &entry.evidence)? {
-        return Ok(Some(5));
-    }
-    failing_search(rt, alloc, shape, limits, entry.verdict, &entry.evidence)
 }
 
 /// Whether the entry is true under the grid and the limits; else the least of its nine parts that fails.
@@ -88,10 +82,15 @@ pub fn audit<G: Grid, R: Threads + Sync>(
     let Some(shape) = canonical_shape::<G>(entry.cells.as_slice()) else {
         return Ok(EntryAnswer::Invalid { part: 1 });
     };
-    if let Some(part) = failing_part(rt, alloc, &shape, entry, limits)? {
+    let audited = Audited {
+        shape: &shape,
+        entry,
+        limits,
+    };
+    if let Some(part) = audited.failing_part(rt, alloc)? {
         return Ok(EntryAnswer::Invalid { part });
     }
-    if !triples_hold(rt, alloc, &shape, limits, entry.verdict, &entry.evidence)? {
+    if !audited.triples_hold(rt, alloc)? {
         return Ok(EntryAnswer::Invalid { part: 9 });
     }
     Ok(EntryAnswer::Valid)

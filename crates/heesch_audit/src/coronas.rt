@@ -6,9 +6,10 @@ ghost use Rattle.heesch_audit.specs.Near.{AreNearLayers, IsNearEvidence, IsNearW
 ghost use Rattle.heesch_audit.specs.Shapes.{IsCanonicalShape};
 ghost use Rattle.heesch_audit.specs.Spelling.{SpellCoronas};
 
+use crate::audited::Audited;
 use crate::spelling::are_spelled;
 use crate::walls::first_number;
-use heesch_cert::{Evidence, Layers, Verdict};
+use heesch_cert::{Evidence, Layers};
 use heesch_corona::{CoronaAnswer, check_coronas};
 use heesch_grid::Grid;
 use heesch_io::NoMemory;
@@ -19,10 +20,7 @@ use std::alloc::Global;
 fn is_holding(answer: &CoronaAnswer) -> bool
     ensures { IsTrue result ↔ (answer.now ≡ CoronaAnswer.Holds) }
 {
-    match answer {
-        CoronaAnswer::Holds => true,
-        _ => false,
-    }
+    matches!(answer, CoronaAnswer::Holds)
 }
 
 /// Whether the layers spell coronas, hole-free ones where `hole_free`.
@@ -61,26 +59,23 @@ pub(crate) fn is_open<G: Grid>(
     }
 }
 
-/// Part 5: whether the layers of the evidence, where it is of searches, are hole-free coronas, as many as the verdict
-/// says. The form being right, there are at most six.
-pub(crate) fn free_holds<G: Grid>(
-    alloc: Global,
-    shape: &Shape<G>,
-    verdict: Verdict,
-    evidence: &Evidence,
-) -> Result<bool, NoMemory>
-    requires shape { IsCanonicalShape G.geometry shape.now }
-    requires bounds { HasFewLayers verdict evidence.now }
-    requires near { IsNearEvidence evidence.now }
-    ensures { IfOk result (λ yes. IsTrue yes ↔ FreeHolds G.geometry shape.now verdict evidence.now) }
-{
-    match evidence {
-        Evidence::Cover { .. } => Ok(true),
-        Evidence::Search { free, .. } => {
-            if free.layers.len() != first_number(verdict) as usize {
-                return Ok(false);
+impl<'a, G: Grid> Audited<'a, G> {
+    /// Part 5: whether the layers of the evidence, where it is of searches, are hole-free coronas, as many as the
+    /// verdict says. The form being right, there are at most six.
+    pub(crate) fn free_holds(&self, alloc: Global) -> Result<bool, NoMemory>
+        requires shape { IsCanonicalShape G.geometry self.now.shape.now }
+        requires bounds { HasFewLayers self.now.entry.now.verdict self.now.entry.now.evidence }
+        requires near { IsNearEvidence self.now.entry.now.evidence }
+        ensures { IfOk result (λ yes. IsTrue yes ↔ FreeHolds G.geometry self.now.shape.now self.now.entry.now.verdict self.now.entry.now.evidence) }
+    {
+        match &self.entry.evidence {
+            Evidence::Cover { .. } => Ok(true),
+            Evidence::Search { free, .. } => {
+                if free.layers.len() != first_number(self.entry.verdict) as usize {
+                    return Ok(false);
+                }
+                spell_coronas(alloc, self.shape, free, true)
             }
-            spell_coronas(alloc, shape, free, true)
         }
     }
 }

@@ -8,6 +8,7 @@ ghost use Rattle.heesch_audit.specs.Bounds.{HasFewPlaces};
 ghost use Rattle.heesch_audit.specs.Near.{IsNearIso, IsNearEvidence};
 ghost use Rattle.heesch_audit.specs.Shapes.{IsCanonicalShape};
 
+use crate::audited::Audited;
 use heesch_cert::{Classes, Evidence, Member, Tiling, Verdict};
 use heesch_grid::{Grid, Iso, Sizes};
 use heesch_io::NoMemory;
@@ -40,7 +41,8 @@ fn is_cover<G: Grid>(alloc: Global, shape: &Shape<G>, tiling: &Tiling) -> Result
     }
     match check_cover(alloc, shape, tiling)? {
         Cover::Exact => Ok(true),
-        _ => Ok(false),
+        Cover::Doubled { .. } => Ok(false),
+        Cover::Missed { .. } => Ok(false),
     }
 }
 
@@ -83,43 +85,36 @@ fn are_classes<G: Grid>(
     Ok(are_same_members(found.members.as_slice(), written.members.as_slice()))
 }
 
-/// Part 3: whether the evidence, where it is a cover, is a periodic one. The form being right, it has at most 12
-/// places.
-pub(crate) fn cover_holds<G: Grid>(
-    alloc: Global,
-    shape: &Shape<G>,
-    evidence: &Evidence,
-) -> Result<bool, NoMemory>
-    requires shape { IsCanonicalShape G.geometry shape.now }
-    requires bounds { HasFewPlaces evidence.now }
-    requires near { IsNearEvidence evidence.now }
-    ensures { IfOk result (λ yes. IsTrue yes ↔ CoverHolds G.geometry shape.now evidence.now) }
-{
-    match evidence {
-        Evidence::Cover { tiling, .. } => is_cover(alloc, shape, tiling),
-        Evidence::Search { .. } => Ok(true),
+impl<'a, G: Grid> Audited<'a, G> {
+    /// Part 3: whether the evidence, where it is a cover, is a periodic one. The form being right, it has at most 12
+    /// places.
+    pub(crate) fn cover_holds(&self, alloc: Global) -> Result<bool, NoMemory>
+        requires shape { IsCanonicalShape G.geometry self.now.shape.now }
+        requires bounds { HasFewPlaces self.now.entry.now.evidence }
+        requires near { IsNearEvidence self.now.entry.now.evidence }
+        ensures { IfOk result (λ yes. IsTrue yes ↔ CoverHolds G.geometry self.now.shape.now self.now.entry.now.evidence) }
+    {
+        match &self.entry.evidence {
+            Evidence::Cover { tiling, .. } => is_cover(alloc, self.shape, tiling),
+            Evidence::Search { .. } => Ok(true),
+        }
     }
-}
 
-/// Part 4: whether the classes of the evidence, where it is a cover, are those of the cover, as many as the verdict
-/// says.
-pub(crate) fn classes_hold<G: Grid>(
-    alloc: Global,
-    shape: &Shape<G>,
-    verdict: Verdict,
-    evidence: &Evidence,
-) -> Result<bool, NoMemory>
-    requires shape { IsCanonicalShape G.geometry shape.now }
-    requires bounds { HasFewPlaces evidence.now }
-    requires cover { CoverHolds G.geometry shape.now evidence.now }
-    requires near { IsNearEvidence evidence.now }
-    ensures { IfOk result (λ yes. IsTrue yes ↔ ClassesHold G.geometry shape.now verdict evidence.now) }
-{
-    let Evidence::Cover { tiling, classes } = evidence else {
-        return Ok(true);
-    };
-    let Verdict::Tiles { classes: count, .. } = verdict else {
-        return Ok(false);
-    };
-    are_classes(alloc, shape, tiling, classes, count)
+    /// Part 4: whether the classes of the evidence, where it is a cover, are those of the cover, as many as the verdict
+    /// says.
+    pub(crate) fn classes_hold(&self, alloc: Global) -> Result<bool, NoMemory>
+        requires shape { IsCanonicalShape G.geometry self.now.shape.now }
+        requires bounds { HasFewPlaces self.now.entry.now.evidence }
+        requires cover { CoverHolds G.geometry self.now.shape.now self.now.entry.now.evidence }
+        requires near { IsNearEvidence self.now.entry.now.evidence }
+        ensures { IfOk result (λ yes. IsTrue yes ↔ ClassesHold G.geometry self.now.shape.now self.now.entry.now.verdict self.now.entry.now.evidence) }
+    {
+        let Evidence::Cover { tiling, classes } = &self.entry.evidence else {
+            return Ok(true);
+        };
+        let Verdict::Tiles { classes: count, .. } = self.entry.verdict else {
+            return Ok(false);
+        };
+        are_classes(alloc, self.shape, tiling, classes, count)
+    }
 }

@@ -9,100 +9,70 @@ use heesch_cert::{Bare, Layers, Limits, Phase, Verdict, Wall};
 fn is_no_wall(wall: &Wall) -> bool
     ensures { IsTrue result ↔ (wall.now ≡ Wall.Absent) }
 {
-    match wall {
-        Wall::Absent => true,
-        _ => false,
-    }
+    matches!(wall, Wall::Absent)
 }
 
 /// Whether that search was refuted.
 fn is_wall_refuted(wall: &Wall) -> bool
     ensures { IsTrue result ↔ IsWallRefuted wall.now }
 {
-    match wall {
-        Wall::Refuted { .. } => true,
-        _ => false,
-    }
+    matches!(wall, Wall::Refuted { .. })
 }
 
 /// Whether it took all its turns.
 fn is_wall_spent(wall: &Wall) -> bool
     ensures { IsTrue result ↔ IsWallSpent wall.now }
 {
-    match wall {
-        Wall::Spent { .. } => true,
-        _ => false,
-    }
+    matches!(wall, Wall::Spent { .. })
 }
 
 /// Whether its formula was too large.
 fn is_wall_size(wall: &Wall) -> bool
     ensures { IsTrue result ↔ (wall.now ≡ Wall.Size) }
 {
-    match wall {
-        Wall::Size => true,
-        _ => false,
-    }
+    matches!(wall, Wall::Size)
 }
 
 /// Whether no search was made with holes allowed.
 fn is_no_bare(bare: &Bare) -> bool
     ensures { IsTrue result ↔ (bare.now ≡ Bare.Absent) }
 {
-    match bare {
-        Bare::Absent => true,
-        _ => false,
-    }
+    matches!(bare, Bare::Absent)
 }
 
 /// Whether the refutation serves for both.
 pub(crate) fn is_same(bare: &Bare) -> bool
     ensures { IsTrue result ↔ (bare.now ≡ Bare.Same) }
 {
-    match bare {
-        Bare::Same => true,
-        _ => false,
-    }
+    matches!(bare, Bare::Same)
 }
 
 /// Whether the search with holes allowed was refuted.
 fn is_bare_refuted(bare: &Bare) -> bool
     ensures { IsTrue result ↔ IsBareRefuted bare.now }
 {
-    match bare {
-        Bare::Refuted { .. } => true,
-        _ => false,
-    }
+    matches!(bare, Bare::Refuted { .. })
 }
 
 /// Whether it took all its turns.
 fn is_bare_spent(bare: &Bare) -> bool
     ensures { IsTrue result ↔ IsBareSpent bare.now }
 {
-    match bare {
-        Bare::Spent { .. } => true,
-        _ => false,
-    }
+    matches!(bare, Bare::Spent { .. })
 }
 
 /// Whether its formula was too large.
 fn is_bare_size(bare: &Bare) -> bool
     ensures { IsTrue result ↔ (bare.now ≡ Bare.Size) }
 {
-    match bare {
-        Bare::Size => true,
-        _ => false,
-    }
+    matches!(bare, Bare::Size)
 }
 
 /// Whether it found as many coronas as the limit.
 fn is_open(bare: &Bare) -> bool
     ensures { IsTrue result ↔ (bare.now ≡ Bare.Open) }
 {
-    match bare {
-        Bare::Open => true,
-        _ => false,
-    }
+    matches!(bare, Bare::Open)
 }
 
 /// Whether there are no wider layers.

@@ -8,6 +8,7 @@ ghost use Rattle.heesch_cert.specs.declared.tiling.Classes.{Classes as Written};
 ghost use Rattle.heesch_audit.specs.Shapes.{IsCanonicalShape};
 ghost use Rattle.heesch_audit.specs.Plains.{IsNoneAdmitted, IsByTranslation, IsByHalfTurn};
 
+use crate::audited::Audited;
 use crate::fits::fits_verdict;
 use heesch_cert::{Bare, Evidence, Kind, Layers, Limits, Tiling, Verdict, Wall};
 use heesch_grid::{Grid, Iso, Sizes};
@@ -155,24 +156,22 @@ fn search_fits<G: Grid>(
     is_none_admitted(limits, &plain(shape))
 }
 
-/// Whether the verdict fits its evidence, and a plain tiling that the limit on domains admits is the verdict.
-pub(crate) fn form_fits<G: Grid>(
-    shape: &Shape<G>,
-    limits: Limits,
-    verdict: Verdict,
-    evidence: &Evidence,
-) -> bool
-    requires shape { IsCanonicalShape G.geometry shape.now }
-    requires limits { AreLimits limits }
-    ensures { IsTrue result ↔ FormFits G.geometry limits shape.now verdict evidence.now }
-{
-    match evidence {
-        Evidence::Cover { tiling, .. } => cover_fits(shape, limits, verdict, tiling),
-        Evidence::Search {
-            wall,
-            bare,
-            wider,
-            ..
-        } => search_fits(shape, limits, verdict, wall, bare, wider),
+impl<'a, G: Grid> Audited<'a, G> {
+    /// Whether the verdict fits its evidence, and a plain tiling that the limit on domains admits is the verdict.
+    pub(crate) fn form_fits(&self) -> bool
+        requires shape { IsCanonicalShape G.geometry self.now.shape.now }
+        requires limits { AreLimits self.now.limits }
+        ensures { IsTrue result ↔ FormFits G.geometry self.now.limits self.now.shape.now self.now.entry.now.verdict self.now.entry.now.evidence }
+    {
+        let (shape, limits, verdict) = (self.shape, self.limits, self.entry.verdict);
+        match &self.entry.evidence {
+            Evidence::Cover { tiling, .. } => cover_fits(shape, limits, verdict, tiling),
+            Evidence::Search {
+                wall,
+                bare,
+                wider,
+                ..
+            } => search_fits(shape, limits, verdict, wall, bare, wider),
+        }
     }
 }

@@ -2,14 +2,15 @@
 ghost use Rattle.std.specs.Prelude.{◌≡◌, ◌≤◌, ◌↔◌, IsTrue, IfOk, IfSome, MatchOption};
 ghost use Rattle.heesch_cert.specs.Limits.{AreLimits};
 ghost use Rattle.heesch_cert.specs.Proofs.{IsTooLarge};
+ghost use Rattle.heesch_cert.specs.TrueEntry.{WallShows};
 ghost use Rattle.heesch_audit.specs.Ends.{EndsCoronas};
 ghost use Rattle.heesch_audit.specs.Formulas.{IsLevelFormula};
-ghost use Rattle.heesch_audit.specs.Near.{IsNearProof};
+ghost use Rattle.heesch_audit.specs.Near.{IsNearProof, IsNearWall};
 ghost use Rattle.heesch_audit.specs.Shapes.{IsCanonicalShape};
 
 use crate::logs::{is_ended, lawful_log};
 use crate::proof_end::ProofEnd;
-use heesch_cert::{Limits, Proof};
+use heesch_cert::{Limits, Proof, Wall};
 use heesch_encode::{EncodeStop, FlatEncoded, encode_flat};
 use heesch_grid::Grid;
 use heesch_io::NoMemory;
@@ -95,6 +96,27 @@ impl<G: Grid> LevelFormula<G> {
         match &self.encoded {
             None => true,
             Some(_) => false,
+        }
+    }
+
+    /// Whether the search for one corona more, which is over the formula, ended as is written.
+    pub(crate) fn shows_wall<R: Threads + Sync>(
+        &self,
+        rt: &R,
+        alloc: Global,
+        shape: &Shape<G>,
+        wall: &Wall,
+    ) -> Result<bool, NoMemory>
+        requires shape { IsCanonicalShape G.geometry shape.now }
+        requires formula { IsLevelFormula G.geometry self.now.limits shape.now self.now.level self.now.encoded }
+        requires near { IsNearWall wall.now }
+        ensures { IfOk result (λ yes. IsTrue yes ↔ WallShows G.geometry self.now.limits shape.now self.now.level wall.now) }
+    {
+        match wall {
+            Wall::Absent => Ok(true),
+            Wall::Refuted { proof } => self.is_ended_by(rt, alloc, shape, ProofEnd::Refuted, proof),
+            Wall::Spent { proof } => self.is_ended_by(rt, alloc, shape, ProofEnd::Spent, proof),
+            Wall::Size => Ok(self.is_too_large(shape)),
         }
     }
 }

@@ -1,6 +1,7 @@
 //! The check of entries, each part by the checker of its own crate and none by the searches that made it.
 #![tactic(auto)]
 
+mod audited;
 mod auditing;
 mod coronas;
 mod cover;
@@ -23,6 +24,3 @@ pub use near::is_near;
 pub use proof_end::ProofEnd;
 pub use split::{most_portions, portion_holds};
 pub use walls::first_number;
-
-#[cfg(test)]
-mod tests;

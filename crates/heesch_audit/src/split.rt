@@ -5,13 +5,12 @@ ghost use Rattle.heesch_audit.specs.Near.{IsNearEntry};
 ghost use Rattle.heesch_audit.specs.Portions.{triples_of, PartsHold, PortionHolds};
 ghost use Rattle.heesch_audit.specs.Shapes.{AreCanonical, IsCanonicalShape};
 
-use crate::auditing::failing_part;
+use crate::audited::Audited;
 use crate::shaped::canonical_shape;
-use crate::triples::{are_asked, are_proved, triples_of};
+use crate::triples::triples_of;
 use heesch_cert::{Entry, Limits};
 use heesch_grid::Grid;
 use heesch_io::NoMemory;
-use heesch_shape::Shape;
 use std::alloc::Global;
 use std::thread::Threads;
 
@@ -23,28 +22,28 @@ pub fn most_portions(entry: &Entry) -> usize
     triples_of(&entry.evidence).len().max(1)
 }
 
-/// Whether the parts 2 to 8 of the entry hold, where this is the first portion and the shape that of the entry; no
-/// other portion asks for them.
-fn are_parts_due<G: Grid, R: Threads + Sync>(
-    rt: &R,
-    alloc: Global,
-    shape: &Shape<G>,
-    entry: &Entry,
-    limits: Limits,
-    portion: u32,
-) -> Result<bool, NoMemory>
-    requires shape { IsCanonicalShape G.geometry shape.now }
-    requires same { shape.now ≡ entry.now.cells }
-    requires canonical { AreCanonical G.geometry entry.now.cells }
-    requires limits { AreLimits limits }
-    requires near { IsNearEntry entry.now }
-    ensures { IfOk result (λ yes. IsTrue yes ↔ (portion ≡ 0 → PartsHold G.geometry limits entry.now)) }
-{
-    if portion > 0 {
-        return Ok(true);
+impl<'a, G: Grid> Audited<'a, G> {
+    /// Whether the parts 2 to 8 of the entry hold, where this is the first portion and the shape that of the entry; no
+    /// other portion asks for them.
+    fn are_parts_due<R: Threads + Sync>(
+        &self,
+        rt: &R,
+        alloc: Global,
+        portion: u32,
+    ) -> Result<bool, NoMemory>
+        requires shape { IsCanonicalShape G.geometry self.now.shape.now }
+        requires same { self.now.shape.now ≡ self.now.entry.now.cells }
+        requires canonical { AreCanonical G.geometry self.now.entry.now.cells }
+        requires limits { AreLimits self.now.limits }
+        requires near { IsNearEntry self.now.entry.now }
+        ensures { IfOk result (λ yes. IsTrue yes ↔ (portion ≡ 0 → PartsHold G.geometry self.now.limits self.now.entry.now)) }
+    {
+        if portion > 0 {
+            return Ok(true);
+        }
+        let failing = self.failing_part(rt, alloc)?;
+        Ok(failing.is_none())
     }
-    let failing = failing_part(rt, alloc, shape, entry, limits)?;
-    Ok(failing.is_none())
 }
 
 /// Whether a portion has none of so many triples, nor what the first one has.
@@ -83,11 +82,16 @@ pub fn portion_holds<G: Grid, R: Threads + Sync>(
     let Some(shape) = canonical_shape::<G>(entry.cells.as_slice()) else {
         return Ok(false);
     };
-    if !are_asked(alloc, &shape, limits, entry.verdict, &entry.evidence)? {
+    let audited = Audited {
+        shape: &shape,
+        entry,
+        limits,
+    };
+    if !audited.are_asked(alloc)? {
         return Ok(false);
     }
-    if !are_parts_due(rt, alloc, &shape, entry, limits, portion)? {
+    if !audited.are_parts_due(rt, alloc, portion)? {
         return Ok(false);
     }
-    are_proved(rt, alloc, &shape, limits.turns, written, portion, portions)
+    audited.are_proved(rt, alloc, written, portion, portions)
 }

@@ -8,12 +8,12 @@ ghost use Rattle.heesch_cert.specs.TrueEntry.{IsUndecided, TriplesHold};
 ghost use Rattle.heesch_audit.specs.Portions.{triples_of, AreProved, AreTriplesAsked};
 ghost use Rattle.heesch_audit.specs.Shapes.{IsCanonicalShape};
 
+use crate::audited::Audited;
 use crate::logs::{end_of, is_ended, learnt_log};
-use heesch_cert::{Evidence, Limits, TripleProof, Verdict};
+use heesch_cert::{Evidence, TripleProof, Verdict};
 use heesch_grid::Grid;
 use heesch_io::NoMemory;
 use heesch_lattice::Triple;
-use heesch_shape::Shape;
 use heesch_torus::{torus_formula, triples_up_to};
 use std::alloc::Global;
 use std::thread::Threads;
@@ -46,78 +46,6 @@ fn are_triples_of(written: &[TripleProof], all: &[Triple]) -> bool
     true
 }
 
-/// Whether the proof has no cut, and refutes the torus formula of its triple or is spent for so many turns over it.
-fn is_settled<G: Grid, R: Threads + Sync>(
-    rt: &R,
-    alloc: Global,
-    shape: &Shape<G>,
-    turns: u32,
-    written: &TripleProof,
-) -> Result<bool, NoMemory>
-    requires shape { IsCanonicalShape G.geometry shape.now }
-    requires domain { HasDomain G.geometry (length shape.now) written.now.triple }
-    ensures { IfOk result (λ yes. IsTrue yes ↔ SettlesTriple G.geometry shape.now turns written.now.triple written.now.proof) }
-{
-    let Some(log) = learnt_log(alloc, &written.proof) else {
-        return Ok(false);
-    };
-    let formula = torus_formula(alloc, shape, written.triple)?;
-    is_ended(rt, alloc, &formula, &log, end_of(&log), turns)
-}
-
-/// Whether the proof of each so many-th of the triples, from the portion's first on, settles it.
-pub(crate) fn are_proved<G: Grid, R: Threads + Sync>(
-    rt: &R,
-    alloc: Global,
-    shape: &Shape<G>,
-    turns: u32,
-    written: &[TripleProof],
-    portion: u32,
-    portions: u32,
-) -> Result<bool, NoMemory>
-    requires shape { IsCanonicalShape G.geometry shape.now }
-    requires domains { All (λ (x : Written). HasDomain G.geometry (length shape.now) x.triple) written.now }
-    requires portion { portion < portions }
-    ensures { IfOk result (λ yes. IsTrue yes ↔ AreProved G.geometry shape.now turns written.now portion portions) }
-{
-    let mut at = portion as usize;
-    while at < written.len() {
-        if !is_settled(rt, alloc, shape, turns, &written[at])? {
-            return Ok(false);
-        }
-        at += portions as usize;
-    }
-    Ok(true)
-}
-
-/// Whether for an undecided verdict all triples of the domains from 2 to the limit are written, in order, and for any
-/// other none.
-pub(crate) fn are_asked<G: Grid>(
-    alloc: Global,
-    shape: &Shape<G>,
-    limits: Limits,
-    verdict: Verdict,
-    evidence: &Evidence,
-) -> Result<bool, NoMemory>
-    requires shape { IsCanonicalShape G.geometry shape.now }
-    requires limits { AreLimits limits }
-    ensures { IfOk result (λ yes. IsTrue yes ↔ AreTriplesAsked G.geometry limits shape.now verdict evidence.now) }
-{
-    let Evidence::Search {
-        triples: written,
-        ..
-    } = evidence
-    else {
-        return Ok(true);
-    };
-    if !is_undecided(verdict) {
-        return Ok(written.is_empty());
-    }
-    let count = shape.cells().len() as u32;
-    let all = triples_up_to::<G>(alloc, count, limits.domain)?;
-    Ok(are_triples_of(written.as_slice(), all.as_slice()))
-}
-
 /// The triples whose proofs the evidence has.
 pub(crate) fn triples_of(evidence: &Evidence) -> &[TripleProof]
     ensures { result.now ≡ triples_of evidence.now }
@@ -128,21 +56,86 @@ pub(crate) fn triples_of(evidence: &Evidence) -> &[TripleProof]
     }
 }
 
-/// Whether the triples are those that are asked for, each settled.
-pub(crate) fn triples_hold<G: Grid, R: Threads + Sync>(
-    rt: &R,
-    alloc: Global,
-    shape: &Shape<G>,
-    limits: Limits,
-    verdict: Verdict,
-    evidence: &Evidence,
-) -> Result<bool, NoMemory>
-    requires shape { IsCanonicalShape G.geometry shape.now }
-    requires limits { AreLimits limits }
-    ensures { IfOk result (λ yes. IsTrue yes ↔ TriplesHold G.geometry limits shape.now verdict evidence.now) }
-{
-    if !are_asked(alloc, shape, limits, verdict, evidence)? {
-        return Ok(false);
+impl<'a, G: Grid> Audited<'a, G> {
+    /// Whether the proof has no cut, and refutes the torus formula of its triple or is spent for the limit on turns over
+    /// it.
+    fn is_settled<R: Threads + Sync>(
+        &self,
+        rt: &R,
+        alloc: Global,
+        written: &TripleProof,
+    ) -> Result<bool, NoMemory>
+        requires shape { IsCanonicalShape G.geometry self.now.shape.now }
+        requires domain { HasDomain G.geometry (length self.now.shape.now) written.now.triple }
+        ensures { IfOk result (λ yes. IsTrue yes ↔ SettlesTriple G.geometry self.now.shape.now self.now.limits.turns written.now.triple written.now.proof) }
+    {
+        let Some(log) = learnt_log(alloc, &written.proof) else {
+            return Ok(false);
+        };
+        let formula = torus_formula(alloc, self.shape, written.triple)?;
+        is_ended(rt, alloc, &formula, &log, end_of(&log), self.limits.turns)
     }
-    are_proved(rt, alloc, shape, limits.turns, triples_of(evidence), 0, 1)
+
+    /// Whether the proof of each so many-th of these triples, from the portion's first on, settles it.
+    pub(crate) fn are_proved<R: Threads + Sync>(
+        &self,
+        rt: &R,
+        alloc: Global,
+        written: &[TripleProof],
+        portion: u32,
+        portions: u32,
+    ) -> Result<bool, NoMemory>
+        requires shape { IsCanonicalShape G.geometry self.now.shape.now }
+        requires domains { All (λ (x : Written). HasDomain G.geometry (length self.now.shape.now) x.triple) written.now }
+        requires portion { portion < portions }
+        ensures { IfOk result (λ yes. IsTrue yes ↔ AreProved G.geometry self.now.shape.now self.now.limits.turns written.now portion portions) }
+    {
+        let mut at = portion as usize;
+        while at < written.len() {
+            if !self.is_settled(rt, alloc, &written[at])? {
+                return Ok(false);
+            }
+            at += portions as usize;
+        }
+        Ok(true)
+    }
+
+    /// Whether for an undecided verdict all triples of the domains from 2 to the limit are written, in order, and for
+    /// any other none.
+    pub(crate) fn are_asked(&self, alloc: Global) -> Result<bool, NoMemory>
+        requires shape { IsCanonicalShape G.geometry self.now.shape.now }
+        requires limits { AreLimits self.now.limits }
+        ensures { IfOk result (λ yes. IsTrue yes ↔ AreTriplesAsked G.geometry self.now.limits self.now.shape.now self.now.entry.now.verdict self.now.entry.now.evidence) }
+    {
+        let Evidence::Search {
+            triples: written,
+            ..
+        } = &self.entry.evidence
+        else {
+            return Ok(true);
+        };
+        if !is_undecided(self.entry.verdict) {
+            return Ok(written.is_empty());
+        }
+        let count = self.shape.cells().len() as u32;
+        let all = triples_up_to::<G>(alloc, count, self.limits.domain)?;
+        Ok(are_triples_of(written.as_slice(), all.as_slice()))
+    }
+
+    /// Whether the triples are those that are asked for, each settled.
+    pub(crate) fn triples_hold<R: Threads + Sync>(
+        &self,
+        rt: &R,
+        alloc: Global,
+    ) -> Result<bool, NoMemory>
+        requires shape { IsCanonicalShape G.geometry self.now.shape.now }
+        requires limits { AreLimits self.now.limits }
+        ensures { IfOk result (λ yes. IsTrue yes ↔ TriplesHold G.geometry self.now.limits self.now.shape.now self.now.entry.now.verdict self.now.entry.now.evidence) }
+    {
+        if !self.are_asked(alloc)? {
+            return Ok(false);
+        }
+        let written = triples_of(&self.entry.evidence);
+        self.are_proved(rt, alloc, written, 0, 1)
+    }
 }

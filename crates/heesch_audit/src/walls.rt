@@ -2,18 +2,19 @@
 ghost use Rattle.std.specs.Prelude.{◌≡◌, ◌≤◌, ◌↔◌, IsTrue, IfOk, IfSome, MatchOption, length};
 ghost use Rattle.heesch_cert.specs.Limits.{AreLimits};
 ghost use Rattle.heesch_cert.specs.Proofs.{IsTooLarge};
-ghost use Rattle.heesch_cert.specs.TrueEntry.{first_number, last_number, FormFits, WallShows, SameWhereNoCut, BareShows};
+ghost use Rattle.heesch_cert.specs.TrueEntry.{first_number, last_number, FormFits, SameWhereNoCut, BareShows};
 ghost use Rattle.heesch_audit.specs.Formulas.{IsLevelFormula, AsksFormula};
-ghost use Rattle.heesch_audit.specs.Near.{IsNearEvidence, IsNearWall, IsNearBare};
+ghost use Rattle.heesch_audit.specs.Near.{IsNearEvidence, IsNearBare};
 ghost use Rattle.heesch_audit.specs.Shapes.{IsCanonicalShape};
 ghost use Rattle.heesch_audit.specs.Walls.{IsSearchFailure};
 
+use crate::audited::Audited;
 use crate::coronas::is_open;
 use crate::fits::is_same;
 use crate::formula::{LevelFormula, level_formula};
 use crate::logs::has_no_cut;
-use crate::proof_end::{ProofEnd, ended_of};
-use heesch_cert::{Bare, Evidence, Limits, Verdict, Wall};
+use crate::proof_end::ended_of;
+use heesch_cert::{Bare, Evidence, Verdict, Wall};
 use heesch_grid::Grid;
 use heesch_io::NoMemory;
 use heesch_shape::Shape;
@@ -43,27 +44,6 @@ fn last_number(verdict: Verdict) -> u32
         Verdict::Heesch { m, .. } => m,
         Verdict::Levels { h } | Verdict::Holes { h } => h,
         Verdict::Turns { at, .. } | Verdict::Size { at, .. } => at,
-    }
-}
-
-/// Whether the search for one corona more ended as is written.
-fn wall_shows<G: Grid, R: Threads + Sync>(
-    rt: &R,
-    alloc: Global,
-    shape: &Shape<G>,
-    formula: &LevelFormula<G>,
-    wall: &Wall,
-) -> Result<bool, NoMemory>
-    requires shape { IsCanonicalShape G.geometry shape.now }
-    requires formula { IsLevelFormula G.geometry formula.now.limits shape.now formula.now.level formula.now.encoded }
-    requires near { IsNearWall wall.now }
-    ensures { IfOk result (λ yes. IsTrue yes ↔ WallShows G.geometry formula.now.limits shape.now formula.now.level wall.now) }
-{
-    match wall {
-        Wall::Absent => Ok(true),
-        Wall::Refuted { proof } => formula.is_ended_by(rt, alloc, shape, ProofEnd::Refuted, proof),
-        Wall::Spent { proof } => formula.is_ended_by(rt, alloc, shape, ProofEnd::Spent, proof),
-        Wall::Size => Ok(formula.is_too_large(shape)),
     }
 }
 
@@ -130,43 +110,43 @@ fn bare_holds<G: Grid, R: Threads + Sync>(
     formula.is_ended_by(rt, alloc, shape, ended.end, ended.proof)
 }
 
-/// The first of the parts 6 to 8 that fails, the form being right: the wall, the open coronas, the search behind the
-/// wall. The formula of the wall serves for the search behind it, where they are of one level.
-pub(crate) fn failing_search<G: Grid, R: Threads + Sync>(
-    rt: &R,
-    alloc: Global,
-    shape: &Shape<G>,
-    limits: Limits,
-    verdict: Verdict,
-    evidence: &Evidence,
-) -> Result<Option<u32>, NoMemory>
-    requires shape { IsCanonicalShape G.geometry shape.now }
-    requires limits { AreLimits limits }
-    requires form { FormFits G.geometry limits shape.now verdict evidence.now }
-    requires near { IsNearEvidence evidence.now }
-    ensures { IfOk result (IsSearchFailure G.geometry limits shape.now verdict evidence.now) }
-{
-    let Evidence::Search {
-        wall,
-        bare,
-        wider,
-        ..
-    } = evidence
-    else {
-        return Ok(None);
-    };
-    if let Wall::Absent = wall {
-        return Ok(None);
+impl<'a, G: Grid> Audited<'a, G> {
+    /// The first of the parts 6 to 8 that fails, the form being right: the wall, the open coronas, the search behind the
+    /// wall. The formula of the wall serves for the search behind it, where they are of one level.
+    pub(crate) fn failing_search<R: Threads + Sync>(
+        &self,
+        rt: &R,
+        alloc: Global,
+    ) -> Result<Option<u32>, NoMemory>
+        requires shape { IsCanonicalShape G.geometry self.now.shape.now }
+        requires limits { AreLimits self.now.limits }
+        requires form { FormFits G.geometry self.now.limits self.now.shape.now self.now.entry.now.verdict self.now.entry.now.evidence }
+        requires near { IsNearEvidence self.now.entry.now.evidence }
+        ensures { IfOk result (IsSearchFailure G.geometry self.now.limits self.now.shape.now self.now.entry.now.verdict self.now.entry.now.evidence) }
+    {
+        let Evidence::Search {
+            wall,
+            bare,
+            wider,
+            ..
+        } = &self.entry.evidence
+        else {
+            return Ok(None);
+        };
+        if let Wall::Absent = wall {
+            return Ok(None);
+        }
+        let (shape, verdict) = (self.shape, self.entry.verdict);
+        let formula = level_formula(alloc, shape, self.limits, first_number(verdict) + 1, None)?;
+        if !formula.shows_wall(rt, alloc, shape, wall)? {
+            return Ok(Some(6));
+        }
+        if !is_open(alloc, shape, wider)? {
+            return Ok(Some(7));
+        }
+        if !bare_holds(rt, alloc, shape, formula, last_number(verdict), wall, bare)? {
+            return Ok(Some(8));
+        }
+        Ok(None)
     }
-    let formula = level_formula(alloc, shape, limits, first_number(verdict) + 1, None)?;
-    if !wall_shows(rt, alloc, shape, &formula, wall)? {
-        return Ok(Some(6));
-    }
-    if !is_open(alloc, shape, wider)? {
-        return Ok(Some(7));
-    }
-    if !bare_holds(rt, alloc, shape, formula, last_number(verdict), wall, bare)? {
-        return Ok(Some(8));
-    }
-    Ok(None)
 }

@@ -2,6 +2,5 @@ pub mod CatalogueTexts
 pub mod EntryLists
 pub mod GridLaws
 pub mod ItemTexts
-pub mod LimitTests
 pub mod Readable
 pub mod RoundTexts

@@ -12,7 +12,7 @@ use Rattle.heesch_io.proofs.Appending.{appends_nothing, appends_both, appends_th
 use Rattle.heesch_grid.specs.declared.Cell.{Cell}
 use Rattle.heesch_grid.specs.Geometry.{Geometry}
 use Rattle.heesch_text.specs.Catalogue.{end_text}
-use Rattle.heesch_catalogue.specs.Rounds.{AreBegunTexts, AreTexts, BeginsOne, IsBegunText, IsItemText, IsWholeText, WritesOne}
+use Rattle.heesch_catalogue.specs.Rounds.{AreTexts, BeginsOne, IsBegunText, IsItemText, IsWholeText, WritesOne}
 use Rattle.heesch_catalogue.proofs.ItemTexts.{no_texts, texts_both, texts_of_shapes}
 
 -- what holds anyway holds at an error
@@ -50,6 +50,10 @@ pub begins_as : {T E : Type 0} {P Q : List ℕ → Type 0} (r : Result T E) (a b
 begins_as r a b weaker = on_err_weaker r (begins_weaker a b weaker)
 
 -- ---- rounds
+
+-- the output is the texts of some first ones of these
+abbrev pub AreBegunTexts : {X : Type 0} → (X → List ℕ → Type 0) → List X → List ℕ → Type 0
+AreBegunTexts IsText xs output = (count : ℕ) × AreTexts IsText (take count xs) output
 
 module _ {X : Type 0} (IsText : X → List ℕ → Type 0) (xs : List X) where
   round_texts : (from until : ℕ) (a b : List ℕ) → from ≤ until → AreTexts IsText (take from xs) a → AreTexts IsText (take (until - from) (drop from xs)) b → AreTexts IsText (take until xs) (a ++ b)

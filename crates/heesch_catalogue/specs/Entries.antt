@@ -1,5 +1,5 @@
 -- The entry of one shape, and its text.
-use Rattle.std.specs.Prelude.{◌≡◌, ℕ, List, Bool, ◌&&◌, nat_le, if◌then◌else◌}
+use Rattle.std.specs.Prelude.{◌≡◌, ℕ, List, Bool, if◌then◌else◌}
 use Rattle.std.specs.List.{AllByRecursion}
 use Rattle.heesch_grid.specs.declared.Cell.{Cell}
 use Rattle.heesch_grid.specs.Geometry.{Geometry}
@@ -11,12 +11,6 @@ use Rattle.heesch_cert.specs.RightVerdict.{HasRightVerdict}
 use Rattle.heesch_cert.specs.TrueEntry.{IsTrueEntry}
 use Rattle.heesch_text.specs.Catalogue.{brief_lines, brief_text, entry_lines, entry_text}
 use Rattle.heesch_text.specs.Naturals.{HasNaturals}
-
--- whether the limits lie in their ranges
-abbrev pub are_limits : Limits → Bool
-are_limits l =
-    nat_le 1 l.turns && nat_le l.turns 1000000 && nat_le 1 l.levels && nat_le l.levels 6
-    && nat_le 1 l.domain && nat_le l.domain 12 && nat_le 1 l.size && nat_le l.size 60000000
 
 -- the entry is of this shape's canonical list, true under the grid and the limits, its cover is reduced, and its verdict is right
 pub record IsEntryOf (g : Geometry) (limits : Limits) (shape : List Cell) (entry : Entry) : Type 0 where

@@ -26,10 +26,6 @@ Extends IsOutput old new = (output : List ℕ) × IsOutput output × (new ≡ ol
 abbrev pub AreTexts : {X : Type 0} → (X → List ℕ → Type 0) → List X → List ℕ → Type 0
 AreTexts IsText xs output = (texts : List (List ℕ)) × AllZip IsText xs texts × (output ≡ concat texts)
 
--- the same of some first ones of these
-abbrev pub AreBegunTexts : {X : Type 0} → (X → List ℕ → Type 0) → List X → List ℕ → Type 0
-AreBegunTexts IsText xs output = (count : ℕ) × AreTexts IsText (take count xs) output
-
 -- the text is that of an item of this shape
 abbrev pub IsItemText : {E : Type 0} → (List Cell → E → Type 0) → (E → List ℕ → Type 0) → List Cell → List ℕ → Type 0
 IsItemText {E} IsOf IsText shape text = (item : E) × IsOf shape item × IsText item text

@@ -15,29 +15,25 @@ use crate::sizes::write_texts_of_size;
 use heesch_cert::Header;
 use heesch_grid::Grid;
 use heesch_io::{IoStop, NoMemory, Sink};
-use heesch_pool::Gate;
+use heesch_pool::{Crew, Gate};
 use heesch_shape::Shape;
 use heesch_text::write_header;
 use std::alloc::Global;
 use std::thread::Threads;
 
 /// Writes the catalogue text, under the header, of all free polyforms of n cells: `write_catalogue` of their list. n is
-/// 1 to 31, and there are 1 to 64 workers.
+/// 1 to 31.
 ///
 /// Errors: as of `write_catalogue`; where memory was refused for the list of the shapes, nothing was written. Beside
 /// that list it keeps the entries of one round.
 pub fn write_catalogue_of_size<T: Threads + Sync, W: Sink, H: Gate + Sync>(
-    rt: &T,
-    alloc: Global,
+    crew: &Crew<'_, T, H>,
     header: &Header,
     n: u32,
-    workers: u32,
-    gate: &H,
     sink: &mut W,
 ) -> Result<(), IoStop>
     requires size { (1 ≤ n) × (n ≤ 31) }
     requires limits { AreLimits header.now.limits }
-    requires workers { (1 ≤ workers) × (workers ≤ 64) }
     ensures ok { OnOk result
         (WritesOne (IsCatalogueOfSize (geometry_of header.now.grid) header.now n)
         (W.held sink.old) (W.held sink.new)) }
@@ -47,40 +43,26 @@ pub fn write_catalogue_of_size<T: Threads + Sync, W: Sink, H: Gate + Sync>(
     ensures failed { result ≡ Err IoStop.Failed → Rose (W.faults sink.old) (W.faults sink.new) }
     ensures later { W.faults sink.old ≤ W.faults sink.new }
 {
-    let head = head_of(alloc, header)?;
+    let head = head_of(crew.alloc, header)?;
     let texts = texts_of(header);
-    write_texts_of_size(
-        rt,
-        alloc,
-        &head,
-        &texts,
-        header.grid,
-        n,
-        workers,
-        gate,
-        sink,
-    )
+    write_texts_of_size(crew, &head, &texts, header.grid, n, sink)
 }
 
 /// Writes the catalogue text, under the header, of canonical shapes: the header's text, then after each 256 shapes are
-/// classified their entries' texts, in the shapes' order, then the end's text, each by one `put`. There are 1 to 64
-/// workers, and the gate is told of each shape's number in the list.
+/// classified their entries' texts, in the shapes' order, then the end's text, each by one `put`. The gate is told
+/// of each shape's number in the list.
 ///
 /// Errors: `Failed` only where the sink's count of faults rose; `NoMemory` also where there are 2^32 shapes or more.
 /// What was written is then a beginning of a catalogue text. It keeps the entries and the text of one round, and takes
 /// nearly all of its time to classify the shapes.
 pub fn write_catalogue<G: Grid + Send + Sync, T: Threads + Sync, W: Sink, H: Gate + Sync>(
-    rt: &T,
-    alloc: Global,
+    crew: &Crew<'_, T, H>,
     header: &Header,
     shapes: &[Shape<G>],
-    workers: u32,
-    gate: &H,
     sink: &mut W,
 ) -> Result<(), IoStop>
     requires canonical { All (λ s. IsCanonicalListOf G.geometry s s) shapes.now }
     requires limits { AreLimits header.now.limits }
-    requires workers { (1 ≤ workers) × (workers ≤ 64) }
     ensures ok { OnOk result
         (WritesOne (IsCatalogue G.geometry header.now shapes.now) (W.held sink.old) (W.held sink.new)) }
     ensures err { OnErr result
@@ -88,9 +70,9 @@ pub fn write_catalogue<G: Grid + Send + Sync, T: Threads + Sync, W: Sink, H: Gat
     ensures failed { result ≡ Err IoStop.Failed → Rose (W.faults sink.old) (W.faults sink.new) }
     ensures later { W.faults sink.old ≤ W.faults sink.new }
 {
-    let head = head_of(alloc, header)?;
+    let head = head_of(crew.alloc, header)?;
     let texts = texts_of(header);
-    write_texts(rt, alloc, &head, &texts, shapes, workers, gate, sink)
+    write_texts(crew, &head, &texts, shapes, sink)
 }
 
 /// The header's text.
@@ -104,7 +86,9 @@ fn head_of(alloc: Global, header: &Header) -> Result<Vec<u8>, NoMemory>
 
 /// The texts of entries, as the header asks for them.
 fn texts_of(header: &Header) -> EntryText
-    ensures { result ≡ record { brief = header.now.brief; limits = header.now.limits } }
+    requires { AreLimits header.now.limits }
+    ensures { (are : AreLimits header.now.limits)
+        × (result ≡ record { brief = header.now.brief; limits = header.now.limits; valid = are }) }
 {
     EntryText {
         brief: header.brief,

@@ -1,4 +1,5 @@
 //! The entries of shapes, each classified by itself, and their texts.
+ghost use Rattle.heesch_cert.specs.Limits.{AreLimits};
 ghost use Rattle.heesch_grid.specs.Polyform.{IsCanonicalListOf};
 
 use crate::items::ShapeText;
@@ -15,14 +16,13 @@ use std::alloc::Global;
 pub struct EntryText {
     pub brief: bool,
     pub limits: Limits,
+    pub ghost valid: { AreLimits limits },
 }
 
 impl ShapeText for EntryText {
     type Item = Entry;
 
-    ghost use Rattle.heesch_catalogue.specs.Entries.{are_limits, IsEntryOf, IsEntryText};
-
-    ghost accepts = { λ s. are_limits s.limits };
+    ghost use Rattle.heesch_catalogue.specs.Entries.{IsEntryOf, IsEntryText};
 
     ghost is_of = { λ s g shape entry. IsEntryOf g s.limits shape entry };
 

@@ -1,5 +1,5 @@
 //! What is made of shapes, each by itself, and the texts of what was made.
-ghost use Rattle.std.specs.Prelude.{◌≡◌, ◌≤◌, ℕ, Bool, IsTrue, IfOk, List, OnOk, length, slice_range};
+ghost use Rattle.std.specs.Prelude.{◌≡◌, ◌≤◌, ℕ, IfOk, List, OnOk, length, slice_range};
 ghost use Rattle.std.specs.List.{AllZip};
 ghost use Rattle.heesch_grid.specs.declared.Cell.{Cell as Place};
 ghost use Rattle.heesch_grid.specs.Geometry.{Geometry};
@@ -7,7 +7,7 @@ ghost use Rattle.heesch_catalogue.specs.Rounds.{AreTexts, Extends};
 
 use heesch_grid::Grid;
 use heesch_io::NoMemory;
-use heesch_pool::{Answer, Gate, Job, run_span};
+use heesch_pool::{Answer, Crew, Gate, Job};
 use heesch_shape::Shape;
 use std::alloc::Global;
 use std::thread::Threads;
@@ -17,9 +17,6 @@ pub trait ShapeText {
     /// What is made of a shape.
     type Item: Send + Sync + Drop;
 
-    // Whether items may be asked for. It is a test, as that of `Answer`.
-    ghost accepts: { Self → Bool };
-
     // Which items are of a shape of a grid.
     ghost is_of: { Self → Geometry → List Place → Self.Item → Type 0 };
 
@@ -28,7 +25,6 @@ pub trait ShapeText {
 
     /// An item of the shape, or want of memory.
     fn item<G: Grid>(&self, alloc: Global, shape: &Shape<G>) -> Result<Self::Item, NoMemory>
-        requires { IsTrue (accepts self.now) }
         ensures { IfOk result (is_of self.now G.geometry shape.now) };
 
     /// Appends a text of the item, or memory was refused.
@@ -45,9 +41,9 @@ struct ItemOf<'a, G: Grid, R> {
 }
 
 impl<'a, G: Grid, R: ShapeText> Answer<R::Item> for ItemOf<'a, G, R> {
-    ghost use Rattle.std.specs.Prelude.{⊤, IfOk, [], length, nat_lt, slice_index_or, ◌&&◌};
+    ghost use Rattle.std.specs.Prelude.{⊤, IfOk, [], length, nat_lt, slice_index_or};
 
-    ghost accepts = { λ s number. nat_lt number (length s.shapes.now) && R.accepts s.texts.now };
+    ghost accepts = { λ s number. nat_lt number (length s.shapes.now) };
 
     ghost gives = { λ s number item. IfOk item (R.is_of s.texts.now G.geometry (slice_index_or s.shapes.now number [])) };
 
@@ -63,30 +59,25 @@ impl<'a, G: Grid, R: ShapeText> Answer<R::Item> for ItemOf<'a, G, R> {
 ///
 /// Errors: `NoMemory` alone.
 pub fn items_between<G: Grid + Send + Sync, R: ShapeText + Sync, T: Threads + Sync, H: Gate + Sync>(
-    rt: &T,
-    alloc: Global,
+    crew: &Crew<'_, T, H>,
     texts: &R,
     shapes: &[Shape<G>],
     from: u32,
     until: u32,
-    workers: u32,
-    gate: &H,
 ) -> Result<Vec<R::Item>, NoMemory>
-    requires accepted { IsTrue (R.accepts texts.now) }
     requires span { (from ≤ until) × (until ≤ length shapes.now) }
-    requires workers { (1 ≤ workers) × (workers ≤ 64) }
     ensures { IfOk result
         (λ items. AllZip (R.is_of texts.now G.geometry) (slice_range shapes.now from until) items.items) }
 {
     let job = Job::new(
         ItemOf {
-            alloc,
+            alloc: crew.alloc,
             shapes,
             texts,
         },
         until,
     );
-    run_span(rt, alloc, &job, from, until, workers, gate)
+    crew.run_span(&job, from, until)
 }
 
 /// Appends the texts of the items, in their order.

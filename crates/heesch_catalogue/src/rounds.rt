@@ -1,16 +1,15 @@
 //! Texts of shapes that are written as they are made, by rounds of shapes.
-ghost use Rattle.std.specs.Prelude.{◌≡◌, ◌≤◌, IsTrue, length, Err, OnErr, OnOk};
+ghost use Rattle.std.specs.Prelude.{◌≡◌, ◌≤◌, Err, OnErr, OnOk};
 ghost use Rattle.std.specs.Io.KnownBytes.{Appends};
 ghost use Rattle.heesch_io.specs.Causes.{Rose};
 ghost use Rattle.heesch_io.specs.Contents.{AppendsPrefix};
 ghost use Rattle.heesch_text.specs.Catalogue.{end_text};
-ghost use Rattle.heesch_catalogue.specs.Rounds.{AreBegunTexts, AreTexts, BeginsOne, IsItemText, WritesOne};
-ghost use Rattle.heesch_catalogue.specs.Rounds.{IsBegunText, IsWholeText};
+ghost use Rattle.heesch_catalogue.specs.Rounds.{AreTexts, BeginsOne, IsBegunText, IsWholeText, WritesOne};
 
 use crate::items::{ShapeText, append_items, items_between};
 use heesch_grid::Grid;
 use heesch_io::{IoStop, Sink, put};
-use heesch_pool::Gate;
+use heesch_pool::{Crew, Gate};
 use heesch_shape::Shape;
 use heesch_text::write_end;
 use std::alloc::Global;
@@ -20,8 +19,7 @@ use std::thread::Threads;
 pub const ROUND: u32 = 256;
 
 /// Writes the head, then the texts of the shapes, after each 256 of them are made, in the shapes' order, then the end's
-/// text with their number, each by one `put`. There are 1 to 64 workers, and the gate is told of each shape's number in
-/// the list.
+/// text with their number, each by one `put`. The gate is told of each shape's number in the list.
 ///
 /// Errors: `Failed` only where the sink's count of faults rose; `NoMemory` also where there are 2^32 shapes or more.
 /// What was written is then a beginning of such a text. It keeps the items and the text of one round, and takes nearly
@@ -33,17 +31,12 @@ pub fn write_texts<
     W: Sink,
     H: Gate + Sync,
 >(
-    rt: &T,
-    alloc: Global,
+    crew: &Crew<'_, T, H>,
     head: &[u8],
     texts: &R,
     shapes: &[Shape<G>],
-    workers: u32,
-    gate: &H,
     sink: &mut W,
 ) -> Result<(), IoStop>
-    requires accepted { IsTrue (R.accepts texts.now) }
-    requires workers { (1 ≤ workers) × (workers ≤ 64) }
     ensures ok { OnOk result
         (WritesOne (IsWholeText head.now (R.is_of texts.now) (R.is_text texts.now) G.geometry shapes.now)
         (W.held sink.old) (W.held sink.new)) }
@@ -57,47 +50,14 @@ pub fn write_texts<
         return Err(IoStop::NoMemory);
     };
     put_text(head, sink)?;
-    write_rounds(rt, alloc, texts, shapes, count, workers, gate, sink)?;
-    put_end(alloc, count, sink)
-}
-
-/// Writes the texts of the shapes, of which there are `count`, one round after the other.
-fn write_rounds<
-    G: Grid + Send + Sync,
-    R: ShapeText + Sync,
-    T: Threads + Sync,
-    W: Sink,
-    H: Gate + Sync,
->(
-    rt: &T,
-    alloc: Global,
-    texts: &R,
-    shapes: &[Shape<G>],
-    count: u32,
-    workers: u32,
-    gate: &H,
-    sink: &mut W,
-) -> Result<(), IoStop>
-    requires accepted { IsTrue (R.accepts texts.now) }
-    requires count { count ≡ length shapes.now }
-    requires workers { (1 ≤ workers) × (workers ≤ 64) }
-    ensures ok { OnOk result
-        (WritesOne (AreTexts (IsItemText (R.is_of texts.now G.geometry) (R.is_text texts.now)) shapes.now)
-        (W.held sink.old) (W.held sink.new)) }
-    ensures err { OnErr result
-        (BeginsOne (AreBegunTexts (IsItemText (R.is_of texts.now G.geometry) (R.is_text texts.now)) shapes.now)
-        (W.held sink.old) (W.held sink.new)) }
-    ensures failed { result ≡ Err IoStop.Failed → Rose (W.faults sink.old) (W.faults sink.new) }
-    ensures later { W.faults sink.old ≤ W.faults sink.new }
-{
     let mut from = 0;
     while from < count {
         let until = from + ROUND.min(count - from);
-        let items = items_between(rt, alloc, texts, shapes, from, until, workers, gate)?;
-        put_items(alloc, texts, &items, sink)?;
+        let items = items_between(crew, texts, shapes, from, until)?;
+        put_items(crew.alloc, texts, &items, sink)?;
         from = until;
     }
-    Ok(())
+    put_end(crew.alloc, count, sink)
 }
 
 /// Writes the texts of the items by one `put`.

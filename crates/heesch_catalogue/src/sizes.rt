@@ -1,5 +1,5 @@
 //! Texts of all free polyforms of a size, on the grid of a name.
-ghost use Rattle.std.specs.Prelude.{◌≡◌, ◌≤◌, IsTrue, Err, OnErr, OnOk};
+ghost use Rattle.std.specs.Prelude.{◌≡◌, ◌≤◌, Err, OnErr, OnOk};
 ghost use Rattle.heesch_io.specs.Causes.{Rose};
 ghost use Rattle.heesch_grid.specs.Names.{geometry_of};
 ghost use Rattle.heesch_catalogue.specs.Rounds.{BeginsOne, IsBegunText, IsOfSize, IsWholeText, WritesOne};
@@ -10,29 +10,23 @@ use heesch_grid::{Grid, GridName};
 use heesch_io::{IoStop, Sink};
 use heesch_kite::on_grid;
 use heesch_listing::all_shapes;
-use heesch_pool::Gate;
-use std::alloc::Global;
+use heesch_pool::{Crew, Gate};
 use std::thread::Threads;
 
 /// Writes the head and the texts of all free polyforms of n cells of the grid: `write_texts` of their list. n is 1 to
-/// 31, and there are 1 to 64 workers.
+/// 31.
 ///
 /// Errors: as of `write_texts`; where memory was refused for the list of the shapes, nothing was written. Beside that
 /// list it keeps the items of one round.
 pub fn write_texts_of_size<R: ShapeText + Sync, T: Threads + Sync, W: Sink, H: Gate + Sync>(
-    rt: &T,
-    alloc: Global,
+    crew: &Crew<'_, T, H>,
     head: &[u8],
     texts: &R,
     grid: GridName,
     n: u32,
-    workers: u32,
-    gate: &H,
     sink: &mut W,
 ) -> Result<(), IoStop>
-    requires accepted { IsTrue (R.accepts texts.now) }
     requires size { (1 ≤ n) × (n ≤ 31) }
-    requires workers { (1 ≤ workers) × (workers ≤ 64) }
     ensures ok { OnOk result
         (WritesOne (IsOfSize (IsWholeText head.now (R.is_of texts.now) (R.is_text texts.now)) (geometry_of grid) n)
         (W.held sink.old) (W.held sink.new)) }
@@ -42,26 +36,18 @@ pub fn write_texts_of_size<R: ShapeText + Sync, T: Threads + Sync, W: Sink, H: G
     ensures failed { result ≡ Err IoStop.Failed → Rose (W.faults sink.old) (W.faults sink.new) }
     ensures later { W.faults sink.old ≤ W.faults sink.new }
 {
-    on_grid!(
-        grid,
-        write_on::<_, R, T, W, H>(rt, alloc, head, texts, n, workers, gate, sink)
-    )
+    on_grid!(grid, write_on::<_, R, T, W, H>(crew, head, texts, n, sink))
 }
 
 /// The same on one grid.
 fn write_on<G: Grid + Send + Sync, R: ShapeText + Sync, T: Threads + Sync, W: Sink, H: Gate + Sync>(
-    rt: &T,
-    alloc: Global,
+    crew: &Crew<'_, T, H>,
     head: &[u8],
     texts: &R,
     n: u32,
-    workers: u32,
-    gate: &H,
     sink: &mut W,
 ) -> Result<(), IoStop>
-    requires accepted { IsTrue (R.accepts texts.now) }
     requires size { (1 ≤ n) × (n ≤ 31) }
-    requires workers { (1 ≤ workers) × (workers ≤ 64) }
     ensures ok { OnOk result
         (WritesOne (IsOfSize (IsWholeText head.now (R.is_of texts.now) (R.is_text texts.now)) G.geometry n)
         (W.held sink.old) (W.held sink.new)) }
@@ -71,6 +57,6 @@ fn write_on<G: Grid + Send + Sync, R: ShapeText + Sync, T: Threads + Sync, W: Si
     ensures failed { result ≡ Err IoStop.Failed → Rose (W.faults sink.old) (W.faults sink.new) }
     ensures later { W.faults sink.old ≤ W.faults sink.new }
 {
-    let shapes = all_shapes::<G, T, H>(rt, alloc, n, workers, gate)?;
-    write_texts(rt, alloc, head, texts, &shapes, workers, gate, sink)
+    let shapes = all_shapes::<G, T, H>(crew, n)?;
+    write_texts(crew, head, texts, &shapes, sink)
 }

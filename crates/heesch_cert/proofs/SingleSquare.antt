@@ -3,26 +3,29 @@ use Rattle.std.proofs.Common.{◌≡◌, refl, sym, ap, subst, ◌∙◌, ℕ, z
 use Rattle.std.specs.Prelude.{ℤ, pos, negsuc, IsTrue, nat_lt, is_some, Some, unwrap_or}
 use Rattle.std.specs.List.{slice_get}
 use Rattle.std.proofs.lemmas.Int.{ints}
-use Rattle.std.proofs.lemmas.List.Elements.{All-cons, All-nil}
 use Rattle.std.proofs.lemmas.Bool.{and_parts, or_cases}
 use Rattle.heesch_grid.specs.declared.Cell.{Cell}
 use Rattle.heesch_grid.specs.declared.isometries.Iso.{Iso}
 use Rattle.heesch_grid.specs.Cells.{cell_before, SameCells}
-use Rattle.heesch_grid.specs.Geometry.{IsIsometry, image}
+use Rattle.heesch_grid.specs.Geometry.{image}
 use Rattle.heesch_grid.specs.GridTests.{square_laws}
 use Rattle.heesch_grid.specs.Pairs.{Cell-eta}
 use Rattle.heesch_grid.specs.Polyform.{floor_div, IsFreePolyform}
 use Rattle.heesch_grid.specs.Lattice.{Triple, triple_before, translated}
-use Rattle.heesch_grid.specs.Tiling.{HasCell, TilesByTranslation, Translation as PlainTranslation, IsPlain, no_move}
+use Rattle.heesch_grid.specs.Tiling.{TilesByTranslation, Translation as PlainTranslation, IsPlain, no_move}
 use Rattle.heesch_grid.specs.Symmetry.{Member, CarriesToTranslate, IsSymmetry, InOneClass, TakesExactly, AreClasses, greatest_class}
 use Rattle.heesch_grid.proofs.ListFacts.{member_cases, member_here, no_member}
 use Rattle.heesch_grid.proofs.CellFacts.{cell_before-irreflexive}
+use Rattle.heesch_grid.proofs.SmallShapes.{only_place, single_tiles}
+use Rattle.heesch_cert.specs.declared.verdict.Kind.TheVariants.{Translation}
+use Rattle.heesch_cert.specs.declared.verdict.Verdict.TheVariants.{Tiles}
 use Rattle.heesch_cert.specs.Limits.{AreLimits}
 use Rattle.heesch_cert.specs.TrueEntry.{IsTrueEntry}
 use Rattle.heesch_cert.specs.Examples.{square_limits, places, one_member, one_class, square_entry}
 use Rattle.heesch_grid.specs.Examples.{square, o, single, unit_triple}
 use Rattle.heesch_cert.specs.RightVerdict.{HasRightVerdict}
-use Rattle.heesch_cert.proofs.OneCell.{only_cell, one_polyform, one_canonical}
+use Rattle.heesch_cert.proofs.OneCell.{one_polyform, one_canonical}
+use Rattle.heesch_cert.proofs.Covered.{covered_true}
 use Rattle.heesch_cert.proofs.EntryRight.{true_entries_are_right}
 
 -- ---- it is a free polyform
@@ -40,40 +43,6 @@ single_free = record {
 }
 
 -- ---- it tiles by translations, with the triple (1, 1, 0)
-
-only_place : (n : ℕ) (by : Iso) → slice_get places n ≡ Some by → (n ≡ 0) × (no_move ≡ by)
-only_place zero by e = (refl, ap (λ w. unwrap_or w no_move) e)
-only_place (suc n) by e = absurd (true≢false (sym (ap is_some e)))
-
-pub single_tiles : TilesByTranslation square single unit_triple
-single_tiles = record {
-  of_domain = record { is_triple = record { p_positive = omega arith; q_positive = omega arith; s_below = omega arith }; area = refl };
-  cover = record {
-    is_triple = record { p_positive = omega arith; q_positive = omega arith; s_below = omega arith };
-    isometries = All-cons (IsIsometry square) no_move [] (omega arith) (All-nil (IsIsometry square));
-    exactly_one = λ c h. record {
-      value = (0, c.a, c.b);
-      holds = record { by = no_move; is_place = refl; member = o; in_tile = member_here o []; is = at c };
-      only = λ x k. one c x k;
-    };
-  };
-}
-  where
-    at : (c : Cell) → c ≡ translated square unit_triple c.a c.b o
-    at c = Cell-eta c (translated square unit_triple c.a c.b o) (omega (arith, ints)) (omega (arith, ints))
-
-    same_at : (c : Cell) (i j : ℤ) → c ≡ translated square unit_triple i j o → (i ≡ c.a) × (j ≡ c.b)
-    same_at c i j e =
-        let p : c.a ≡ (translated square unit_triple i j o).a = ap (λ (z : Cell). z.a) e in
-        let q : c.b ≡ (translated square unit_triple i j o).b = ap (λ (z : Cell). z.b) e in
-        (omega (arith, ints), omega (arith, ints))
-
-    one : (c : Cell) (x : ℕ × ℤ × ℤ) → HasCell square single unit_triple places c x → x ≡ (0, c.a, c.b)
-    one c x k =
-        let place : (x.0 ≡ 0) × (no_move ≡ k.by) = only_place x.0 k.by k.is_place in
-        let member : o ≡ k.member = only_cell o k.member (subst (λ by. Contains (image square by single) k.member) (sym place.1) k.in_tile) in
-        let ij : (x.1 ≡ c.a) × (x.2 ≡ c.b) = same_at c x.1 x.2 (k.is ∙ ap (translated square unit_triple x.1 x.2) (sym member)) in
-        λ i. (place.0 i, ij.0 i, ij.1 i)
 
 pub single_plain : IsPlain square single (Some (PlainTranslation unit_triple))
 single_plain = record { holds = single_tiles; first = none }
@@ -123,17 +92,7 @@ single_classes = record {
 -- ---- the entry
 
 pub square_entry_true : IsTrueEntry square square_limits square_entry
-square_entry_true = record {
-  shape = (1, omega arith, omega arith, single_free);
-  form = (refl, refl, omega arith, (single_plain, refl));
-  cover = single_tiles.cover;
-  classes = (single_classes, refl);
-  free = tt;
-  wall = tt;
-  wider = tt;
-  bare = tt;
-  triples = tt;
-}
+square_entry_true = covered_true square square_limits single (Tiles Translation 1 1) (record { triple = unit_triple; places = places }) one_class (1, omega arith, omega arith, single_free) (refl, refl, omega arith, (single_plain, refl)) single_tiles.cover (single_classes, refl)
 
 ranges : AreLimits square_limits
 ranges = record { turns_range = (omega arith, omega arith); levels_range = (omega arith, omega arith); domain_range = (omega arith, omega arith); size_range = (omega arith, omega arith) }

@@ -151,23 +151,32 @@ invalid_block input header es cells inner behind number b is = record {
 abbrev pub behind_item : List Item → List Line → List ℕ → List ℕ
 behind_item back held tail = text_of (lines_of back ++ held) ++ tail
 
-pub entry_bad : (input : List ℕ) (header : Header) (front back : List Item) (line : ℕ) (e : Entry) (n : ℕ) (held : List Line) (tail : List ℕ) (reached : Progress) → IsBoundedTo header n → header.brief ≡ false
-    → (j : AreJudged header front n) → IsRead input (front ++ items.Entry line e ∷ back) held tail reached → HoldsItsLines e → (IsGoodEntry header n e → ⊥) → BadBlock input header j.es e.cells (body_lines e) (behind_item back held tail)
-entry_bad input header front back line e n held tail reached bound full j read holds bad =
-    let i = next_item input header front back (items.Entry line e) n held tail reached bound full j read in
+-- an item is such a block by its lines, where they are those of no good entry
+item_bad : (input : List ℕ) (header : Header) (front back : List Item) (item : Item) (cells : List Cell) (inner : List Line) (n : ℕ) (held : List Line) (tail : List ℕ) (reached : Progress) → IsBoundedTo header n → header.brief ≡ false
+    → (j : AreJudged header front n) → IsRead input (front ++ item ∷ back) held tail reached → item_lines item ≡ lines.Shape cells ∷ inner → AllByRecursion IsInside inner → CountsOne item
+    → (AllByRecursion IsLine (lines.Shape cells ∷ inner) → (e : Entry) → IsGoodEntry header (length j.es) e → text_of (lines.Shape cells ∷ inner) ≡ entry_text e → ⊥) → BadBlock input header j.es cells inner (behind_item back held tail)
+item_bad input header front back item cells inner n held tail reached bound full j read is inside one none =
+    let i = next_item input header front back item n held tail reached bound full j read in
+    let forms : AllByRecursion IsLine (lines.Shape cells ∷ inner) = subst (AllByRecursion IsLine) is i.1.forms in
     record {
-      text = i.1.text;
+      text = subst (λ (x : List Line). input ≡ header_text header ++ (text_of (flat_map entry_lines j.es) ++ (text_of x ++ behind_item back held tail))) is i.1.text;
       form = i.1.form;
       full = full;
       good = j.good;
-      forms = i.1.forms;
-      inside = body_inside e;
-      next = next_behind back (entry_lines e) held tail i.1.spot i.1.last i.1.goes_on
-          (λ none. shown_last input header front (items.Entry line e) n held tail reached j i.0 (λ a. (refl, refl)) (subst (λ (x : List Item). IsRead input (front ++ items.Entry line e ∷ x) held tail reached) none read));
-      none = λ other good same.
-          let one : e ≡ other = same_entry e other holds (may_stand (geometry_of header.grid) header.limits other good.is_true).holds (same_lines (entry_lines e) (entry_lines other) i.1.forms good.forms same) in
-          bad (subst (λ (x : ℕ). IsGoodEntry header x e) (sym j.count) (subst (λ (x : Entry). IsGoodEntry header (length j.es) x) (sym one) good));
+      forms = forms;
+      inside = inside;
+      next = next_behind back (item_lines item) held tail i.1.spot i.1.last i.1.goes_on
+          (λ alone. shown_last input header front item n held tail reached j i.0 one (subst (λ (x : List Item). IsRead input (front ++ item ∷ x) held tail reached) alone read));
+      none = none forms;
     }
+
+pub entry_bad : (input : List ℕ) (header : Header) (front back : List Item) (line : ℕ) (e : Entry) (n : ℕ) (held : List Line) (tail : List ℕ) (reached : Progress) → IsBoundedTo header n → header.brief ≡ false
+    → (j : AreJudged header front n) → IsRead input (front ++ items.Entry line e ∷ back) held tail reached → HoldsItsLines e → (IsGoodEntry header n e → ⊥) → BadBlock input header j.es e.cells (body_lines e) (behind_item back held tail)
+entry_bad input header front back line e n held tail reached bound full j read holds bad =
+    item_bad input header front back (items.Entry line e) e.cells (body_lines e) n held tail reached bound full j read refl (body_inside e) (λ a. (refl, refl))
+    (λ forms other good same.
+    let one : e ≡ other = same_entry e other holds (may_stand (geometry_of header.grid) header.limits other good.is_true).holds (same_lines (entry_lines e) (entry_lines other) forms good.forms same) in
+    bad (subst (λ (x : ℕ). IsGoodEntry header x e) (sym j.count) (subst (λ (x : Entry). IsGoodEntry header (length j.es) x) (sym one) good)))
 
 entry_fault : (input : List ℕ) (header : Header) (front back : List Item) (line : ℕ) (e : Entry) (n : ℕ) (held : List Line) (tail : List ℕ) (reached : Progress) → IsBoundedTo header n → header.brief ≡ false
     → AreJudged header front n → IsRead input (front ++ items.Entry line e ∷ back) held tail reached → HoldsItsLines e → (IsGoodEntry header n e → ⊥) → IsInvalidEntry input (n + 1)
@@ -177,22 +186,11 @@ entry_fault input header front back line e n held tail reached bound full j read
 pub brief_bad : (input : List ℕ) (header : Header) (front back : List Item) (line : ℕ) (cells : List Cell) (verdict : Verdict) (n : ℕ) (held : List Line) (tail : List ℕ) (reached : Progress) → IsBoundedTo header n → header.brief ≡ false
     → (j : AreJudged header front n) → IsRead input (front ++ items.Brief line cells verdict ∷ back) held tail reached → BadBlock input header j.es cells (lines.Verdict verdict ∷ []) (behind_item back held tail)
 brief_bad input header front back line cells verdict n held tail reached bound full j read =
-    let i = next_item input header front back (items.Brief line cells verdict) n held tail reached bound full j read in
-    let two = lines.Shape cells ∷ lines.Verdict verdict ∷ [] in
-    record {
-      text = i.1.text;
-      form = i.1.form;
-      full = full;
-      good = j.good;
-      forms = i.1.forms;
-      inside = (tt, tt);
-      next = next_behind back two held tail i.1.spot i.1.last i.1.goes_on
-          (λ none. shown_last input header front (items.Brief line cells verdict) n held tail reached j i.0 (λ a. (refl, refl)) (subst (λ (x : List Item). IsRead input (front ++ items.Brief line cells verdict ∷ x) held tail reached) none read));
-      none = λ other good same.
-          let one : two ≡ entry_lines other = same_lines two (entry_lines other) i.1.forms good.forms same in
-          let none : evidence_lines other.verdict other.evidence ≡ [] = cc in
-          not_brief other.verdict other.evidence none;
-    }
+    item_bad input header front back (items.Brief line cells verdict) cells (lines.Verdict verdict ∷ []) n held tail reached bound full j read refl (tt, tt) (λ a. (refl, refl))
+    (λ forms other good same.
+    let one : lines.Shape cells ∷ lines.Verdict verdict ∷ [] ≡ entry_lines other = same_lines (lines.Shape cells ∷ lines.Verdict verdict ∷ []) (entry_lines other) forms good.forms same in
+    let none : evidence_lines other.verdict other.evidence ≡ [] = cc in
+    not_brief other.verdict other.evidence none)
 
 pub brief_fault : (input : List ℕ) (header : Header) (front back : List Item) (line : ℕ) (cells : List Cell) (verdict : Verdict) (n : ℕ) (held : List Line) (tail : List ℕ) (reached : Progress) → IsBoundedTo header n → header.brief ≡ false
     → AreJudged header front n → IsRead input (front ++ items.Brief line cells verdict ∷ back) held tail reached → IsInvalidEntry input (n + 1)

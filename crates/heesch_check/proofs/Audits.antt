@@ -129,45 +129,36 @@ rest_from : (found : List Item) (k : ℕ) → k ≤ length found → take (lengt
 rest_from found k le = let d : length (drop k found) ≡ length found - k = length-drop k found in take_all (length found - k) (drop k found) (omega (arith, d))
 
 -- an audit that doesn't say so settles the round
-pub round_stops : (header : Header) (before until good after : ℕ) (found : List Item) (audits : List Bool) (answer : Checked) → ArePlaced header before (take (until - before) found) → before + length audits ≡ until → until ≤ before + length found → AllByRecursion IsFit found
-    → AreAudits (geometry_of header.grid) header.limits found audits → good ≡ position_or_len not audits → good < length audits → after ≡ before + good → answer ≡ answers.InvalidEntry (after + 1) → JudgesAll header before after found (Some answer)
-round_stops header before until good after found audits answer placed many most fit a is lt far told =
+pub round_stops : (header : Header) (before good : ℕ) (found : List Item) (audits : List Bool) (answer : Checked) → AreAuditsBehind header before found audits → AllByRecursion IsFit found
+    → good ≡ position_or_len not audits → good < length audits → answer ≡ answers.InvalidEntry ((before + good) + 1) → JudgesAll header before (before + good) found (Some answer)
+round_stops header before good found audits answer behind fit is lt told =
     let k = position_or_len not audits in
-    let n : until - before ≡ length audits = omega (arith, many) in
-    let here = subst (λ (x : ℕ). ArePlaced header before (take x found)) n placed in
-    let le : length audits ≤ length found = omega (arith, many, most) in
-    let g = led header before found audits here le fit a in
-    let b = first_bad header before found audits here le fit a (subst (λ (x : ℕ). x < length audits) is lt) in
+    let g = led header before found audits behind.placed behind.few fit behind.are in
+    let b = first_bad header before found audits behind.placed behind.few fit behind.are (subst (λ (x : ℕ). x < length audits) is lt) in
     let all = good_then header before (before + k) (before + k) (take k found) (drop k found) (Some (answers.InvalidEntry ((before + k) + 1))) g b in
-    let at : after ≡ before + k = far ∙ ap (λ (x : ℕ). before + x) is in
-    subst (λ (x : List Item). JudgesAll header before after x (Some answer)) (take-append-drop k found)
-    (subst (λ (x : Checked). JudgesAll header before after (take k found ++ drop k found) (Some x)) (sym told)
+    let at : before + good ≡ before + k = ap (λ (x : ℕ). before + x) is in
+    subst (λ (x : List Item). JudgesAll header before (before + good) x (Some answer)) (take-append-drop k found)
+    (subst (λ (x : Checked). JudgesAll header before (before + good) (take k found ++ drop k found) (Some x)) (sym told)
     (subst (λ (x : ℕ). JudgesAll header before x (take k found ++ drop k found) (Some (answers.InvalidEntry (x + 1)))) (sym at) all))
 
--- where all audits say so, the items behind their entries settle it
-pub round_goes_on : (header own : Header) (before until good middle after : ℕ) (found : List Item) (audits : List Bool) (result : Option Checked) → own ≡ header → ArePlaced header before (take (until - before) found) → before + length audits ≡ until → until ≤ before + length found
-    → AllByRecursion IsFit found → AreAudits (geometry_of header.grid) header.limits found audits → good ≡ position_or_len not audits → length audits ≤ good → middle ≡ before + good
-    → JudgesAll own middle after (take (length found - good) (drop good found)) result → JudgesAll header before after found result
-round_goes_on header own before until good middle after found audits result same placed many most fit a is ge far judges =
+-- the items behind the entries whose audits say so settle it
+pub round_goes_on : (header : Header) (before good after : ℕ) (found : List Item) (audits : List Bool) (result : Option Checked) → AreAuditsBehind header before found audits → AllByRecursion IsFit found
+    → good ≡ position_or_len not audits → JudgesAll header (before + good) after (take (length found - good) (drop good found)) result → JudgesAll header before after found result
+round_goes_on header before good after found audits result behind fit is judges =
     let k = position_or_len not audits in
-    let n : until - before ≡ length audits = omega (arith, many) in
-    let here = subst (λ (x : ℕ). ArePlaced header before (take x found)) n placed in
-    let le : length audits ≤ length found = omega (arith, many, most) in
-    let g = led header before found audits here le fit a in
     let few : k ≤ length audits = prefix_len-le-length (λ (x : Bool). not (not x)) audits in
-    let within : k ≤ length found = omega (arith, few, le) in
-    let at : middle ≡ before + k = far ∙ ap (λ (x : ℕ). before + x) is in
+    let most = behind.few in
+    let within : k ≤ length found = omega (arith, few, most) in
     let back : JudgesAll header (before + k) after (drop k found) result =
     subst (λ (x : List Item). JudgesAll header (before + k) after x result) (rest_from found k within)
-    (subst (λ (x : ℕ). JudgesAll header (before + k) after (take (length found - x) (drop x found)) result) is
-    (subst (λ (x : ℕ). JudgesAll header x after (take (length found - good) (drop good found)) result) at
-    (subst (λ (x : Header). JudgesAll x middle after (take (length found - good) (drop good found)) result) same judges))) in
-    subst (λ (x : List Item). JudgesAll header before after x result) (take-append-drop k found) (good_then header before (before + k) after (take k found) (drop k found) result g back)
+    (subst (λ (x : ℕ). JudgesAll header (before + x) after (take (length found - x) (drop x found)) result) is judges) in
+    subst (λ (x : List Item). JudgesAll header before after x result) (take-append-drop k found)
+    (good_then header before (before + k) after (take k found) (drop k found) result (led header before found audits behind.placed behind.few fit behind.are) back)
 
 -- what both clauses on an answer give
-pub if_ok_both : {X E : Type 0} (P Q R : X → Type 0) → ((x : X) → P x → Q x → R x) → (r : Result X E) → IfOk r P → IfOk r Q → IfOk r R
-if_ok_both P Q R both (Ok x) p q = both x p q
-if_ok_both P Q R both (Err e) p q = tt
+pub if_both : {X E : Type 0} {P Q R : X → Type 0} (r : Result X E) → ((x : X) → P x → Q x → R x) → IfOk r P → IfOk r Q → IfOk r R
+if_both (Ok x) both p q = both x p q
+if_both (Err e) both p q = tt
 
 -- ---- audits of items that stand behind others
 

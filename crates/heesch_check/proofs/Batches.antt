@@ -13,6 +13,8 @@ use Rattle.heesch_reader.specs.declared.progress.Progress.{Progress}
 use Rattle.heesch_check.specs.declared.answers.Checked.{Checked}
 use Rattle.heesch_check.specs.Answers.{Tells, Comes}
 use Rattle.heesch_check.specs.Judging.{AreJudged, Judges, AreAllGood, StopsIn, JudgesAll}
+use Rattle.heesch_check.specs.declared.reading.Reading.{Reading}
+use Rattle.heesch_check.specs.Reading.{IsAnswerOf, JudgesRound}
 use Rattle.heesch_check.proofs.Leading.{IsBounded, up_to}
 use Rattle.heesch_check.proofs.Seen.{IsRead}
 use Rattle.heesch_check.proofs.Answering.{settled, holds_at}
@@ -85,6 +87,18 @@ stops_loop header own before middle after i items item (Some answer) same good l
   good = good;
   judges = subst (λ (x : Header). Judges x middle after item (Some answer)) same judges;
 }
+
+-- an answer to some of a round's items is that of the round
+pub round_stopped : (header : Header) (before after : ℕ) (found : List Item) (reading : Reading) (answer : Option Checked) → is_some answer ≡ true → JudgesAll header before after found answer → JudgesRound header before after found reading answer
+round_stopped header before after found reading None some judges = absurd cc
+round_stopped header before after found reading (Some answer) some judges = inl judges
+
+-- else it is what reading came to behind them
+pub round_read : (header : Header) (before after : ℕ) (found : List Item) (reading : Reading) (judged answer : Option Checked) → is_some judged ≡ false → JudgesAll header before after found judged → IsAnswerOf header after reading answer
+    → JudgesRound header before after found reading answer
+round_read header before after found reading (Some told) answer none judges is = absurd cc
+round_read header before after found reading None None none judges is = (judges, is)
+round_read header before after found reading None (Some answer) none judges is = inr (judges, is)
 
 -- a good item goes on
 pub loop_goes_on : (header own : Header) (before middle after i : ℕ) (items : List Item) (item : Item) (answer : Option Checked) → own ≡ header → AreAllGood header before middle (take i items) → i < length items

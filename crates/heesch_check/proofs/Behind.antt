@@ -1,8 +1,7 @@
 -- A batch of items behind those that were judged, and how far reading came with it.
-use Rattle.std.proofs.Common.{◌≡◌, ◌⊎◌, inl, inr, ℕ, ◌+◌, ◌-◌, ◌<◌, ◌≤◌, arith, true, false, true≢false, List, [], ◌∷◌, ◌++◌, length, take, drop, Option, Some, None, refl, sym, ap, subst, ◌∙◌, append_assoc}
-use Rattle.std.specs.Prelude.{is_some}
+use Rattle.std.proofs.Common.{◌≡◌, ◌⊎◌, inl, inr, ℕ, ◌+◌, ◌-◌, ◌<◌, ◌≤◌, arith, false, List, [], ◌∷◌, ◌++◌, length, drop, Option, Some, None, refl, sym, ap, subst, ◌∙◌, append_assoc}
 use Rattle.std.specs.List.{AllByRecursion}
-use Rattle.std.proofs.lemmas.List.{append-nil, length-append, take_all}
+use Rattle.std.proofs.lemmas.List.{append-nil, length-append}
 use Rattle.heesch_cert.specs.declared.header.Header.{Header}
 use Rattle.heesch_reader.specs.declared.item.Item.{Item}
 use Rattle.heesch_reader.specs.declared.item.Item.TheVariants as items
@@ -17,7 +16,7 @@ use Rattle.heesch_line.specs.Forms.{IsLine}
 use Rattle.heesch_check.specs.declared.answers.Checked.{Checked}
 use Rattle.heesch_check.specs.declared.reading.Reading.{Reading}
 use Rattle.heesch_check.specs.declared.reading.Reading.TheVariants as readings
-use Rattle.heesch_check.specs.Judging.{AreAllGood, ArePlaced, IsFit, AreJudged, JudgesAll}
+use Rattle.heesch_check.specs.Judging.{IsFit, AreJudged}
 use Rattle.heesch_io.specs.Input.{ReadsNoFurther}
 use Rattle.heesch_check.specs.Reading.{IsAnswerOf, IsReading, Reads, Gathers, LacksItems, StopsGathering, StopsInTime, MayGather, LackRound, JudgesRound, IsPending, BeginWith, DecideNothing}
 use Rattle.heesch_check.proofs.Leading.{IsBounded}
@@ -125,6 +124,14 @@ gathers_behind before now old new front rest left enough from to fit q = record 
       let alone : IsReading first before ((found ++ front) ++ []) old from = subst (λ (x : List Item). IsReading first before x old from) (sym (append-nil (found ++ front))) h in
       subst (λ (x : List Item). IsReading first now x new to) (append_assoc found front rest) (q.goes_on first (found ++ front) alone);
 }
+
+-- more may be gathered behind items that were gathered
+pub may_gather_on : (before now : Option (List ℕ)) (old new : Streamed) (items after : List Item) (enough : ℕ) (from to : Reading) → MayGather before old items from → Gathers before now old new items after enough from to → MayGather now new after to
+may_gather_on before now old new items after enough from to (first, found, h) r = (first, found, r.goes_on first found h)
+
+-- and these are fit
+pub gathered_fits : (before now : Option (List ℕ)) (old new : Streamed) (items after : List Item) (enough : ℕ) (from to : Reading) → MayGather before old items from → Gathers before now old new items after enough from to → AllByRecursion IsFit after
+gathered_fits before now old new items after enough from to (first, found, h) r = batch_fits first now found after new to (r.goes_on first found h)
 
 -- where more may follow, others may be gathered by themselves
 pub may_go_on : (now : Option (List ℕ)) (items : List Item) (s : Streamed) (reading : Reading) → MayGather now s items reading → reading ≡ readings.More → MayGather now s [] readings.More

@@ -16,6 +16,7 @@ use Rattle.heesch_grammar.specs.Grammar.{steps, is_whole}
 use Rattle.heesch_grammar.proofs.Truth.{may_stand}
 use Rattle.heesch_reader.specs.declared.item.Item.{Item}
 use Rattle.heesch_reader.specs.declared.item.Item.TheVariants as items
+use Rattle.heesch_reader.specs.declared.progress.AtHand.{AtHand}
 use Rattle.heesch_reader.specs.declared.progress.AtHand.TheVariants as hands
 use Rattle.heesch_reader.specs.declared.progress.Progress.{Progress}
 use Rattle.heesch_reader.specs.declared.progress.Progress.TheVariants as stages
@@ -152,29 +153,22 @@ pub other_ends : (held : List Line) (left : List ℕ) → ending_of held left �
 other_ends [] left e ends = let bad : hands.Next ≡ hands.Other = sym (ap (λ (b : Bool). if b then hands.Next else hands.Other) ends) ∙ e in absurd cc
 other_ends (line ∷ held) left e ends = let bad : hands.Inside ≡ hands.Other = sym (ap (λ (b : Bool). if b then hands.Inside else hands.Other) ends) ∙ e in absurd cc
 
-by_next : (b : Bool) → (if b then hands.Next else hands.Other) ≡ hands.Next → b ≡ true
-by_next true e = refl
-by_next false e = absurd cc
+-- a test that tells of what is at hand, where that isn't what it tells else
+by_hand : (hand : AtHand) (b : Bool) → (hands.Other ≡ hand → ⊥) → (if b then hand else hands.Other) ≡ hand → b ≡ true
+by_hand hand true other e = refl
+by_hand hand false other e = absurd (other e)
 
-never_next : (b : Bool) → (if b then hands.Inside else hands.Other) ≡ hands.Next → ⊥
-never_next true e = absurd cc
-never_next false e = absurd cc
+never_told : (hand told : AtHand) (b : Bool) → (hand ≡ told → ⊥) → (hands.Other ≡ told → ⊥) → (if b then hand else hands.Other) ≡ told → ⊥
+never_told hand told true here other e = here e
+never_told hand told false here other e = other e
 
 pub next_ends : (held : List Line) (left : List ℕ) → ending_of held left ≡ hands.Next → (held ≡ []) × (begins left (codes "end ") ≡ true)
-next_ends [] left e = (refl, by_next (begins left (codes "end ")) e)
-next_ends (line ∷ held) left e = absurd (never_next (begins left (codes "end ")) e)
-
-by_inside : (b : Bool) → (if b then hands.Inside else hands.Other) ≡ hands.Inside → b ≡ true
-by_inside true e = refl
-by_inside false e = absurd cc
-
-never_inside : (b : Bool) → (if b then hands.Next else hands.Other) ≡ hands.Inside → ⊥
-never_inside true e = absurd cc
-never_inside false e = absurd cc
+next_ends [] left e = (refl, by_hand hands.Next (begins left (codes "end ")) (λ n. cc) e)
+next_ends (line ∷ held) left e = absurd (never_told hands.Inside hands.Next (begins left (codes "end ")) (λ n. cc) (λ n. cc) e)
 
 pub inside_ends : (held : List Line) (left : List ℕ) → ending_of held left ≡ hands.Inside → (held ≢ []) × (begins left (codes "end ") ≡ true)
-inside_ends [] left e = absurd (never_inside (begins left (codes "end ")) e)
-inside_ends (line ∷ held) left e = ((λ n. cc), by_inside (begins left (codes "end ")) e)
+inside_ends [] left e = absurd (never_told hands.Next hands.Inside (begins left (codes "end ")) (λ n. cc) (λ n. cc) e)
+inside_ends (line ∷ held) left e = ((λ n. cc), by_hand hands.Inside (begins left (codes "end ")) (λ n. cc) e)
 
 -- where the entries aren't all, no end was read
 none_ended : (header : Header) (all : List Item) (n : ℕ) → (j : AreJudged header all n) → (AreAll header header.subject n → ⊥) → j.ends ≡ []

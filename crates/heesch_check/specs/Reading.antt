@@ -13,8 +13,7 @@ use Rattle.heesch_reader.specs.declared.item.Part.TheVariants as parts
 use Rattle.heesch_reader.specs.declared.progress.AtHand.{AtHand}
 use Rattle.heesch_reader.specs.declared.progress.AtHand.TheVariants as endings
 use Rattle.heesch_reader.specs.Endings.{ending_of}
-use Rattle.heesch_io.specs.Input.{IsAllOf}
-use Rattle.heesch_io.specs.Input.{piece_max}
+use Rattle.heesch_io.specs.Input.{IsAllOf, ReadsNoFurther, piece_max}
 use Rattle.heesch_stream.specs.Taking.{Streamed, Begins, HasRead, IsCatalogue, HasFault, HasTooMany}
 use Rattle.heesch_check.specs.declared.answers.Checked.{Checked}
 use Rattle.heesch_check.specs.declared.answers.Checked.TheVariants as answers
@@ -168,3 +167,8 @@ pub record DecideNothing (bytes : List ℕ) : Type 0 where
   pub all : List Item
   pub begins : Begins bytes all
   pub judged : (all ≡ []) ⊎ LackRound all
+
+-- whatever was read before these items, the answer is that of the whole input, and no more is read than it needs
+pub record AnswersInTime (before now : Option (List ℕ)) (all : List Item) (s : Streamed) (reading : Reading) (result : Result Checked IoStop) : Type 0 where
+  pub answers : (first : Option (List ℕ)) → IsReading first before all s reading → IsAnswered first result
+  pub no_further : (first : Option (List ℕ)) → IsReading first before all s reading → ReadsNoFurther DecideNothing first before → ReadsNoFurther DecideNothing first now

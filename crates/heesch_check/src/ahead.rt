@@ -12,10 +12,9 @@ use crate::judging::Judge;
 use crate::reading::{Reading, gather};
 use heesch_grid::Grid;
 use heesch_io::{IoStop, NoMemory, Seq, Source};
-use heesch_pool::{Gate, run_beside};
+use heesch_pool::{Crew, Gate, run_beside};
 use heesch_reader::Item;
 use heesch_stream::Stream;
-use std::alloc::Global;
 use std::thread::Threads;
 
 /// How many items of a round are gathered before the first of them are audited.
@@ -66,41 +65,6 @@ fn goes_on_beside(
         && front.len() < lacking
 }
 
-/// Gathers the items that are lacking to a round, behind those at hand, and then audits the entries that stand first.
-fn gather_and_audit<G: Grid + Send + Sync, T: Threads + Sync, R: Source, H: Gate + Sync>(
-    rt: &T,
-    alloc: Global,
-    source: &mut R,
-    stream: &mut Stream,
-    judge: &Judge<G>,
-    before: u32,
-    mut items: Seq<Item>,
-    came_to: Reading,
-    lacking: usize,
-    workers: u32,
-    gate: &H,
-) -> Result<Round, IoStop>
-    requires grid { geometry_of judge.now.header.grid ≡ G.geometry }
-    requires shapes { HasShapes judge.now.header judge.now.header.subject judge.now.shapes }
-    requires limits { AreLimits judge.now.header.limits }
-    requires workers { (1 ≤ workers) × (workers ≤ 64) }
-    requires may { MayGather (R.left source.old) stream.old items came_to }
-    ensures gathers { IfOk result (λ r. Gathers (R.left source.old) (R.left source.new) stream.old stream.new items r.items lacking came_to r.reading) }
-    ensures audits { IfOk result (λ r. AreAuditsBehind judge.now.header before r.items r.audits.items) }
-    ensures no_further { StopsInTime (R.left source.old) (R.left source.new) stream.old items came_to lacking }
-    ensures failed { result ≡ Err IoStop.Failed → Rose (R.faults source.old) (R.faults source.new) }
-    ensures later { R.faults source.old ≤ R.faults source.new }
-{
-    let reading = gather(stream, source, &mut items, came_to, lacking)?;
-    let until = judge.placed(before, items.as_slice());
-    let audits = judge.audits_between(rt, alloc, before, until, items.as_slice(), workers, gate)?;
-    Ok(Round {
-        items,
-        audits,
-        reading,
-    })
-}
-
 /// The items of a round whose first ones were audited, all of them.
 fn together(front: Seq<Item>, audits: Vec<bool>, rest: Round) -> Result<Round, NoMemory>
     ensures items { IfOk result (λ r. r.items ≡ front ++ rest.items) }
@@ -126,8 +90,7 @@ fn together(front: Seq<Item>, audits: Vec<bool>, rest: Round) -> Result<Round, N
 /// Audits the first items of a round, all of them, while the caller's thread gathers those that are left and audits
 /// them.
 fn audit_and_gather<G: Grid + Send + Sync, T: Threads + Sync, R: Source, H: Gate + Sync>(
-    rt: &T,
-    alloc: Global,
+    crew: &Crew<'_, T, H>,
     source: &mut R,
     stream: &mut Stream,
     judge: &Judge<G>,
@@ -135,14 +98,11 @@ fn audit_and_gather<G: Grid + Send + Sync, T: Threads + Sync, R: Source, H: Gate
     until: u32,
     front: &[Item],
     left: usize,
-    workers: u32,
-    gate: &H,
 ) -> (Result<Vec<bool>, NoMemory>, Result<Round, IoStop>)
     requires grid { geometry_of judge.now.header.grid ≡ G.geometry }
     requires shapes { HasShapes judge.now.header judge.now.header.subject judge.now.shapes }
     requires limits { AreLimits judge.now.header.limits }
     requires fit { AllByRecursion IsFit front.now }
-    requires workers { (1 ≤ workers) × (workers ≤ 64) }
     requires order { (before ≤ until) × (until ≤ before + length front.now) }
     requires placed { ArePlaced judge.now.header before (take (until - before) front.now) }
     requires may { MayGather (R.left source.old) stream.old [] Reading.More }
@@ -155,41 +115,34 @@ fn audit_and_gather<G: Grid + Send + Sync, T: Threads + Sync, R: Source, H: Gate
     ensures later { R.faults source.old ≤ R.faults source.new }
 {
     let mut fronts = || -> Result<Vec<bool>, NoMemory>
-        requires { (geometry_of judge.now.header.grid ≡ G.geometry) × AreLimits judge.now.header.limits × AllByRecursion IsFit front.now × (1 ≤ workers) × (workers ≤ 64) × (before ≤ until) × (until ≤ before + length front.now) × ArePlaced judge.now.header before (take (until - before) front.now) }
+        requires { (geometry_of judge.now.header.grid ≡ G.geometry) × AreLimits judge.now.header.limits × AllByRecursion IsFit front.now × (before ≤ until) × (until ≤ before + length front.now) × ArePlaced judge.now.header before (take (until - before) front.now) }
         ensures len { IfOk result (λ audits. before + vec_len audits ≡ until) }
         ensures audits { IfOk result (λ audits. AreAuditsBehind judge.entry.now.header before front.entry.now audits.items) }
-    { judge.audits_between(rt, alloc, before, until, front, workers, gate) };
+    { judge.audits_between(crew, before, until, front) };
     let mut others = || -> Result<Round, IoStop>
-        requires { (geometry_of judge.now.header.grid ≡ G.geometry) × HasShapes judge.now.header judge.now.header.subject judge.now.shapes × AreLimits judge.now.header.limits × (1 ≤ workers) × (workers ≤ 64) × MayGather (R.left source.now) stream.now [] readings.More }
+        requires { (geometry_of judge.now.header.grid ≡ G.geometry) × HasShapes judge.now.header judge.now.header.subject judge.now.shapes × AreLimits judge.now.header.limits × MayGather (R.left source.now) stream.now [] readings.More }
         ensures gathers { IfOk result (λ r. Gathers (R.left source.entry.now) (R.left source.exit.now) stream.entry.now stream.exit.now [] r.items left readings.More r.reading) }
         ensures audits { IfOk result (λ r. AreAuditsBehind judge.entry.now.header until r.items r.audits.items) }
         ensures no_further { StopsInTime (R.left source.entry.now) (R.left source.exit.now) stream.entry.now [] readings.More left }
         ensures failed { result ≡ Err IoStop.Failed → Rose (R.faults source.entry.now) (R.faults source.exit.now) }
         ensures later { R.faults source.entry.now ≤ R.faults source.exit.now }
     {
-        let none = Seq::new(alloc);
-        gather_and_audit(
-            rt,
-            alloc,
-            source,
-            stream,
-            judge,
-            until,
-            none,
-            Reading::More,
-            left,
-            workers,
-            gate,
-        )
+        let mut items = Seq::new(crew.alloc);
+        let reading = gather(stream, source, &mut items, Reading::More, left)?;
+        let audits = judge.audits_behind(crew, until, items.as_slice())?;
+        Ok(Round {
+            items,
+            audits,
+            reading,
+        })
     };
-    run_beside(rt, &mut fronts, &mut others)
+    run_beside(crew.rt, &mut fronts, &mut others)
 }
 
 /// Gathers the items that are lacking to a round, behind those at hand, and audits the entries that stand first. By
 /// several workers the first items are audited while the others are gathered.
 pub(crate) fn round_from<G: Grid + Send + Sync, T: Threads + Sync, R: Source, H: Gate + Sync>(
-    rt: &T,
-    alloc: Global,
+    crew: &Crew<'_, T, H>,
     source: &mut R,
     stream: &mut Stream,
     judge: &Judge<G>,
@@ -197,13 +150,10 @@ pub(crate) fn round_from<G: Grid + Send + Sync, T: Threads + Sync, R: Source, H:
     mut items: Seq<Item>,
     came_to: Reading,
     lacking: usize,
-    workers: u32,
-    gate: &H,
 ) -> Result<Round, IoStop>
     requires grid { geometry_of judge.now.header.grid ≡ G.geometry }
     requires shapes { HasShapes judge.now.header judge.now.header.subject judge.now.shapes }
     requires limits { AreLimits judge.now.header.limits }
-    requires workers { (1 ≤ workers) × (workers ≤ 64) }
     requires may { MayGather (R.left source.old) stream.old items came_to }
     ensures gathers { IfOk result (λ r. Gathers (R.left source.old) (R.left source.new) stream.old stream.new items r.items lacking came_to r.reading) }
     ensures audits { IfOk result (λ r. AreAuditsBehind judge.now.header before r.items r.audits.items) }
@@ -214,15 +164,17 @@ pub(crate) fn round_from<G: Grid + Send + Sync, T: Threads + Sync, R: Source, H:
     let reading = gather(stream, source, &mut items, came_to, first_few(lacking))?;
     let front = items.as_slice();
     let until = judge.placed(before, front);
-    if !goes_on_beside(front, until - before, reading, lacking, workers) {
-        return gather_and_audit(
-            rt, alloc, source, stream, judge, before, items, reading, lacking, workers, gate,
-        );
+    if !goes_on_beside(front, until - before, reading, lacking, crew.workers) {
+        let reading = gather(stream, source, &mut items, reading, lacking)?;
+        let audits = judge.audits_behind(crew, before, items.as_slice())?;
+        return Ok(Round {
+            items,
+            audits,
+            reading,
+        });
     }
     let left = lacking - front.len();
-    let (audits, rest) = audit_and_gather(
-        rt, alloc, source, stream, judge, before, until, front, left, workers, gate,
-    );
+    let (audits, rest) = audit_and_gather(crew, source, stream, judge, before, until, front, left);
     let audits = audits?;
     let rest = rest?;
     let round = together(items, audits, rest)?;

@@ -1,5 +1,5 @@
 //! The check of a catalogue that comes from a source.
-ghost use Rattle.std.specs.Prelude.{◌≡◌, ◌<◌, ◌≤◌, ℕ, List, Option, Err, IfOk, IfSome, IfNone, drop, false, length};
+ghost use Rattle.std.specs.Prelude.{◌≡◌, ◌<◌, ◌≤◌, ℕ, List, Err, IfOk, IfSome, IfNone, drop, false, length};
 ghost use Rattle.heesch_cert.specs.declared.header.Header.{Header as CatalogueHeader};
 ghost use Rattle.heesch_cert.specs.Limits.{AreLimits};
 ghost use Rattle.heesch_grid.specs.Names.{geometry_of};
@@ -8,15 +8,7 @@ ghost use Rattle.heesch_cert.specs.Sizes.{IsSubject};
 ghost use Rattle.heesch_io.specs.Input.{IsAllOf, ReadsNoFurther};
 ghost use Rattle.heesch_check.specs.Answers.{IsChecked};
 ghost use Rattle.heesch_check.specs.Judging.{HasShapes};
-ghost use Rattle.heesch_check.specs.Reading.{
-  FaultsFirst,
-  IsReading,
-  IsUnderway,
-  BeginWith,
-  IsOpened,
-  IsAnswered,
-  DecideNothing,
-};
+ghost use Rattle.heesch_check.specs.Reading.{AnswersInTime, FaultsFirst, IsUnderway, BeginWith, IsOpened, DecideNothing};
 
 use crate::ahead::{FIRST, round_from, round_size};
 use crate::answers::Checked;
@@ -27,10 +19,9 @@ use heesch_grid::Grid;
 use heesch_io::{IoStop, NoMemory, Seq, Source};
 use heesch_kite::on_grid;
 use heesch_listing::all_shapes;
-use heesch_pool::Gate;
+use heesch_pool::{Crew, Gate};
 use heesch_reader::Item;
 use heesch_stream::Stream;
-use std::alloc::Global;
 use std::thread::Threads;
 
 /// Whether what the source has left is a valid catalogue, else its first invalid part.
@@ -54,20 +45,16 @@ use std::thread::Threads;
 /// Errors: `Failed` only where the source's count of faults rose; `NoMemory` where memory was refused. At an error too
 /// the source has given the bytes of some pieces, front first, and no piece beyond the round at hand.
 pub fn check<T: Threads + Sync, R: Source, H: Gate + Sync>(
-    rt: &T,
-    alloc: Global,
+    crew: &Crew<'_, T, H>,
     source: &mut R,
-    workers: u32,
-    gate: &H,
 ) -> Result<Checked, IoStop>
-    requires { (1 ≤ workers) × (workers ≤ 64) }
     ensures ok { IfOk result (λ c. (input : List ℕ) × IsAllOf (R.left source.old) input × IsChecked input c) }
     ensures no_further { ReadsNoFurther DecideNothing (R.left source.old) (R.left source.new) }
     ensures failed { result ≡ Err IoStop.Failed → Rose (R.faults source.old) (R.faults source.new) }
     ensures later { R.faults source.old ≤ R.faults source.new }
 {
-    let mut stream = Stream::new(alloc);
-    let mut items = Seq::new(alloc);
+    let mut stream = Stream::new(crew.alloc);
+    let mut items = Seq::new(crew.alloc);
     let reading = read_first(&mut stream, source, &mut items)?;
     let Some(header) = header_of(items.as_slice()) else {
         return Ok(Checked::InvalidHeader);
@@ -85,7 +72,7 @@ pub fn check<T: Threads + Sync, R: Source, H: Gate + Sync>(
         items,
         reading,
     };
-    check_named(rt, alloc, source, opening, workers, gate)
+    check_named(crew, source, opening)
 }
 
 /// The header that is the first of the items, if it is one.
@@ -125,40 +112,30 @@ struct Opening {
 
 /// The answer of a catalogue whose header was read.
 fn check_named<T: Threads + Sync, R: Source, H: Gate + Sync>(
-    rt: &T,
-    alloc: Global,
+    crew: &Crew<'_, T, H>,
     source: &mut R,
     opening: Opening,
-    workers: u32,
-    gate: &H,
 ) -> Result<Checked, IoStop>
     requires opened { IsOpened (R.left source.old) opening.header opening.items opening.stream opening.reading }
-    requires workers { (1 ≤ workers) × (workers ≤ 64) }
-    ensures ok { (first : Option (List ℕ)) → IsReading first (R.left source.old) opening.items opening.stream opening.reading → IsAnswered first result }
-    ensures no_further { (first : Option (List ℕ)) → IsReading first (R.left source.old) opening.items opening.stream opening.reading → ReadsNoFurther DecideNothing first (R.left source.old) → ReadsNoFurther DecideNothing first (R.left source.new) }
+    ensures in_time { AnswersInTime (R.left source.old) (R.left source.new) opening.items opening.stream opening.reading result }
     ensures failed { result ≡ Err IoStop.Failed → Rose (R.faults source.old) (R.faults source.new) }
     ensures later { R.faults source.old ≤ R.faults source.new }
 {
     on_grid!(
         opening.header.grid,
-        check_under::<_, T, R, H>(rt, alloc, source, opening, workers, gate)
+        check_under::<_, T, R, H>(crew, source, opening)
     )
 }
 
 /// The same on the header's grid.
 fn check_under<G: Grid + Send + Sync, T: Threads + Sync, R: Source, H: Gate + Sync>(
-    rt: &T,
-    alloc: Global,
+    crew: &Crew<'_, T, H>,
     source: &mut R,
     opening: Opening,
-    workers: u32,
-    gate: &H,
 ) -> Result<Checked, IoStop>
     requires grid { geometry_of opening.header.grid ≡ G.geometry }
     requires opened { IsOpened (R.left source.old) opening.header opening.items opening.stream opening.reading }
-    requires workers { (1 ≤ workers) × (workers ≤ 64) }
-    ensures ok { (first : Option (List ℕ)) → IsReading first (R.left source.old) opening.items opening.stream opening.reading → IsAnswered first result }
-    ensures no_further { (first : Option (List ℕ)) → IsReading first (R.left source.old) opening.items opening.stream opening.reading → ReadsNoFurther DecideNothing first (R.left source.old) → ReadsNoFurther DecideNothing first (R.left source.new) }
+    ensures in_time { AnswersInTime (R.left source.old) (R.left source.new) opening.items opening.stream opening.reading result }
     ensures failed { result ≡ Err IoStop.Failed → Rose (R.faults source.old) (R.faults source.new) }
     ensures later { R.faults source.old ≤ R.faults source.new }
 {
@@ -168,40 +145,24 @@ fn check_under<G: Grid + Send + Sync, T: Threads + Sync, R: Source, H: Gate + Sy
         items,
         reading,
     } = opening;
-    let judge = judge_of::<G, T, H>(rt, alloc, header, workers, gate)?;
-    check_behind(
-        rt,
-        alloc,
-        source,
-        &mut stream,
-        judge,
-        items,
-        reading,
-        workers,
-        gate,
-    )
+    let judge = judge_of::<G, T, H>(crew, header)?;
+    check_behind(crew, source, &mut stream, judge, items, reading)
 }
 
 /// A judge of what stands behind the header, with the free list where it is of a size.
 fn judge_of<G: Grid + Send + Sync, T: Threads + Sync, H: Gate + Sync>(
-    rt: &T,
-    alloc: Global,
+    crew: &Crew<'_, T, H>,
     header: Header,
-    workers: u32,
-    gate: &H,
 ) -> Result<Judge<G>, NoMemory>
     requires grid { geometry_of header.grid ≡ G.geometry }
     requires subject { IsSubject header.limits.version header.grid header.subject }
-    requires workers { (1 ≤ workers) × (workers ≤ 64) }
     ensures header { IfOk result (λ judge. judge.header ≡ header) }
     ensures shapes { IfOk result (λ judge. HasShapes header header.subject judge.shapes) }
     ensures none { IfOk result (λ judge. judge.entries ≡ 0) }
 {
     let shapes = match header.subject {
         Subject::Given => None,
-        Subject::Size { n } => Some(Seq::from_vec(all_shapes::<G, T, H>(
-            rt, alloc, n, workers, gate,
-        )?)),
+        Subject::Size { n } => Some(Seq::from_vec(all_shapes::<G, T, H>(crew, n)?)),
     };
     Ok(Judge {
         header,
@@ -223,15 +184,12 @@ fn behind_header(items: Seq<Item>) -> Seq<Item>
 /// The answer of a catalogue whose header was read, with the items so far, the first of which it is, and how far
 /// reading came.
 fn check_behind<G: Grid + Send + Sync, T: Threads + Sync, R: Source, H: Gate + Sync>(
-    rt: &T,
-    alloc: Global,
+    crew: &Crew<'_, T, H>,
     source: &mut R,
     stream: &mut Stream,
     mut judge: Judge<G>,
     items: Seq<Item>,
     reading: Reading,
-    workers: u32,
-    gate: &H,
 ) -> Result<Checked, IoStop>
     requires grid { geometry_of judge.header.grid ≡ G.geometry }
     requires shapes { HasShapes judge.header judge.header.subject judge.shapes }
@@ -239,24 +197,22 @@ fn check_behind<G: Grid + Send + Sync, T: Threads + Sync, R: Source, H: Gate + S
     requires full { judge.header.brief ≡ false }
     requires none { judge.entries ≡ 0 }
     requires begins { BeginWith judge.header items }
-    requires workers { (1 ≤ workers) × (workers ≤ 64) }
     requires underway { IsUnderway (R.left source.old) items stream.old reading }
-    ensures ok { (first : Option (List ℕ)) → IsReading first (R.left source.old) items stream.old reading → IsAnswered first result }
-    ensures no_further { (first : Option (List ℕ)) → IsReading first (R.left source.old) items stream.old reading → ReadsNoFurther DecideNothing first (R.left source.old) → ReadsNoFurther DecideNothing first (R.left source.new) }
+    ensures in_time { AnswersInTime (R.left source.old) (R.left source.new) items stream.old reading result }
     ensures failed { result ≡ Err IoStop.Failed → Rose (R.faults source.old) (R.faults source.new) }
     ensures later { R.faults source.old ≤ R.faults source.new }
 {
-    let lacking = round_size(workers);
+    let lacking = round_size(crew.workers);
     let mut at_hand = behind_header(items);
     let mut came_to = reading;
     'rounds: loop {
         let entries = judge.entries;
         let round = round_from(
-            rt, alloc, source, stream, &judge, entries, at_hand, came_to, lacking, workers, gate,
+            crew, source, stream, &judge, entries, at_hand, came_to, lacking,
         )?;
         let answer = judge.judge_audited_round(
-            rt,
-            alloc,
+            crew.rt,
+            crew.alloc,
             round.items.as_slice(),
             &round.audits,
             round.reading,
@@ -264,7 +220,7 @@ fn check_behind<G: Grid + Send + Sync, T: Threads + Sync, R: Source, H: Gate + S
         if let Some(answer) = answer {
             return Ok(answer);
         }
-        at_hand = Seq::new(alloc);
+        at_hand = Seq::new(crew.alloc);
         came_to = Reading::More;
     }
 }

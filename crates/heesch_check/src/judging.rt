@@ -4,11 +4,8 @@ ghost use Rattle.std.specs.List.{AllByRecursion};
 ghost use Rattle.heesch_cert.specs.declared.header.Header.{Header as CatalogueHeader};
 ghost use Rattle.heesch_cert.specs.Limits.{AreLimits};
 ghost use Rattle.heesch_grid.specs.Names.{geometry_of};
-ghost use Rattle.heesch_grammar.specs.Entries.{HoldsItsLines};
-ghost use Rattle.heesch_line.specs.Forms.{IsLine};
-ghost use Rattle.heesch_text.specs.Catalogue.{entry_lines};
 ghost use Rattle.heesch_check.specs.Catalogues.{IsInPlace, AreAll};
-ghost use Rattle.heesch_check.specs.Judging.{AreAuditsBehind, ArePlaced, HasShapes, IsFit, Judges, JudgesEntry, JudgesEnd, JudgesAll};
+ghost use Rattle.heesch_check.specs.Judging.{AreAuditsBehind, ArePlaced, HasShapes, IsFit, Judges, JudgesEnd, JudgesAll};
 ghost use Rattle.heesch_check.specs.Reading.{AnswersEarly, AnswersLong, IsAnswerOf, JudgesRound};
 
 use crate::answers::Checked;
@@ -16,10 +13,10 @@ use crate::handle::SharedHandle;
 use crate::reading::Reading;
 use crate::rounds::{audits, leading};
 use heesch_audit::{EntryAnswer, audit};
-use heesch_cert::{Entry, Header};
+use heesch_cert::Header;
 use heesch_grid::{Cell, Grid};
 use heesch_io::{NoMemory, Seq};
-use heesch_pool::Gate;
+use heesch_pool::{Crew, Gate};
 use heesch_reader::{AtHand, Item, Part};
 use heesch_shape::Shape;
 use std::alloc::Global;
@@ -88,33 +85,6 @@ impl<G: Grid + Send + Sync> Judge<G> {
         }
     }
 
-    /// Judges an entry, which is audited once.
-    fn judge_entry<T: Threads + Sync>(
-        &mut self,
-        rt: &T,
-        alloc: Global,
-        entry: &Entry,
-    ) -> Result<Option<Checked>, NoMemory>
-        requires grid { geometry_of self.old.header.grid ≡ G.geometry }
-        requires shapes { HasShapes self.old.header self.old.header.subject self.old.shapes }
-        requires limits { AreLimits self.old.header.limits }
-        requires forms { AllByRecursion IsLine (entry_lines entry.now) }
-        requires holds { HoldsItsLines entry.now }
-        ensures judges { IfOk result (JudgesEntry self.old.header self.old.entries self.new.entries entry.now) }
-        ensures kept { self.new ≡ record self.old { entries = self.new.entries } }
-    {
-        if !self.is_in_place(self.entries, entry.cells.as_slice()) {
-            return Ok(Some(self.next_is_invalid()));
-        }
-        match audit::<G, T>(rt, alloc, entry, self.header.limits)? {
-            EntryAnswer::Invalid { part: _ } => Ok(Some(self.next_is_invalid())),
-            EntryAnswer::Valid => {
-                self.entries += 1;
-                Ok(None)
-            }
-        }
-    }
-
     /// Judges an end.
     fn judge_end(&self) -> Option<Checked>
         requires { HasShapes self.now.header self.now.header.subject self.now.shapes }
@@ -126,7 +96,7 @@ impl<G: Grid + Send + Sync> Judge<G> {
         Some(Checked::InvalidEnd)
     }
 
-    /// Judges an item behind those so far: the answer where it is at fault.
+    /// Judges an item behind those so far: the answer where it is at fault. An entry is audited once.
     fn judge<T: Threads + Sync>(
         &mut self,
         rt: &T,
@@ -142,7 +112,18 @@ impl<G: Grid + Send + Sync> Judge<G> {
     {
         match item {
             Item::Header { header: _ } => Ok(Some(Checked::InvalidEnd)),
-            Item::Entry { line: _, entry } => self.judge_entry(rt, alloc, entry),
+            Item::Entry { line: _, entry } => {
+                if !self.is_in_place(self.entries, entry.cells.as_slice()) {
+                    return Ok(Some(self.next_is_invalid()));
+                }
+                match audit::<G, T>(rt, alloc, entry, self.header.limits)? {
+                    EntryAnswer::Invalid { part: _ } => Ok(Some(self.next_is_invalid())),
+                    EntryAnswer::Valid => {
+                        self.entries += 1;
+                        Ok(None)
+                    }
+                }
+            }
             Item::Brief { .. } => Ok(Some(self.next_is_invalid())),
             Item::End { count: _ } => Ok(self.judge_end()),
         }
@@ -172,54 +153,40 @@ impl<G: Grid + Send + Sync> Judge<G> {
     /// among the items, each in its place.
     pub fn audits_between<T: Threads + Sync, H: Gate + Sync>(
         &self,
-        rt: &T,
-        alloc: Global,
+        crew: &Crew<'_, T, H>,
         before: u32,
         until: u32,
         items: &[Item],
-        workers: u32,
-        gate: &H,
     ) -> Result<Vec<bool>, NoMemory>
         requires grid { geometry_of self.now.header.grid ≡ G.geometry }
         requires limits { AreLimits self.now.header.limits }
         requires fit { AllByRecursion IsFit items.now }
-        requires workers { (1 ≤ workers) × (workers ≤ 64) }
         requires order { before ≤ until }
         requires some { until ≤ before + length items.now }
         requires placed { ArePlaced self.now.header before (take (until - before) items.now) }
         ensures len { IfOk result (λ audits. before + vec_len audits ≡ until) }
         ensures audits { IfOk result (λ audits. AreAuditsBehind self.now.header before items.now audits.items) }
     {
-        let limits = self.header.limits;
-        let handle = SharedHandle { rt };
-        audits::<G, SharedHandle<'_, T>, H>(
-            &handle, alloc, items, before, until, limits, workers, gate,
-        )
+        let handle = SharedHandle { rt: crew.rt };
+        let crew = Crew::new(&handle, crew.alloc, crew.workers, crew.gate);
+        audits::<G, SharedHandle<'_, T>, H>(&crew, items, before, until, self.header.limits)
     }
 
-    /// Judges items, up to the first at fault, and gives its answer, where those that stand first among them were
-    /// audited.
-    pub fn judge_audited<T: Threads + Sync>(
-        &mut self,
-        rt: &T,
-        alloc: Global,
+    /// Audits of the entries that stand first among the items, each in its place behind so many.
+    pub fn audits_behind<T: Threads + Sync, H: Gate + Sync>(
+        &self,
+        crew: &Crew<'_, T, H>,
+        before: u32,
         items: &[Item],
-        audits: &[bool],
-    ) -> Result<Option<Checked>, NoMemory>
-        requires grid { geometry_of self.old.header.grid ≡ G.geometry }
-        requires shapes { HasShapes self.old.header self.old.header.subject self.old.shapes }
-        requires limits { AreLimits self.old.header.limits }
+    ) -> Result<Vec<bool>, NoMemory>
+        requires grid { geometry_of self.now.header.grid ≡ G.geometry }
+        requires shapes { HasShapes self.now.header self.now.header.subject self.now.shapes }
+        requires limits { AreLimits self.now.header.limits }
         requires fit { AllByRecursion IsFit items.now }
-        requires audits { AreAuditsBehind self.old.header self.old.entries items.now audits.now }
-        ensures judges { IfOk result (JudgesAll self.old.header self.old.entries self.new.entries items.now) }
-        ensures kept { self.new ≡ record self.old { entries = self.new.entries } }
+        ensures { IfOk result (λ audits. AreAuditsBehind self.now.header before items.now audits.items) }
     {
-        let good = leading(audits);
-        self.entries += good as u32;
-        if good < audits.len() {
-            return Ok(Some(self.next_is_invalid()));
-        }
-        self.judge_each(rt, alloc, &items[good..])
+        let until = self.placed(before, items);
+        self.audits_between(crew, before, until, items)
     }
 
     /// Judges items one after the other, up to the first at fault, and gives its answer.
@@ -283,7 +250,8 @@ impl<G: Grid + Send + Sync> Judge<G> {
         }
     }
 
-    /// Judges items that were audited, and then what reading came to behind them: the answer, unless more may follow.
+    /// Judges items, up to the first at fault, where those that stand first among them were audited, and then what
+    /// reading came to behind them: the answer, unless more may follow.
     pub fn judge_audited_round<T: Threads + Sync>(
         &mut self,
         rt: &T,
@@ -300,7 +268,12 @@ impl<G: Grid + Send + Sync> Judge<G> {
         ensures judges { IfOk result (JudgesRound self.old.header self.old.entries self.new.entries items.now reading) }
         ensures kept { self.new ≡ record self.old { entries = self.new.entries } }
     {
-        let answer = self.judge_audited(rt, alloc, items, audits)?;
+        let good = leading(audits);
+        self.entries += good as u32;
+        if good < audits.len() {
+            return Ok(Some(self.next_is_invalid()));
+        }
+        let answer = self.judge_each(rt, alloc, &items[good..])?;
         if answer.is_some() {
             return Ok(answer);
         }

@@ -9,8 +9,6 @@ mod judging;
 pub mod laws;
 mod reading;
 mod rounds;
-#[cfg(test)]
-mod tests;
 
 pub use answers::{Checked, write_checked};
 pub use checking::check;

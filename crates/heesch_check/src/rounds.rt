@@ -10,7 +10,7 @@ use heesch_audit::{most_portions, portion_holds};
 use heesch_cert::Limits;
 use heesch_grid::Grid;
 use heesch_io::NoMemory;
-use heesch_pool::{Answer, Gate, Job, run_span};
+use heesch_pool::{Answer, Crew, Gate, Job};
 use heesch_reader::Item;
 use std::alloc::Global;
 use std::marker::PhantomData;
@@ -112,19 +112,15 @@ fn joined(alloc: Global, answers: &[bool], portions: usize) -> Result<Vec<bool>,
 /// `from` on, one entry after the other, each entry in as many. Where no entry has the proofs of two triples, an entry
 /// is one portion, and its number is the entry's. A long log is split among more threads than the workers.
 pub(crate) fn audits<G: Grid + Send + Sync, R: Threads + Sync + Copy, H: Gate + Sync>(
-    rt: &R,
-    alloc: Global,
+    crew: &Crew<'_, R, H>,
     items: &[Item],
     from: u32,
     until: u32,
     limits: Limits,
-    workers: u32,
-    gate: &H,
 ) -> Result<Vec<bool>, NoMemory>
     requires span { from ≤ until }
     requires limits { AreLimits limits }
     requires fit { AllByRecursion IsFit items.now }
-    requires workers { (1 ≤ workers) × (workers ≤ 64) }
     ensures len { IfOk result (λ audits. from + vec_len audits ≡ until) }
     ensures audits { IfOk result (λ audits. AreAudits G.geometry limits items.now audits.items) }
 {
@@ -133,8 +129,8 @@ pub(crate) fn audits<G: Grid + Send + Sync, R: Threads + Sync + Copy, H: Gate + 
     let end = from + count * portions;
     let job = Job::new(
         PortionOf {
-            rt: *rt,
-            alloc,
+            rt: *crew.rt,
+            alloc: crew.alloc,
             items,
             first: from,
             portions,
@@ -143,9 +139,8 @@ pub(crate) fn audits<G: Grid + Send + Sync, R: Threads + Sync + Copy, H: Gate + 
         },
         end,
     );
-    let workers = workers.min(end - from).max(1);
-    let answers = run_span(rt, alloc, &job, from, end, workers, gate)?;
-    joined(alloc, &answers, portions as usize)
+    let answers = crew.run_span(&job, from, end)?;
+    joined(crew.alloc, &answers, portions as usize)
 }
 
 /// How many of the audits from the first on say that an entry is true.

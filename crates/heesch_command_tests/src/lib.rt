@@ -2,8 +2,4 @@
 #![tactic(auto)]
 
 #[cfg(test)]
-mod catalogue;
-#[cfg(test)]
-mod outers;
-#[cfg(test)]
-mod sample;
+mod tests;

@@ -1,16 +1,16 @@
 -- A spread over the places of a hole, and the part that it reaches.
-use Rattle.std.proofs.Common.{◌≡◌, refl, sym, ap, subst, ◌∙◌, ℕ, zero, suc, ◌+◌, ◌-◌, ◌<◌, ◌≤◌, ◌⊎◌, Bool, true, false, not, cond, List, [], ◌∷◌, ◌++◌, length, get_or, set, take, map, filter, All, Contains, Some, arith, inl, inr, true≢false, eq-eqb, eqb-true}
+use Rattle.std.proofs.Common.{◌≡◌, refl, sym, ap, subst, ◌∙◌, ℕ, zero, suc, ◌+◌, ◌-◌, ◌<◌, ◌≤◌, ◌⊎◌, Bool, true, false, not, cond, List, [], ◌∷◌, ◌++◌, length, get_or, set, take, map, filter, All, Contains, Some, pos, arith, inl, inr, true≢false, eq-eqb, eqb-true}
 use Rattle.std.specs.Prelude.{nat_eq, IsTrue, None, unwrap_or, count_by}
 use Rattle.std.specs.List.{enumerate_from, slice_get}
 use Rattle.std.proofs.lemmas.Bool.{cases_Bool}
-use Rattle.std.proofs.lemmas.List.{length-set, length_push, take_more, take_all, map-append}
+use Rattle.std.proofs.lemmas.List.{get_or_read, length-set, length_push, take_more, take_all, map-append}
 use Rattle.std.proofs.lemmas.List.Sums.{sum_by-set}
-use Rattle.std.proofs.lemmas.List.Elements.{All-contains, All-weaker, All-push, filter-append, Contains-append_left, Contains-get_or, Contains-push, Contains-push_cases}
+use Rattle.std.proofs.lemmas.List.Elements.{All-contains, All-get_or, All-weaker, All-push, filter-append, Contains-append_left, Contains-get_or, Contains-push, Contains-push_cases}
 use Rattle.std.proofs.lemmas.List.FromFn.{length-enumerate_from, get_or-enumerate_from}
 use Rattle.std.proofs.lemmas.Option.{get_or_from_slice_get}
 use Rattle.heesch_grid.specs.declared.Cell.{Cell}
 use Rattle.heesch_grid.specs.Listing.{IsRising}
-use Rattle.heesch_grid.specs.Cells.{cell_before, has}
+use Rattle.heesch_grid.specs.Cells.{cell, cell_before, has}
 use Rattle.heesch_grid.specs.Pairs.{has-true}
 use Rattle.heesch_grid.specs.Geometry.{Geometry, IsGrid, IsCell, Adjacent}
 use Rattle.heesch_grid.proofs.CellFacts.{has-false, cell_before-irreflexive}
@@ -26,6 +26,19 @@ use Rattle.heesch_cuts.proofs.Bordering.{grows_set}
 use Rattle.heesch_cuts.proofs.Covering.{get_at, get_below}
 
 -- ---- places
+
+abbrev zero_cell : Cell
+zero_cell = cell (pos 0) (pos 0)
+
+-- what an index inside reads is at that place
+pub at_place : (hole : List Cell) (i : ℕ) (d : Cell) → i < length hole → slice_get hole i ≡ Some (get_or hole i d)
+at_place [] i d l = absurd (omega arith)
+at_place (x ∷ xs) zero d l = refl
+at_place (x ∷ xs) (suc i) d l = at_place xs i d (omega arith)
+
+-- the mark that is read at a place
+pub read_mark : (reached : List Bool) (p : ℕ) (read b : Bool) → p < length reached → read ≡ get_or reached p read → read ≡ b → is_marked reached p ≡ b
+read_mark reached p read b less at is = sym (get_or_read reached p read less at false) ∙ is
 
 -- a cell stands at one place
 pub one_place : (hole : List Cell) → IsRising cell_before hole → (p q : ℕ) (c : Cell) → slice_get hole p ≡ Some c → slice_get hole q ≡ Some c → p ≡ q
@@ -98,15 +111,24 @@ reached_grows hole old new grows ds h = All-weaker (IsReached hole old) (IsReach
 -- ---- the spread
 
 module _ (g : Geometry) (law : IsGrid g) (hole : List Cell) where
-  -- one place's turn
-  pub spread_on : (reached : List Bool) (todo rest : List ℕ) (at : ℕ) (new : List Bool) (later : List ℕ) (c : Cell) → IsSpread g hole reached todo → todo ≡ rest ++ at ∷ [] → slice_get hole at ≡ Some c → IsCell g c → WentOn hole reached rest new later → All (IsReached hole new) (g.adjacent c) → IsSpread g hole new later
-  spread_on reached todo rest at new later c s e is_c c_in w around = record {
+  -- the turn of the last place whose neighbours are still to be looked at
+  pub spread_on : (reached : List Bool) (todo rest : List ℕ) (at : ℕ) (new : List Bool) (later : List ℕ) → IsSpread g hole reached todo → todo ≡ rest ++ at ∷ [] → All (IsCell g) hole → WentOn hole reached rest new later → All (IsReached hole new) (g.adjacent (get_or hole at zero_cell)) → IsSpread g hole new later
+  spread_on reached todo rest at new later s e cells w around = record {
     size = w.size ∙ s.size;
     first = w.grows 0 s.first;
-    below = w.below (λ k d l. let both : All (λ p. p < length hole) (rest ++ at ∷ []) = subst (All (λ p. p < length hole)) e s.below in All-front rest at both k d l);
+    below = w.below (All-front rest at all_below);
     pending = λ p t. elim (w.fresh p t) [ inl old ↦ elim (s.pending p old) [ inl m ↦ popped p (subst (λ xs. Contains xs p) e m) | inr h ↦ inr (λ x d i a q f. w.grows q (h x d i a q f)) ] | inr m ↦ inl m ];
   }
     where
+      c : Cell
+      c = get_or hole at zero_cell
+
+      all_below : All (λ p. p < length hole) (rest ++ at ∷ [])
+      all_below = subst (All (λ p. p < length hole)) e s.below
+
+      less : at < length hole
+      less = All-contains (λ p. p < length hole) (rest ++ at ∷ []) at all_below (Contains-push rest at)
+
       All-front : (xs : List ℕ) (x : ℕ) → All (λ p. p < length hole) (xs ++ x ∷ []) → All (λ p. p < length hole) xs
       All-front xs x h = All-from_members (λ p. p < length hole) xs (λ p m. All-contains (λ p. p < length hole) (xs ++ x ∷ []) p h (Contains-append_left xs (x ∷ []) p m))
 
@@ -115,8 +137,8 @@ module _ (g : Geometry) (law : IsGrid g) (hole : List Cell) where
           elim (Contains-push_cases rest at p m) [
             | inl n ↦ inl (w.keeps p n)
             | inr same ↦ inr (λ x d i a.
-                let is : c ≡ x = ap (λ o. unwrap_or o c) (sym is_c ∙ ap (slice_get hole) same ∙ i) in
-                All-contains (IsReached hole new) (g.adjacent c) d around (has-true (g.adjacent c) d ((adjacent_exact g law c d c_in).1 (subst (λ z. Adjacent g z d) (sym is) a))))
+                let is : c ≡ x = ap (λ o. unwrap_or o c) (sym (at_place hole at zero_cell less) ∙ ap (slice_get hole) same ∙ i) in
+                All-contains (IsReached hole new) (g.adjacent c) d around (has-true (g.adjacent c) d ((adjacent_exact g law c d (All-get_or (IsCell g) hole at zero_cell less cells)).1 (subst (λ z. Adjacent g z d) (sym is) a))))
           ]
 
 -- ---- the reached cells
@@ -190,9 +212,3 @@ part_closed g hole reached rising some first closed = record {
   where
     place_of : (xs : List Cell) (d : Cell) → Contains xs d → (q : ℕ) × (slice_get xs q ≡ Some d)
     place_of xs d (k, l, e) = let r = get_at xs k l in (k, r.1 ∙ ap (λ z. Some z) (sym (get_or_from_slice_get xs k r.0 d r.1) ∙ e))
-
--- what an index inside reads is at that place
-pub at_place : (hole : List Cell) (i : ℕ) (d : Cell) → i < length hole → slice_get hole i ≡ Some (get_or hole i d)
-at_place [] i d l = absurd (omega arith)
-at_place (x ∷ xs) zero d l = refl
-at_place (x ∷ xs) (suc i) d l = at_place xs i d (omega arith)

@@ -1,6 +1,5 @@
 pub mod Bytes
 mod Groups
-mod Kept
 mod Literals
 mod Naming
 mod Progress

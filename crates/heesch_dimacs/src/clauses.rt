@@ -1,10 +1,11 @@
 //! The clause text of a formula.
-ghost use Rattle.std.specs.Prelude.{◌≡◌, ◌≤◌, ◌++◌, ◌∷◌, [], ◌^◌, length, take, OnOk, OnErr, decimal};
-ghost use Rattle.heesch_dimacs.specs.Formulas.{lit_word, clause_line, clause_lines, problem_line, clause_text};
+ghost use Rattle.std.specs.Prelude.{◌≡◌, ◌++◌, length, take, OnOk, OnErr, codes};
+ghost use Rattle.std.specs.List.{flat_map};
+ghost use Rattle.heesch_dimacs.specs.Formulas.{problem_line, clause_text};
 
-use heesch_cnf::{FlatFormula, Formula, Lit, PackedLit};
+use heesch_cnf::{FlatFormula, Formula};
 use heesch_io::NoMemory;
-use heesch_text::fields::append_bytes;
+use heesch_text::fields::{Word, append_byte, append_bytes, append_labelled, undone_at_error};
 use itoa::Buffer;
 
 /// Appends the clause text of a formula, which other solvers read: the line `p cnf V C`, with its numbers of variables and
@@ -15,12 +16,7 @@ pub fn write_cnf(formula: &Formula, out: &mut Vec<u8>) -> Result<(), NoMemory>
     ensures ok { OnOk result (out.new.items ≡ out.old.items ++ clause_text formula.now.vars formula.now.clauses) }
     ensures err { OnErr result (out.new.items ≡ out.old.items) }
 {
-    let before = out.len();
-    let written = append_formula(formula, out);
-    if written.is_err() {
-        out.truncate(before);
-    }
-    written
+    undone_at_error(out.len(), append_formula(formula, out), out)
 }
 
 /// Appends the clause text of a formula in one array, as `write_cnf` does.
@@ -30,12 +26,7 @@ pub fn write_flat_cnf(formula: &FlatFormula, out: &mut Vec<u8>) -> Result<(), No
     ensures ok { OnOk result (out.new.items ≡ out.old.items ++ clause_text formula.now.vars formula.now.clauses) }
     ensures err { OnErr result (out.new.items ≡ out.old.items) }
 {
-    let before = out.len();
-    let written = append_flat(formula, out);
-    if written.is_err() {
-        out.truncate(before);
-    }
-    written
+    undone_at_error(out.len(), append_flat(formula, out), out)
 }
 
 fn append_formula(formula: &Formula, out: &mut Vec<u8>) -> Result<(), NoMemory>
@@ -55,7 +46,7 @@ fn append_flat(formula: &FlatFormula, out: &mut Vec<u8>) -> Result<(), NoMemory>
 {
     append_problem(formula.vars(), formula.len(), out)?;
     for index in 0..formula.len() {
-        append_packed(formula.clause(index), out)?;
+        append_clause(formula.clause(index), out)?;
     }
     Ok(())
 }
@@ -65,45 +56,22 @@ fn append_problem(vars: u32, count: usize, out: &mut Vec<u8>) -> Result<(), NoMe
     ensures ok { OnOk result (out.new.items ≡ out.old.items ++ problem_line vars count) }
     ensures kept { take (length out.old.items) out.new.items ≡ out.old.items }
 {
-    append_bytes(b"p cnf ", out)?;
-    append_bytes(Buffer::new().format(vars).as_bytes(), out)?;
-    append_bytes(b" ", out)?;
+    append_labelled(b"p cnf ", vars, out)?;
+    append_byte(b' ', out)?;
     append_bytes(Buffer::new().format(count).as_bytes(), out)?;
     append_bytes(b"\n", out)
 }
 
 /// The line of a clause.
-#[tactic(auto, using(crate::proofs::Kept::kept_through))]
-fn append_clause(clause: &[Lit], out: &mut Vec<u8>) -> Result<(), NoMemory>
-    ensures ok { OnOk result (out.new.items ≡ out.old.items ++ clause_line clause.now) }
+#[tactic(auto, using(heesch_text::proofs::Kept::kept_through))]
+fn append_clause<W: Word>(clause: &[W], out: &mut Vec<u8>) -> Result<(), NoMemory>
+    ensures ok { OnOk result (out.new.items
+        ≡ out.old.items ++ (flat_map (λ literal. W.text literal ++ codes " ") clause.now ++ codes "0\n")) }
     ensures kept { take (length out.old.items) out.new.items ≡ out.old.items }
 {
-    for lit in clause {
-        append_lit(*lit, out)?;
+    for literal in clause {
+        literal.append_word(out)?;
+        append_byte(b' ', out)?;
     }
     append_bytes(b"0\n", out)
-}
-
-/// The same of packed literals.
-#[tactic(auto, using(crate::proofs::Kept::kept_through))]
-fn append_packed(clause: &[PackedLit], out: &mut Vec<u8>) -> Result<(), NoMemory>
-    ensures ok { OnOk result (out.new.items ≡ out.old.items ++ clause_line clause.now) }
-    ensures kept { take (length out.old.items) out.new.items ≡ out.old.items }
-{
-    for packed in clause {
-        append_lit(packed.lit(), out)?;
-    }
-    append_bytes(b"0\n", out)
-}
-
-/// A literal as the number of its variable, with `-` before it where it is negative, and a space after it.
-fn append_lit(lit: Lit, out: &mut Vec<u8>) -> Result<(), NoMemory>
-    ensures ok { OnOk result (out.new.items ≡ out.old.items ++ lit_word lit) }
-    ensures kept { take (length out.old.items) out.new.items ≡ out.old.items }
-{
-    if !lit.positive {
-        append_bytes(b"-", out)?;
-    }
-    append_bytes(Buffer::new().format(lit.var).as_bytes(), out)?;
-    append_bytes(b" ", out)
 }

@@ -24,16 +24,14 @@ use Rattle.heesch_dimacs.specs.declared.model.ModelStop.TheVariants.{NotText, St
 use Rattle.heesch_dimacs.specs.Formulas.{clause_text}
 use Rattle.heesch_dimacs.specs.Models.{IsModel, ended, text_of}
 use Rattle.heesch_dimacs.specs.Stops.{Stops, IsReached}
-use Rattle.heesch_encode.specs.declared.stop.EncodeStop.{EncodeStop}
-use Rattle.heesch_encode.specs.declared.stop.EncodeStop.TheVariants.{TooLarge, NoMemory}
+use Rattle.heesch_line.specs.declared.stops.LineStop.{LineStop}
+use Rattle.heesch_line.specs.declared.stops.LineStop.TheVariants.{Fault, NoMemory}
 use Rattle.heesch_place.specs.Universes.{Levels}
 use Rattle.heesch_text.specs.Catalogue.{coronas_text}
-use Rattle.heesch_exchange.specs.declared.stop.ExchangeStop.{ExchangeStop}
-use Rattle.heesch_exchange.specs.declared.stop.ExchangeStop.TheVariants.{Fault, NoMemory as NoStop}
 use Rattle.heesch_exchange.specs.Answers.{HasEndedLine, IsAnswer, IsAnswerStop, IsModelStop, TellsCoronas, TellsFalse}
 use Rattle.heesch_exchange.specs.Formulas.{IsFormula, IsFormulaStop, HasSecondLine}
 use Rattle.heesch_given.specs.Given.{IsShapeLine}
-use Rattle.heesch_exchange.specs.Shapes.{HasFirstLine, HasFormula, IsShapeFault, encode_stop}
+use Rattle.heesch_exchange.specs.Shapes.{HasFirstLine, HasFormula, IsLineStop, IsShapeStop, EncodesLine}
 
 -- ---- empty texts
 
@@ -45,32 +43,49 @@ pub empty_is : (xs : List ℕ) (b : Bool) → b ≡ (length xs == 0) → b ≡ t
 empty_is [] b is t = refl
 empty_is (x ∷ xs) b is t = let none : length (x ∷ xs) ≡ 0 = eqb-true (length (x ∷ xs)) 0 (sym is ∙ t) in absurd (omega arith)
 
--- ---- a formula that is too large
+-- ---- the line of the shape
 
 -- what holds of the error that another was turned into
 pub as_error : {T E : Type 0} (result : Result T E) (e : E) (P : E → Type 0) → IsErrAnd result (λ x. x ≡ e) → P e → IfErr result P
 as_error (Ok t) e P is p = tt
 as_error (Err x) e P is p = subst P (sym is) p
 
-module _ (version : Version) (g : Geometry) (j size : ℕ) (line : List ℕ) (shape : List Cell) (is_shape : IsShapeLine g line shape) where
-  large : IsTooLarge version g shape j size → IsShapeFault version g j size line 14
-  large too_large = inr (record { shape = shape; is_shape = is_shape; too_large = too_large }, refl)
+module _ (version : Version) (g : Geometry) (j size : ℕ) (line : List ℕ) where
+  -- its own fault
+  pub line_stop : (stop : LineStop ℕ) → IsLineStop g line stop → IsShapeStop version g j size line stop
+  line_stop (Fault at number) (first, fault) = (first, inl fault)
+  line_stop NoMemory _ = tt
 
-  -- what encoding answers is told of an input to `formula`
-  pub formula_stop : (input behind : List ℕ) → input ≢ [] → HasFirstLine input line behind → (stop : EncodeStop) → (stop ≡ TooLarge → IsTooLarge version g shape j size) → IsFormulaStop version g j size input (encode_stop stop)
-  formula_stop input behind some first TooLarge too_large = inr (inl (record { some = some; line = line; behind = behind; first = first; fault = large (too_large refl) }, refl))
-  formula_stop input behind some first NoMemory too_large = tt
+  -- its formula is too large
+  pub too_large : (shape : List Cell) → IsShapeLine g line shape → IsTooLarge version g shape j size → IsShapeStop version g j size line (Fault 1 14)
+  too_large shape is_shape large = (refl, inr (record { shape = shape; is_shape = is_shape; too_large = large }, refl))
+
+  -- its fault is told of an input to `formula`
+  pub formula_stop : (input behind : List ℕ) → input ≢ [] → HasFirstLine input line behind → (stop : LineStop ℕ) → IsShapeStop version g j size line stop → IsFormulaStop version g j size input stop
+  formula_stop input behind some first (Fault at number) (one, fault) = inr (inl (record { some = some; line = line; behind = behind; first = first; fault = fault }, one))
+  formula_stop input behind some first NoMemory _ = tt
 
   -- and of one to `answer`
-  pub answer_stop : (input model : List ℕ) → HasEndedLine input line model → (stop : EncodeStop) → (stop ≡ TooLarge → IsTooLarge version g shape j size) → IsAnswerStop version g j size input (encode_stop stop)
-  answer_stop input model ended TooLarge too_large = inr (inr (inl (record { line = line; model = model; ended = ended; fault = large (too_large refl) }, refl)))
-  answer_stop input model ended NoMemory too_large = tt
+  pub answer_stop : (input model : List ℕ) → HasEndedLine input line model → (stop : LineStop ℕ) → IsShapeStop version g j size line stop → IsAnswerStop version g j size input stop
+  answer_stop input model ended (Fault at number) (one, fault) = inr (inr (inl (record { line = line; model = model; ended = ended; fault = fault }, one)))
+  answer_stop input model ended NoMemory _ = tt
 
--- the formula of the line's shape, from its parts
-abbrev pub encoded_as : (version : Version) (g : Geometry) (j size : ℕ) (line : List ℕ) (shape : List Cell) → IsShapeLine g line shape → (vars : List Variable) (count : ℕ) (clauses : List (List Lit))
-    → IsCountedFormula version g shape j vars count clauses → formula_size clauses ≤ size → HasFormula version g j size line
-encoded_as version g j size line shape is_shape vars count clauses formula fits =
-    record { shape = shape; is_shape = is_shape; vars = vars; count = count; clauses = clauses; formula = formula; fits = fits }
+  -- its formula, over a universe of its shape
+  pub encodes : (shape : List Cell) (u : Levels) (count : ℕ) (clauses : List (List Lit)) → u.shape ≡ shape → u.level ≡ j → IsShapeLine g line shape → IsCountedFormula version g shape j u.vars count clauses → formula_size clauses ≤ size
+      → ((values : ℕ → Bool) × Satisfies values clauses) ↔ HasCoronas g shape j → ((values : ℕ → Bool) → Satisfies values clauses → AreCoronas g shape (chosen_layers values u.vars j)) → EncodesLine version g j size line u count clauses
+  encodes shape u count clauses same level_is is_shape formula fits satisfiable models = record {
+    is_shape = subst (IsShapeLine g line) (sym same) is_shape;
+    level_is = level_is;
+    formula = subst (λ (s : List Cell). IsCountedFormula version g s j u.vars count clauses) (sym same) formula;
+    fits = fits;
+    satisfiable = subst (λ (s : List Cell). ((values : ℕ → Bool) × Satisfies values clauses) ↔ HasCoronas g s j) (sym same) satisfiable;
+    models = λ values holds. subst (λ (s : List Cell). AreCoronas g s (chosen_layers values u.vars j)) (sym same) (models values holds);
+  }
+
+-- the formula of the line's shape
+abbrev pub encoded_as : (version : Version) (g : Geometry) (j size : ℕ) (line : List ℕ) (u : Levels) (count : ℕ) (clauses : List (List Lit)) → EncodesLine version g j size line u count clauses → HasFormula version g j size line
+encoded_as version g j size line u count clauses e =
+    record { shape = u.shape; is_shape = e.is_shape; vars = u.vars; count = count; clauses = clauses; formula = e.formula; fits = e.fits }
 
 -- ---- `formula`
 
@@ -97,13 +112,12 @@ layer_count g shape j vars v layers s =
     AllZip-long (λ (layer : List Iso) (placed : List (List Cell)). AllZip (λ by tile. IsLeastIsometry g shape tile by) layer placed) layers (chosen_layers v vars j) s.isometries in
     sym long ∙ length-map (range_with_len 1 j) (chosen_layer v vars) ∙ length-range_with_len 1 j
 
--- the layers of a universe are spelled as those of its shape and level
-pub spelled_of : (g : Geometry) (u : Levels) (shape : List Cell) (j : ℕ) (values other : List Bool) (layers : List (List Iso)) → u.shape ≡ shape → u.level ≡ j → other ≡ values
-    → Spells g u.shape layers (chosen_layers (assignment_of other) u.vars u.level) → Spells g shape layers (chosen_layers (assignment_of values) u.vars j)
-spelled_of g u shape j values other layers shape_is level_is same s =
-    subst (λ (cells : List Cell). Spells g cells layers (chosen_layers (assignment_of values) u.vars j)) shape_is
-    (subst (λ (k : ℕ). Spells g u.shape layers (chosen_layers (assignment_of values) u.vars k)) level_is
-    (subst (λ (vs : List Bool). Spells g u.shape layers (chosen_layers (assignment_of vs) u.vars u.level)) same s))
+-- the layers of a universe are spelled as those of its level
+pub spelled_of : (g : Geometry) (u : Levels) (j : ℕ) (values other : List Bool) (layers : List (List Iso)) → u.level ≡ j → other ≡ values
+    → Spells g u.shape layers (chosen_layers (assignment_of other) u.vars u.level) → Spells g u.shape layers (chosen_layers (assignment_of values) u.vars j)
+spelled_of g u j values other layers level_is same s =
+    subst (λ (k : ℕ). Spells g u.shape layers (chosen_layers (assignment_of values) u.vars k)) level_is
+    (subst (λ (vs : List Bool). Spells g u.shape layers (chosen_layers (assignment_of vs) u.vars u.level)) same s)
 
 pub tells_coronas : (g : Geometry) (shape : List Cell) (j : ℕ) (vars : List Variable) (v : ℕ → Bool) (clauses : List (List Lit)) (layers : List (List Iso)) (text : List ℕ) → Satisfies v clauses
     → Spells g shape layers (chosen_layers v vars j) → AreCoronas g shape (chosen_layers v vars j) → text ≡ coronas_text layers → TellsCoronas g shape j vars v clauses text
@@ -112,7 +126,7 @@ tells_coronas g shape j vars v clauses layers text satisfies spelled coronas is 
 
 module _ (version : Version) (g : Geometry) (j size : ℕ) (input line model : List ℕ) (ended : HasEndedLine input line model) (encoded : HasFormula version g j size line) where
   -- the fault of the model text is told
-  pub model_stop : (stop : ExchangeStop) → IsModelStop encoded.count model stop → IsAnswerStop version g j size input stop
+  pub model_stop : (stop : LineStop ℕ) → IsModelStop encoded.count model stop → IsAnswerStop version g j size input stop
   model_stop (Fault at number) fault = inr (inr (inr (record {
     line = line;
     model = model;
@@ -120,7 +134,7 @@ module _ (version : Version) (g : Geometry) (j size : ℕ) (input line model : L
     encoded = encoded;
     fault = fault;
   })))
-  model_stop NoStop _ = tt
+  model_stop NoMemory _ = tt
 
   pub is_answer : (values : List Bool) → IsModel encoded.count model values → (text : List ℕ) → TellsCoronas g encoded.shape j encoded.vars (assignment_of values) encoded.clauses text ⊎ TellsFalse (assignment_of values) encoded.clauses text → IsAnswer version g j size input text
   is_answer values is_model text told = record {

@@ -16,8 +16,8 @@ use Rattle.heesch_dimacs.specs.Models.{IsModel}
 use Rattle.heesch_dimacs.specs.Stops.{Stops}
 use Rattle.heesch_dimacs.specs.Words.{HasNoNewline}
 use Rattle.heesch_text.specs.Catalogue.{coronas_text}
-use Rattle.heesch_exchange.specs.declared.stop.ExchangeStop.{ExchangeStop}
-use Rattle.heesch_exchange.specs.declared.stop.ExchangeStop.TheVariants.{Fault, NoMemory}
+use Rattle.heesch_line.specs.declared.stops.LineStop.{LineStop}
+use Rattle.heesch_line.specs.declared.stops.LineStop.TheVariants.{Fault, NoMemory}
 use Rattle.heesch_exchange.specs.Shapes.{HasFormula, IsShapeFault}
 
 -- the input is this line, which ends, and behind it a text
@@ -88,11 +88,11 @@ HasAnswerFault version g j size input at number =
     ⊎ HasModelFault version g j size input at number
 
 -- the input has this fault, unless memory was refused
-abbrev pub IsAnswerStop : Version → Geometry → ℕ → ℕ → List ℕ → ExchangeStop → Type 0
+abbrev pub IsAnswerStop : Version → Geometry → ℕ → ℕ → List ℕ → LineStop ℕ → Type 0
 IsAnswerStop version g j size input (Fault at number) = HasAnswerFault version g j size input at number
 IsAnswerStop version g j size input NoMemory = ⊤
 
 -- the model text has this fault, unless memory was refused
-abbrev pub IsModelStop : ℕ → List ℕ → ExchangeStop → Type 0
+abbrev pub IsModelStop : ℕ → List ℕ → LineStop ℕ → Type 0
 IsModelStop count model (Fault at number) = IsModelFault count model at number
 IsModelStop count model NoMemory = ⊤

@@ -5,8 +5,8 @@ use Rattle.heesch_grid.specs.Geometry.{Geometry}
 use Rattle.heesch_cnf.specs.declared.version.Version.{Version}
 use Rattle.heesch_cnf.specs.Clauses.{Satisfies}
 use Rattle.heesch_dimacs.specs.Formulas.{clause_text}
-use Rattle.heesch_exchange.specs.declared.stop.ExchangeStop.{ExchangeStop}
-use Rattle.heesch_exchange.specs.declared.stop.ExchangeStop.TheVariants.{Fault, NoMemory}
+use Rattle.heesch_line.specs.declared.stops.LineStop.{LineStop}
+use Rattle.heesch_line.specs.declared.stops.LineStop.TheVariants.{Fault, NoMemory}
 use Rattle.heesch_exchange.specs.Shapes.{HasFirstLine, HasFormula, IsShapeFault}
 
 -- The input is the line of one shape S, and the text is the clause text of E(S, j) of the version, which has at most `size` literals and is satisfiable exactly where j coronas of S exist.
@@ -42,6 +42,6 @@ HasFormulaFault version g j size input at number =
     ⊎ (HasSecondLine version g j size input × (at ≡ 2) × (number ≡ 13))
 
 -- the input has this fault, unless memory was refused
-abbrev pub IsFormulaStop : Version → Geometry → ℕ → ℕ → List ℕ → ExchangeStop → Type 0
+abbrev pub IsFormulaStop : Version → Geometry → ℕ → ℕ → List ℕ → LineStop ℕ → Type 0
 IsFormulaStop version g j size input (Fault at number) = HasFormulaFault version g j size input at number
 IsFormulaStop version g j size input NoMemory = ⊤

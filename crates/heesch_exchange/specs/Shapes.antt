@@ -1,20 +1,22 @@
 -- The line of a shape, with which an input begins.
-use Rattle.std.specs.Prelude.{◌≡◌, ◌⊎◌, ℕ, ◌≤◌, List, [], ◌∷◌, ◌++◌, ⊤}
+use Rattle.std.specs.Prelude.{◌≡◌, ◌⊎◌, ◌↔◌, ℕ, ◌≤◌, Bool, List, [], ◌∷◌, ◌++◌, ⊤}
 use Rattle.heesch_grid.specs.declared.Cell.{Cell}
 use Rattle.heesch_grid.specs.Clauses.{formula_size}
+use Rattle.heesch_grid.specs.Corona.{AreCoronas, HasCoronas}
 use Rattle.heesch_grid.specs.CoronaFormula.{Variable}
 use Rattle.heesch_grid.specs.Geometry.{Geometry}
+use Rattle.heesch_grid.specs.Statements.{chosen_layers}
 use Rattle.heesch_cert.specs.Formulas.{IsCountedFormula}
 use Rattle.heesch_cert.specs.Proofs.{IsTooLarge}
 use Rattle.heesch_cnf.specs.declared.literal.Lit.{Lit}
 use Rattle.heesch_cnf.specs.declared.version.Version.{Version}
+use Rattle.heesch_cnf.specs.Clauses.{Satisfies}
 use Rattle.heesch_dimacs.specs.Words.{HasNoNewline}
-use Rattle.heesch_encode.specs.declared.stop.EncodeStop.{EncodeStop}
-use Rattle.heesch_encode.specs.declared.stop.EncodeStop.TheVariants as encode_stops
 use Rattle.heesch_given.specs.Given.{IsShapeLine, IsLineFault}
 use Rattle.heesch_line.specs.Scanning.{IsNoLine}
-use Rattle.heesch_exchange.specs.declared.stop.ExchangeStop.{ExchangeStop}
-use Rattle.heesch_exchange.specs.declared.stop.ExchangeStop.TheVariants.{Fault, NoMemory}
+use Rattle.heesch_place.specs.Universes.{Levels}
+use Rattle.heesch_line.specs.declared.stops.LineStop.{LineStop}
+use Rattle.heesch_line.specs.declared.stops.LineStop.TheVariants.{Fault, NoMemory}
 
 -- these bytes are the first line, without its newline, and those are behind it; the newline may be missing at the end of the input
 pub record HasFirstLine (input line behind : List ℕ) : Type 0 where
@@ -46,16 +48,25 @@ IsShapeFault version g j size line number = IsLineFault g line number ⊎ (HasLa
 -- ---- what the steps answer
 
 -- the first line has this fault by itself, unless memory was refused
-abbrev pub IsLineStop : Geometry → List ℕ → ExchangeStop → Type 0
+abbrev pub IsLineStop : Geometry → List ℕ → LineStop ℕ → Type 0
 IsLineStop g line (Fault at number) = (at ≡ 1) × IsLineFault g line number
 IsLineStop g line NoMemory = ⊤
 
 -- the first line isn't cells, unless memory was refused
-abbrev pub IsCellsStop : List ℕ → ExchangeStop → Type 0
+abbrev pub IsCellsStop : List ℕ → LineStop ℕ → Type 0
 IsCellsStop line (Fault at number) = (at ≡ 1) × (number ≡ 6) × IsNoLine line
 IsCellsStop line NoMemory = ⊤
 
--- a formula that is too large is fault 14 of the first line
-abbrev pub encode_stop : EncodeStop → ExchangeStop
-encode_stop encode_stops.TooLarge = Fault 1 14
-encode_stop encode_stops.NoMemory = NoMemory
+-- the first line has this fault, by itself or by its formula, unless memory was refused
+abbrev pub IsShapeStop : Version → Geometry → ℕ → ℕ → List ℕ → LineStop ℕ → Type 0
+IsShapeStop version g j size line (Fault at number) = (at ≡ 1) × IsShapeFault version g j size line number
+IsShapeStop version g j size line NoMemory = ⊤
+
+-- the line is that of the universe's shape S, and these are the clauses of E(S, j) of the version, of at most `size` literals; they are satisfiable exactly where j coronas of S exist, and the true variables of a model are coronas
+pub record EncodesLine (version : Version) (g : Geometry) (j size : ℕ) (line : List ℕ) (u : Levels) (count : ℕ) (clauses : List (List Lit)) : Type 0 where
+  pub is_shape : IsShapeLine g line u.shape
+  pub level_is : u.level ≡ j
+  pub formula : IsCountedFormula version g u.shape j u.vars count clauses
+  pub fits : formula_size clauses ≤ size
+  pub satisfiable : ((values : ℕ → Bool) × Satisfies values clauses) ↔ HasCoronas g u.shape j
+  pub models : (values : ℕ → Bool) → Satisfies values clauses → AreCoronas g u.shape (chosen_layers values u.vars j)

@@ -1,19 +1,18 @@
 //! The answer to `answer`.
 ghost use Rattle.std.specs.Prelude.{◌≡◌, ◌≤◌, ◌++◌, IfOk, IfErr};
 ghost use Rattle.heesch_grid.specs.Names.{geometry_of};
-ghost use Rattle.heesch_exchange.specs.declared.stop.ExchangeStop.TheVariants as stops;
 ghost use Rattle.heesch_exchange.specs.Answers.{IsAnswer, IsAnswerStop, false_text};
 
+use crate::asked::Asked;
 use crate::model::values_of;
-use crate::shapes::shape_of;
-use crate::stop::ExchangeStop;
+use crate::shapes::encode_line;
 use heesch_cnf::Version;
 use heesch_dimacs::{cut_line, first_false};
-use heesch_encode::encode_flat;
 use heesch_grid::{Grid, GridName};
 use heesch_io::NoMemory;
 use heesch_kite::on_grid;
 use heesch_levels::layers_of;
+use heesch_line::LineStop;
 use heesch_text::write_coronas;
 use itoa::Buffer;
 use std::alloc::Global;
@@ -28,9 +27,11 @@ const NOT_ENDED: u32 = 6;
 /// Or, where its assignment makes the formula false, `false I` with the least clause that is false. The input is the line of
 /// a shape's cells and behind it the model text.
 ///
-/// Condition: the level is 1 to 6, the size 1 to 60,000,000. A fault is that of the first faulty line; in one line 13 comes
-/// before 6, 6 before 1 to 5, then 14, and 15 last. 14 comes exactly where the formula has more than `size` literals. The
-/// cost is that of `encode_flat`, of the text, and of a look at each variable for each level.
+/// Condition: the level is 1 to 6, the size 1 to 60,000,000. `Fault` has the first line at fault, from 1, and the number of
+/// its fault: 13 where the input is empty; 6 where it isn't the line that is wanted there; 1 to 5 where its cells are no
+/// shape; 14 where the shape's formula is too large; 15 where it names a variable that isn't the formula's or was named
+/// before. In one line 13 comes before 6, 6 before 1 to 5, then 14, and 15 last. 14 comes exactly where the formula has more
+/// than `size` literals. The cost is that of `encode_flat`, of the text, and of a look at each variable for each level.
 pub fn answer(
     alloc: Global,
     grid: GridName,
@@ -38,41 +39,39 @@ pub fn answer(
     size: u32,
     version: Version,
     input: &[u8],
-) -> Result<Vec<u8>, ExchangeStop>
+) -> Result<Vec<u8>, LineStop<u32>>
     requires level { (1 ≤ level) × (level ≤ 6) }
     requires size { (1 ≤ size) × (size ≤ 60000000) }
     ensures ok { IfOk result (λ text. IsAnswer version (geometry_of grid) level size input.now text.items) }
     ensures stop { IfErr result (IsAnswerStop version (geometry_of grid) level size input.now) }
 {
-    on_grid!(grid, answer_of::<_>(alloc, level, size, version, input))
+    let asked = Asked {
+        level,
+        size,
+        version,
+    };
+    on_grid!(grid, answer_of::<_>(alloc, asked, input))
 }
 
-fn answer_of<G: Grid>(
-    alloc: Global,
-    level: u32,
-    size: u32,
-    version: Version,
-    input: &[u8],
-) -> Result<Vec<u8>, ExchangeStop>
-    requires level { (1 ≤ level) × (level ≤ 6) }
-    requires size { (1 ≤ size) × (size ≤ 60000000) }
-    ensures ok { IfOk result (λ text. IsAnswer version G.geometry level size input.now text.items) }
-    ensures stop { IfErr result (IsAnswerStop version G.geometry level size input.now) }
+fn answer_of<G: Grid>(alloc: Global, asked: Asked, input: &[u8]) -> Result<Vec<u8>, LineStop<u32>>
+    requires level { (1 ≤ asked.level) × (asked.level ≤ 6) }
+    requires size { (1 ≤ asked.size) × (asked.size ≤ 60000000) }
+    ensures ok { IfOk result (λ text. IsAnswer asked.version G.geometry asked.level asked.size input.now text.items) }
+    ensures stop { IfErr result (IsAnswerStop asked.version G.geometry asked.level asked.size input.now) }
 {
     if input.is_empty() {
-        return Err(ExchangeStop::Fault {
+        return Err(LineStop::Fault {
             line: 1,
-            number: NO_LINE,
+            fault: NO_LINE,
         });
     }
     let Some((line, model)) = cut_line(input) else {
-        return Err(ExchangeStop::Fault {
+        return Err(LineStop::Fault {
             line: 1,
-            number: NOT_ENDED,
+            fault: NOT_ENDED,
         });
     };
-    let shape = shape_of::<G>(alloc, line)?;
-    let encoded = encode_flat(alloc, &shape, level, size, version)?;
+    let encoded = encode_line::<G>(alloc, line, asked)?;
     let values = values_of(alloc, model, encoded.formula.vars())?;
     let mut text = Vec::new(alloc);
     match first_false(&encoded.formula, values.as_slice()) {

@@ -4,13 +4,13 @@ ghost use Rattle.heesch_grid.specs.Names.{geometry_of};
 ghost use Rattle.heesch_exchange.specs.Shapes.{HasFirstLine};
 ghost use Rattle.heesch_exchange.specs.Formulas.{IsFormula, IsFormulaStop};
 
-use crate::shapes::shape_of;
-use crate::stop::ExchangeStop;
+use crate::asked::Asked;
+use crate::shapes::encode_line;
 use heesch_cnf::Version;
 use heesch_dimacs::{cut_line, write_flat_cnf};
-use heesch_encode::encode_flat;
 use heesch_grid::{Grid, GridName};
 use heesch_kite::on_grid;
+use heesch_line::LineStop;
 use std::alloc::Global;
 
 /// The fault of an input that isn't just one line: of its first line where it is empty, else of its second.
@@ -19,9 +19,10 @@ const NOT_ONE_LINE: u32 = 13;
 /// The clause text of the corona formula of a level and a version, of the shape whose cells are the one line of the input.
 /// The line's newline may be missing.
 ///
-/// Condition: the level is 1 to 6, the size 1 to 60,000,000. A fault is that of the first faulty line; in one line 13 comes
-/// before 6, and 6 before 1 to 5, 14 last. 14 comes exactly where the formula has more than `size` literals. The cost is
-/// that of `encode_flat` and of the text.
+/// Condition: the level is 1 to 6, the size 1 to 60,000,000. `Fault` has the first line at fault, from 1, and the number of
+/// its fault: 13 where it is missing or one too many; 6 where it isn't cells; 1 to 5 where its cells are no shape; 14 where
+/// the shape's formula is too large. In one line 13 comes before 6, and 6 before 1 to 5, 14 last. 14 comes exactly where the
+/// formula has more than `size` literals. The cost is that of `encode_flat` and of the text.
 pub fn formula(
     alloc: Global,
     grid: GridName,
@@ -29,40 +30,38 @@ pub fn formula(
     size: u32,
     version: Version,
     input: &[u8],
-) -> Result<Vec<u8>, ExchangeStop>
+) -> Result<Vec<u8>, LineStop<u32>>
     requires level { (1 ≤ level) × (level ≤ 6) }
     requires size { (1 ≤ size) × (size ≤ 60000000) }
     ensures ok { IfOk result (λ text. IsFormula version (geometry_of grid) level size input.now text.items) }
     ensures stop { IfErr result (IsFormulaStop version (geometry_of grid) level size input.now) }
 {
-    on_grid!(grid, formula_of::<_>(alloc, level, size, version, input))
+    let asked = Asked {
+        level,
+        size,
+        version,
+    };
+    on_grid!(grid, formula_of::<_>(alloc, asked, input))
 }
 
-fn formula_of<G: Grid>(
-    alloc: Global,
-    level: u32,
-    size: u32,
-    version: Version,
-    input: &[u8],
-) -> Result<Vec<u8>, ExchangeStop>
-    requires level { (1 ≤ level) × (level ≤ 6) }
-    requires size { (1 ≤ size) × (size ≤ 60000000) }
-    ensures ok { IfOk result (λ text. IsFormula version G.geometry level size input.now text.items) }
-    ensures stop { IfErr result (IsFormulaStop version G.geometry level size input.now) }
+fn formula_of<G: Grid>(alloc: Global, asked: Asked, input: &[u8]) -> Result<Vec<u8>, LineStop<u32>>
+    requires level { (1 ≤ asked.level) × (asked.level ≤ 6) }
+    requires size { (1 ≤ asked.size) × (asked.size ≤ 60000000) }
+    ensures ok { IfOk result (λ text. IsFormula asked.version G.geometry asked.level asked.size input.now text.items) }
+    ensures stop { IfErr result (IsFormulaStop asked.version G.geometry asked.level asked.size input.now) }
 {
     if input.is_empty() {
-        return Err(ExchangeStop::Fault {
+        return Err(LineStop::Fault {
             line: 1,
-            number: NOT_ONE_LINE,
+            fault: NOT_ONE_LINE,
         });
     }
     let (line, behind) = first_line(input);
-    let shape = shape_of::<G>(alloc, line)?;
-    let encoded = encode_flat(alloc, &shape, level, size, version)?;
+    let encoded = encode_line::<G>(alloc, line, asked)?;
     if !behind.is_empty() {
-        return Err(ExchangeStop::Fault {
+        return Err(LineStop::Fault {
             line: 2,
-            number: NOT_ONE_LINE,
+            fault: NOT_ONE_LINE,
         });
     }
     let mut text = Vec::new(alloc);

@@ -2,12 +2,11 @@
 #![tactic(auto)]
 
 mod answers;
+mod asked;
 mod formulas;
 pub mod laws;
 mod model;
 mod shapes;
-mod stop;
 
 pub use answers::answer;
 pub use formulas::formula;
-pub use stop::ExchangeStop;

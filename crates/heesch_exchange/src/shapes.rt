@@ -1,39 +1,69 @@
-//! The line of a shape.
-ghost use Rattle.std.specs.Prelude.{◌≡◌, IfOk, IfErr};
+//! The line of a shape, and the formula of its shape.
+ghost use Rattle.std.specs.Prelude.{◌≡◌, ◌≤◌, IfOk, IfErr};
 ghost use Rattle.heesch_line.specs.Scanning.{IsLineOf};
 ghost use Rattle.heesch_given.specs.Given.{IsShapeLine};
-ghost use Rattle.heesch_exchange.specs.Shapes.{IsLineStop, IsCellsStop};
+ghost use Rattle.heesch_exchange.specs.Shapes.{IsLineStop, IsCellsStop, IsShapeStop, EncodesLine};
 
-use crate::stop::ExchangeStop;
+use crate::asked::Asked;
 use heesch_cert::Cells;
+use heesch_encode::{EncodeStop, FlatEncoded, encode_flat};
 use heesch_given::canonical_of;
 use heesch_grid::Grid;
-use heesch_line::{LineFault, ListLine};
+use heesch_line::{LineFault, LineStop, ListLine};
 use heesch_shape::Shape;
 use std::alloc::Global;
 
 /// The fault of a line that isn't cells.
 const NOT_CELLS: u32 = 6;
 
+/// The fault of a line whose shape's formula is too large.
+const TOO_LARGE: u32 = 14;
+
+/// The corona formula of the shape whose cells the first line is, or the fault of the line.
+///
+/// Condition: the level is 1 to 6, the size 1 to 60,000,000. 14 comes exactly where the formula has more than `size`
+/// literals. The cost is that of `shape_of` and of `encode_flat`.
+pub fn encode_line<G: Grid>(
+    alloc: Global,
+    line: &[u8],
+    asked: Asked,
+) -> Result<FlatEncoded<G>, LineStop<u32>>
+    requires level { (1 ≤ asked.level) × (asked.level ≤ 6) }
+    requires size { (1 ≤ asked.size) × (asked.size ≤ 60000000) }
+    ensures ok { IfOk result (λ e. EncodesLine asked.version G.geometry asked.level asked.size line.now
+        e.universe e.formula.vars e.formula.clauses) }
+    ensures stop { IfErr result (IsShapeStop asked.version G.geometry asked.level asked.size line.now) }
+{
+    let shape = shape_of::<G>(alloc, line)?;
+    match encode_flat(alloc, &shape, asked.level, asked.size, asked.version) {
+        Ok(encoded) => Ok(encoded),
+        Err(EncodeStop::TooLarge) => Err(LineStop::Fault {
+            line: 1,
+            fault: TOO_LARGE,
+        }),
+        Err(EncodeStop::NoMemory) => Err(LineStop::NoMemory),
+    }
+}
+
 /// The canonical form of the shape whose cells the first line is, or the fault of the line.
 ///
 /// The cost is linear in the line, of which at most 33 cells are kept.
-pub fn shape_of<G: Grid>(alloc: Global, line: &[u8]) -> Result<Shape<G>, ExchangeStop>
+fn shape_of<G: Grid>(alloc: Global, line: &[u8]) -> Result<Shape<G>, LineStop<u32>>
     ensures ok { IfOk result (IsShapeLine G.geometry line.now) }
     ensures stop { IfErr result (IsLineStop G.geometry line.now) }
 {
     let cells = cells_of(alloc, line)?;
     match canonical_of(cells.as_slice()) {
         Ok(shape) => Ok(shape),
-        Err(fault) => Err(ExchangeStop::Fault {
+        Err(fault) => Err(LineStop::Fault {
             line: 1,
-            number: fault.number(),
+            fault: fault.number(),
         }),
     }
 }
 
 /// The first 33 cells of the line.
-fn cells_of(alloc: Global, line: &[u8]) -> Result<Cells, ExchangeStop>
+fn cells_of(alloc: Global, line: &[u8]) -> Result<Cells, LineStop<u32>>
     ensures ok { IfOk result (IsLineOf line.now) }
     ensures stop { IfErr result (IsCellsStop line.now) }
 {
@@ -43,10 +73,10 @@ fn cells_of(alloc: Global, line: &[u8]) -> Result<Cells, ExchangeStop>
     }
     match read.finish() {
         Ok(cells) => Ok(cells),
-        Err(LineFault::NotALine) => Err(ExchangeStop::Fault {
+        Err(LineFault::NotALine) => Err(LineStop::Fault {
             line: 1,
-            number: NOT_CELLS,
+            fault: NOT_CELLS,
         }),
-        Err(LineFault::NoMemory) => Err(ExchangeStop::NoMemory),
+        Err(LineFault::NoMemory) => Err(LineStop::NoMemory),
     }
 }

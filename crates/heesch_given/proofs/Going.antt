@@ -7,8 +7,8 @@ use Rattle.heesch_grid.specs.declared.Cell.{Cell}
 use Rattle.heesch_grid.specs.Geometry.{Geometry}
 use Rattle.heesch_line.specs.Scanning.{Scanned}
 use Rattle.heesch_io.proofs.KnownBytes.{all_given, consumes_both, front_given, front_read, one_byte}
-use Rattle.heesch_given.specs.declared.stop.GivenStop.{GivenStop}
-use Rattle.heesch_given.specs.declared.stop.GivenStop.TheVariants as stops
+use Rattle.heesch_line.specs.declared.stops.InputStop.{InputStop}
+use Rattle.heesch_line.specs.declared.stops.InputStop.TheVariants as stops
 use Rattle.heesch_io.specs.Input.{IsAllOf, ReadsNoFurther}
 use Rattle.heesch_given.specs.Given.{AreGiven, HasFault, GivesShapes, GivesFault, DecideNothing}
 use Rattle.heesch_given.specs.Steps.{IsRead, IsFrontStop, IsWholeStop, IsStopBeyond}
@@ -39,7 +39,7 @@ going_on g first before now count more room rest old new s t o fits c taken =
     }
 
 -- the piece has the fault
-pub piece_stops : (most : ℕ) (g : Geometry) (first before now : Option (List ℕ)) (count more : ℕ) (room rest : List ℕ) (old : List (List Cell)) (s : Scanned) (e : GivenStop) → Going g first before count old s → more ≤ length room → Consumes before now (take more room)
+pub piece_stops : (most : ℕ) (g : Geometry) (first before now : Option (List ℕ)) (count more : ℕ) (room rest : List ℕ) (old : List (List Cell)) (s : Scanned) (e : InputStop ℕ) → Going g first before count old s → more ≤ length room → Consumes before now (take more room)
     → count + more ≤ most → ((bytes : List ℕ) → IsRead g bytes old s → IsFrontStop g (bytes ++ take more (room ++ rest)) e) → GivesFault most g first e
 piece_stops most g first before now count more room rest old s (stops.Fault line number) o fits c few told =
     let piece = take more (room ++ rest) in
@@ -50,7 +50,7 @@ piece_stops most g first before now count more room rest old s stops.Failed o fi
 piece_stops most g first before now count more room rest old s stops.NoMemory o fits c few told = tt
 
 -- a piece is no failure of the source
-pub piece_not_failed : (g : Geometry) (first before : Option (List ℕ)) (count : ℕ) (piece : List ℕ) (old : List (List Cell)) (s : Scanned) (e : GivenStop) → Going g first before count old s → e ≡ stops.Failed
+pub piece_not_failed : (g : Geometry) (first before : Option (List ℕ)) (count : ℕ) (piece : List ℕ) (old : List (List Cell)) (s : Scanned) (e : InputStop ℕ) → Going g first before count old s → e ≡ stops.Failed
     → ((bytes : List ℕ) → IsRead g bytes old s → IsFrontStop g (bytes ++ piece) e) → ⊥
 piece_not_failed g first before count piece old s e o is told = subst (IsFrontStop g (o.bytes ++ piece)) is (told o.bytes o.read)
 
@@ -59,7 +59,7 @@ end_read : (before now : Option (List ℕ)) (more : ℕ) (room : List ℕ) → m
 end_read before now more room none some c ended = (subst (λ (n : ℕ). Consumes before now (take n room)) none c, ended none some)
 
 -- the source is at its end
-pub end_given : {T : Type 0} (items : T → List (List Cell)) (result : Result T GivenStop) (most : ℕ) (g : Geometry) (first before now : Option (List ℕ)) (count more : ℕ) (room : List ℕ) (old : List (List Cell)) (s : Scanned) → Going g first before count old s → count ≤ most
+pub end_given : {T : Type 0} (items : T → List (List Cell)) (result : Result T (InputStop ℕ)) (most : ℕ) (g : Geometry) (first before now : Option (List ℕ)) (count more : ℕ) (room : List ℕ) (old : List (List Cell)) (s : Scanned) → Going g first before count old s → count ≤ most
     → more ≡ 0 → 0 < length room → Consumes before now (take more room) → (more ≡ 0 → 0 < length room → IsAtEnd now)
     → ((bytes : List ℕ) (many : ℕ) → length bytes ≤ many → IsRead g bytes old s → IfOk result (λ v. AreGiven many g bytes (items v))) → IfOk result (λ v. GivesShapes most g first (items v))
 end_given items (Ok v) most g first before now count more room old s o few none some c ended told =
@@ -68,12 +68,12 @@ end_given items (Ok v) most g first before now count more room old s o few none 
     (o.bytes, all_given first now o.bytes (subst (Consumes first now) (append-nil o.bytes) all) end.1, told o.bytes most (omega (arith, few, o.count_is)) o.read)
 end_given items (Err e) most g first before now count more room old s o few none some c ended told = tt
 
-whole_told : (most : ℕ) (g : Geometry) (first : Option (List ℕ)) (bytes : List ℕ) (e : GivenStop) → IsAllOf first bytes → IsWholeStop most g bytes e → GivesFault most g first e
+whole_told : (most : ℕ) (g : Geometry) (first : Option (List ℕ)) (bytes : List ℕ) (e : InputStop ℕ) → IsAllOf first bytes → IsWholeStop most g bytes e → GivesFault most g first e
 whole_told most g first bytes (stops.Fault line number) all h = (bytes, all, h)
 whole_told most g first bytes stops.Failed all h = tt
 whole_told most g first bytes stops.NoMemory all h = tt
 
-pub end_stopped : {T : Type 0} (result : Result T GivenStop) (most : ℕ) (g : Geometry) (first before now : Option (List ℕ)) (count more : ℕ) (room : List ℕ) (old : List (List Cell)) (s : Scanned) → Going g first before count old s → count ≤ most
+pub end_stopped : {T : Type 0} (result : Result T (InputStop ℕ)) (most : ℕ) (g : Geometry) (first before now : Option (List ℕ)) (count more : ℕ) (room : List ℕ) (old : List (List Cell)) (s : Scanned) → Going g first before count old s → count ≤ most
     → more ≡ 0 → 0 < length room → Consumes before now (take more room) → (more ≡ 0 → 0 < length room → IsAtEnd now)
     → ((bytes : List ℕ) (many : ℕ) → length bytes ≤ many → IsRead g bytes old s → IfErr result (IsWholeStop many g bytes)) → IfErr result (GivesFault most g first)
 end_stopped (Ok v) most g first before now count more room old s o few none some c ended told = tt
@@ -83,13 +83,13 @@ end_stopped (Err e) most g first before now count more room old s o few none som
     whole_told most g first o.bytes e (all_given first now o.bytes (subst (Consumes first now) (append-nil o.bytes) all) end.1) (told o.bytes most (omega (arith, few, o.count_is)) o.read)
 
 -- the end is no failure of the source
-pub end_not_failed : {T : Type 0} (result : Result T GivenStop) (g : Geometry) (first before : Option (List ℕ)) (count : ℕ) (old : List (List Cell)) (s : Scanned) → Going g first before count old s → result ≡ Err stops.Failed
+pub end_not_failed : {T : Type 0} (result : Result T (InputStop ℕ)) (g : Geometry) (first before : Option (List ℕ)) (count : ℕ) (old : List (List Cell)) (s : Scanned) → Going g first before count old s → result ≡ Err stops.Failed
     → ((bytes : List ℕ) (many : ℕ) → length bytes ≤ many → IsRead g bytes old s → IfErr result (IsWholeStop many g bytes)) → ⊥
 end_not_failed result g first before count old s o is told =
     subst (λ r. IfErr r (IsWholeStop (length o.bytes) g o.bytes)) is (told o.bytes (length o.bytes) (omega arith) o.read)
 
 -- the source goes on behind the most that are read
-pub goes_beyond : (most : ℕ) (g : Geometry) (first before now : Option (List ℕ)) (count more : ℕ) (room : List ℕ) (old : List (List Cell)) (s : Scanned) (e : GivenStop) → Going g first before count old s → count ≡ most
+pub goes_beyond : (most : ℕ) (g : Geometry) (first before now : Option (List ℕ)) (count more : ℕ) (room : List ℕ) (old : List (List Cell)) (s : Scanned) (e : InputStop ℕ) → Going g first before count old s → count ≡ most
     → length room ≡ 1 → more ≤ 1 → 0 < more → Consumes before now (take more room)
     → ((bytes : List ℕ) → IsRead g bytes old s → IsStopBeyond g bytes e) → GivesFault most g first e
 goes_beyond most g first before now count more room old s (stops.Fault line number) o all_read one few some c told =
@@ -104,7 +104,7 @@ goes_beyond most g first before now count more room old s (stops.Fault line numb
 goes_beyond most g first before now count more room old s stops.Failed o all_read one few some c told = tt
 goes_beyond most g first before now count more room old s stops.NoMemory o all_read one few some c told = tt
 
-pub beyond_not_failed : (g : Geometry) (first before : Option (List ℕ)) (count : ℕ) (old : List (List Cell)) (s : Scanned) (e : GivenStop) → Going g first before count old s → e ≡ stops.Failed → ((bytes : List ℕ) → IsRead g bytes old s → IsStopBeyond g bytes e) → ⊥
+pub beyond_not_failed : (g : Geometry) (first before : Option (List ℕ)) (count : ℕ) (old : List (List Cell)) (s : Scanned) (e : InputStop ℕ) → Going g first before count old s → e ≡ stops.Failed → ((bytes : List ℕ) → IsRead g bytes old s → IsStopBeyond g bytes e) → ⊥
 beyond_not_failed g first before count old s e o is told = subst (IsStopBeyond g o.bytes) is (told o.bytes o.read)
 
 -- ---- what is read

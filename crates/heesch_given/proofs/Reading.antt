@@ -14,8 +14,8 @@ use Rattle.heesch_line.specs.Scanning.{Scanned, IsScanned, IsLineOf}
 use Rattle.heesch_shape.specs.declared.faults.ShapeFault.{ShapeFault}
 use Rattle.heesch_shape.specs.Faults.{IsFault, IsFaultless, number_of}
 use Rattle.heesch_given.specs.Given.{AreGiven, IsCanonicalOf, IsShapeLine, IsNoShape, IsLineFault, EndsInTime, HasFault}
-use Rattle.heesch_given.specs.declared.stop.GivenStop.{GivenStop}
-use Rattle.heesch_given.specs.declared.stop.GivenStop.TheVariants as stops
+use Rattle.heesch_line.specs.declared.stops.InputStop.{InputStop}
+use Rattle.heesch_line.specs.declared.stops.InputStop.TheVariants as stops
 use Rattle.heesch_given.specs.Steps.{IsRead, AddsShape, EndsLine, IsFrontStop, IsWholeStop, IsStopBeyond}
 use Rattle.heesch_given.proofs.ShapeFaults.{faultless_all, fault_of_all}
 use Rattle.heesch_given.proofs.Texts.{front_lines, text_more, line_ended, begun_line, goes_on_in, last_line, line_more}
@@ -257,14 +257,14 @@ last_ends most g bytes old new s r some a few =
 -- ---- a fault at a front
 
 -- it is one of a longer front
-pub front_stop_later : (g : Geometry) (front more : List ℕ) (e : GivenStop) → IsFrontStop g front e → IsFrontStop g (front ++ more) e
+pub front_stop_later : (g : Geometry) (front more : List ℕ) (e : InputStop ℕ) → IsFrontStop g front e → IsFrontStop g (front ++ more) e
 front_stop_later g front more (stops.Fault line number) h = λ most rest few.
     subst (λ (t : List ℕ). HasFault most g t line number) (sym (append_assoc front more rest)) (h most (more ++ rest) (omega (arith, few, length-append front more)))
 front_stop_later g front more stops.Failed h = absurd h
 front_stop_later g front more stops.NoMemory h = tt
 
 -- the answer to a newline
-pub newline_stops : (g : Geometry) (bytes : List ℕ) (old new : List (List Cell)) (s t : Scanned) (e : GivenStop) → (r : IsRead g bytes old s) → length old < 10000
+pub newline_stops : (g : Geometry) (bytes : List ℕ) (old new : List (List Cell)) (s t : Scanned) (e : InputStop ℕ) → (r : IsRead g bytes old s) → length old < 10000
     → EndsLine g r.undecided.line old new t (Err e) → IsFrontStop g (bytes ++ 10 ∷ []) e
 newline_stops g bytes old new s t (stops.Fault line number) r less h = λ most rest few.
     subst (λ (l : ℕ). HasFault most g ((bytes ++ 10 ∷ []) ++ rest) l number) (sym h.0) (ended_fault most g bytes old s number rest r less h.1 few)
@@ -272,7 +272,7 @@ newline_stops g bytes old new s t stops.Failed r less h = absurd h
 newline_stops g bytes old new s t stops.NoMemory r less h = tt
 
 -- the answer to the end of the bytes
-pub end_stops : (most : ℕ) (g : Geometry) (bytes : List ℕ) (old new : List (List Cell)) (s t : Scanned) (e : GivenStop) → (r : IsRead g bytes old s) → r.undecided.line ≢ [] → length bytes ≤ most
+pub end_stops : (most : ℕ) (g : Geometry) (bytes : List ℕ) (old new : List (List Cell)) (s t : Scanned) (e : InputStop ℕ) → (r : IsRead g bytes old s) → r.undecided.line ≢ [] → length bytes ≤ most
     → EndsLine g r.undecided.line old new t (Err e) → IsWholeStop most g bytes e
 end_stops most g bytes old new s t (stops.Fault line number) r some few h =
     subst (λ (l : ℕ). HasFault most g bytes l number) (sym h.0) (last_fault most g bytes old s number r some h.1 few)
@@ -280,18 +280,18 @@ end_stops most g bytes old new s t stops.Failed r some few h = absurd h
 end_stops most g bytes old new s t stops.NoMemory r some few h = tt
 
 -- the answer to a byte that is a newline
-pub newline_goes_on : (g : Geometry) (bytes : List ℕ) (byte : ℕ) (old new : List (List Cell)) (s t : Scanned) (result : Result (Unit {0}) GivenStop) → byte ≡ 10 → (r : IsRead g bytes old s) → length old < 10000
+pub newline_goes_on : (g : Geometry) (bytes : List ℕ) (byte : ℕ) (old new : List (List Cell)) (s t : Scanned) (result : Result (Unit {0}) (InputStop ℕ)) → byte ≡ 10 → (r : IsRead g bytes old s) → length old < 10000
     → EndsLine g r.undecided.line old new t result → IfOk result (λ _. IsRead g (bytes ++ byte ∷ []) new t)
 newline_goes_on g bytes byte old new s t (Ok u) is r less e = subst (λ (b : ℕ). IsRead g (bytes ++ b ∷ []) new t) (sym is) (line_ends g bytes old new s t r less e.0 e.1)
 newline_goes_on g bytes byte old new s t (Err stop) is r less e = tt
 
-pub newline_told : (g : Geometry) (bytes : List ℕ) (byte : ℕ) (old new : List (List Cell)) (s t : Scanned) (result : Result (Unit {0}) GivenStop) → byte ≡ 10 → (r : IsRead g bytes old s) → length old < 10000
+pub newline_told : (g : Geometry) (bytes : List ℕ) (byte : ℕ) (old new : List (List Cell)) (s t : Scanned) (result : Result (Unit {0}) (InputStop ℕ)) → byte ≡ 10 → (r : IsRead g bytes old s) → length old < 10000
     → EndsLine g r.undecided.line old new t result → IfErr result (IsFrontStop g (bytes ++ byte ∷ []))
 newline_told g bytes byte old new s t (Ok u) is r less e = tt
 newline_told g bytes byte old new s t (Err stop) is r less e = subst (λ (b : ℕ). IsFrontStop g (bytes ++ b ∷ []) stop) (sym is) (newline_stops g bytes old new s t stop r less e)
 
 -- a byte behind 10,000 lines
-pub full_told : (g : Geometry) (bytes : List ℕ) (byte : ℕ) (shapes : List (List Cell)) (s : Scanned) (e : GivenStop) → IsRead g bytes shapes s → 10000 ≤ length shapes → e ≡ stops.Fault (length shapes + 1) 7 → IsFrontStop g (bytes ++ byte ∷ []) e
+pub full_told : (g : Geometry) (bytes : List ℕ) (byte : ℕ) (shapes : List (List Cell)) (s : Scanned) (e : InputStop ℕ) → IsRead g bytes shapes s → 10000 ≤ length shapes → e ≡ stops.Fault (length shapes + 1) 7 → IsFrontStop g (bytes ++ byte ∷ []) e
 full_told g bytes byte shapes s e r many is = subst (IsFrontStop g (bytes ++ byte ∷ [])) (sym is) told
   where
     told : (most : ℕ) (rest : List ℕ) → length (bytes ++ byte ∷ []) ≤ most → HasFault most g ((bytes ++ byte ∷ []) ++ rest) (length shapes + 1) 7
@@ -300,10 +300,10 @@ full_told g bytes byte shapes s e r many is = subst (IsFrontStop g (bytes ++ byt
         (one_too_many most g bytes shapes s byte rest r many (omega (arith, few, length-append bytes (byte ∷ []))))
 
 -- the text goes on beyond what is read
-pub full_beyond : (g : Geometry) (bytes : List ℕ) (shapes : List (List Cell)) (s : Scanned) (e : GivenStop) → IsRead g bytes shapes s → 10000 ≤ length shapes → e ≡ stops.Fault (length shapes + 1) 7 → IsStopBeyond g bytes e
+pub full_beyond : (g : Geometry) (bytes : List ℕ) (shapes : List (List Cell)) (s : Scanned) (e : InputStop ℕ) → IsRead g bytes shapes s → 10000 ≤ length shapes → e ≡ stops.Fault (length shapes + 1) 7 → IsStopBeyond g bytes e
 full_beyond g bytes shapes s e r many is = subst (IsStopBeyond g bytes) (sym is) (λ byte rest. one_too_many (length bytes) g bytes shapes s byte rest r many (omega arith))
 
-pub line_beyond : (g : Geometry) (bytes : List ℕ) (shapes : List (List Cell)) (s : Scanned) (e : GivenStop) → IsRead g bytes shapes s → length shapes < 10000 → e ≡ stops.Fault (length shapes + 1) 8 → IsStopBeyond g bytes e
+pub line_beyond : (g : Geometry) (bytes : List ℕ) (shapes : List (List Cell)) (s : Scanned) (e : InputStop ℕ) → IsRead g bytes shapes s → length shapes < 10000 → e ≡ stops.Fault (length shapes + 1) 8 → IsStopBeyond g bytes e
 line_beyond g bytes shapes s e r less is = subst (IsStopBeyond g bytes) (sym is) (λ byte rest. beyond_fault g bytes shapes s byte rest r less)
 
 -- no line has begun
@@ -317,7 +317,7 @@ pub byte_more : (before bytes : List ℕ) (i d : ℕ) → i < length bytes → (
 byte_more before bytes i d less = append_assoc before (take i bytes) (get_or bytes i d ∷ []) ∙ ap (λ (t : List ℕ). before ++ t) (sym (take_more bytes i d less))
 
 -- the fault of one byte is that of all
-pub byte_stops : (g : Geometry) (before bytes : List ℕ) (i d : ℕ) (e : GivenStop) → i < length bytes → IsFrontStop g ((before ++ take i bytes) ++ get_or bytes i d ∷ []) e → IsFrontStop g (before ++ bytes) e
+pub byte_stops : (g : Geometry) (before bytes : List ℕ) (i d : ℕ) (e : InputStop ℕ) → i < length bytes → IsFrontStop g ((before ++ take i bytes) ++ get_or bytes i d ∷ []) e → IsFrontStop g (before ++ bytes) e
 byte_stops g before bytes i d e less h =
     let whole : (before ++ take (i + 1) bytes) ++ drop (i + 1) bytes ≡ before ++ bytes = append_assoc before (take (i + 1) bytes) (drop (i + 1) bytes) ∙ ap (λ (t : List ℕ). before ++ t) (take-append-drop (i + 1) bytes) in
     subst (λ (t : List ℕ). IsFrontStop g t e) whole

@@ -1,7 +1,6 @@
 -- What a list text gives: the canonical lists of its shapes, or its first fault; and how much of it is read.
 use Rattle.std.specs.Prelude.{◌≡◌, ◌⊎◌, ℕ, ◌+◌, ◌<◌, ◌≤◌, List, [], ◌++◌, length, Option, All, ⊤}
 use Rattle.std.specs.List.{AllByRecursion, AllZip}
-use Rattle.std.specs.Io.KnownBytes.{Consumes}
 use Rattle.heesch_grid.specs.declared.Cell.{Cell}
 use Rattle.heesch_grid.specs.Cells.{IsCellListOf}
 use Rattle.heesch_grid.specs.Geometry.{Geometry}
@@ -14,8 +13,8 @@ use Rattle.heesch_line.specs.Scanning.{IsNoLine}
 use Rattle.heesch_shape.specs.declared.faults.ShapeFault.{ShapeFault}
 use Rattle.heesch_shape.specs.Faults.{IsFault, IsFaultless, number_of}
 use Rattle.heesch_io.specs.Input.{IsAllOf}
-use Rattle.heesch_given.specs.declared.stop.GivenStop.{GivenStop}
-use Rattle.heesch_given.specs.declared.stop.GivenStop.TheVariants.{Fault, Failed, NoMemory}
+use Rattle.heesch_line.specs.declared.stops.InputStop.{InputStop}
+use Rattle.heesch_line.specs.declared.stops.InputStop.TheVariants.{Fault, Failed, NoMemory}
 
 -- the canonical list of the polyform of at most 32 cells that has these cells, which may stand in any order
 pub record IsCanonicalOf (g : Geometry) (cells canonical : List Cell) : Type 0 where
@@ -84,7 +83,7 @@ abbrev pub GivesShapes : (most : ℕ) → Geometry → Option (List ℕ) → Lis
 GivesShapes most g left shapes = (text : List ℕ) × IsAllOf left text × AreGiven most g text shapes
 
 -- the text that the source had left has this fault, unless the source failed, or memory was refused
-abbrev pub GivesFault : (most : ℕ) → Geometry → Option (List ℕ) → GivenStop → Type 0
+abbrev pub GivesFault : (most : ℕ) → Geometry → Option (List ℕ) → InputStop ℕ → Type 0
 GivesFault most g left (Fault line number) = (text : List ℕ) × IsAllOf left text × HasFault most g text line number
 GivesFault most g left Failed = ⊤
 GivesFault most g left NoMemory = ⊤

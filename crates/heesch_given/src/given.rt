@@ -6,16 +6,18 @@ ghost use Rattle.heesch_io.specs.Input.{ReadsNoFurther};
 ghost use Rattle.heesch_given.specs.Given.{GivesShapes, GivesFault, DecideNothing};
 
 use crate::lines::GivenLines;
-use crate::stop::GivenStop;
 use heesch_grid::Grid;
 use heesch_io::Source;
+use heesch_line::InputStop;
 use heesch_shape::Shape;
 use std::alloc::Global;
 
 /// The most bytes of a piece.
 const PIECE_MAX: usize = 4096;
 
-/// The canonical forms of the shapes of the list text that the source has left, in their order, or its first fault.
+/// The canonical forms of the shapes of the list text that the source has left, in their order, or its first fault: the
+/// line, from 1, and 1 to 5 where its cells are no shape, 6 where it is no line of a list, 7 where it is line 10,001, 8 where
+/// the text goes on in it beyond the most bytes that are read.
 ///
 /// At most `MOST` bytes are read, and one more that shows that the text is longer: then fault 8 comes where no line that
 /// ends in these bytes is at fault, and line 10,001 doesn't begin. Reading stops with the piece that shows the first
@@ -25,12 +27,12 @@ const PIECE_MAX: usize = 4096;
 pub fn shapes_given<G: Grid, R: Source, const MOST: u64>(
     alloc: Global,
     source: &mut R,
-) -> Result<Vec<Shape<G>>, GivenStop>
+) -> Result<Vec<Shape<G>>, InputStop<u32>>
     ensures ok { IfOk result (λ shapes. GivesShapes MOST G.geometry (R.left source.old) shapes.items) }
     ensures stop { IfErr result (GivesFault MOST G.geometry (R.left source.old)) }
     ensures ended { OnOk result (IsAtEnd (R.left source.new)) }
     ensures no_further { ReadsNoFurther (DecideNothing G.geometry) (R.left source.old) (R.left source.new) }
-    ensures failed { result ≡ Err GivenStop.Failed → Rose (R.faults source.old) (R.faults source.new) }
+    ensures failed { result ≡ Err InputStop.Failed → Rose (R.faults source.old) (R.faults source.new) }
     ensures later { R.faults source.old ≤ R.faults source.new }
 {
     let mut lines = GivenLines::new(alloc);

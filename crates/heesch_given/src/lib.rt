@@ -4,8 +4,6 @@
 mod given;
 pub mod laws;
 mod lines;
-mod stop;
 
 pub use given::shapes_given;
 pub use lines::canonical_of;
-pub use stop::GivenStop;

@@ -7,10 +7,9 @@ ghost use Rattle.heesch_shape.specs.Faults.{IsFault, IsFaultless};
 ghost use Rattle.heesch_given.specs.Given.{AreGiven, IsCanonicalOf};
 ghost use Rattle.heesch_given.specs.Steps.{IsRead, MayGoOn, IsSomeLine, EndsLine, IsFrontStop, IsWholeStop, IsStopBeyond};
 
-use crate::stop::GivenStop;
 use heesch_grid::{Cell, Grid};
 use heesch_io::NoMemory;
-use heesch_line::{LineFault, ListLine};
+use heesch_line::{InputStop, LineFault, ListLine};
 use heesch_shape::{Shape, ShapeFault};
 use std::alloc::Global;
 use std::mem::replace;
@@ -48,7 +47,7 @@ impl<G: Grid> GivenLines<G> {
     }
 
     /// Reads these bytes, or as many of them as show a fault. After an error nothing is promised of another call.
-    pub fn take(&mut self, bytes: &[u8]) -> Result<(), GivenStop>
+    pub fn take(&mut self, bytes: &[u8]) -> Result<(), InputStop<u32>>
         requires { MayGoOn G.geometry self.old.shapes.items self.old.line }
         ensures ok { (before : List ℕ) → IsRead G.geometry before self.old.shapes.items self.old.line
             → IfOk result (λ _. IsRead G.geometry (before ++ bytes.now) self.new.shapes.items self.new.line) }
@@ -62,7 +61,7 @@ impl<G: Grid> GivenLines<G> {
     }
 
     /// The shapes of all lines, where the bytes have ended.
-    pub fn finish(mut self) -> Result<Vec<Shape<G>>, GivenStop>
+    pub fn finish(mut self) -> Result<Vec<Shape<G>>, InputStop<u32>>
         requires { MayGoOn G.geometry self.shapes.items self.line }
         ensures ok { (before : List ℕ) (most : ℕ) → length before ≤ most → IsRead G.geometry before self.shapes.items self.line
             → IfOk result (λ shapes. AreGiven most G.geometry before shapes.items) }
@@ -76,7 +75,7 @@ impl<G: Grid> GivenLines<G> {
     }
 
     /// The fault of a text that goes on behind the most bytes that are read.
-    pub fn beyond(&self) -> GivenStop
+    pub fn beyond(&self) -> InputStop<u32>
         ensures { (before : List ℕ) → IsRead G.geometry before self.now.shapes.items self.now.line → IsStopBeyond G.geometry before result }
     {
         if self.shapes.len() >= MOST_SHAPES {
@@ -86,7 +85,7 @@ impl<G: Grid> GivenLines<G> {
     }
 
     /// Reads one more byte.
-    fn take_byte(&mut self, byte: u8) -> Result<(), GivenStop>
+    fn take_byte(&mut self, byte: u8) -> Result<(), InputStop<u32>>
         requires { MayGoOn G.geometry self.old.shapes.items self.old.line }
         ensures ok { (before : List ℕ) → IsRead G.geometry before self.old.shapes.items self.old.line
             → IfOk result (λ _. IsRead G.geometry (before ++ byte ∷ []) self.new.shapes.items self.new.line) }
@@ -101,12 +100,12 @@ impl<G: Grid> GivenLines<G> {
         }
         match self.line.take(byte) {
             Ok(()) => Ok(()),
-            Err(NoMemory) => Err(GivenStop::NoMemory),
+            Err(NoMemory) => Err(InputStop::NoMemory),
         }
     }
 
     /// Ends the line, and begins another.
-    fn end_line(&mut self) -> Result<(), GivenStop>
+    fn end_line(&mut self) -> Result<(), InputStop<u32>>
         requires { IsSomeLine self.old.line }
         ensures { (line : List ℕ) → IsScanned line self.old.line
             → EndsLine G.geometry line self.old.shapes.items self.new.shapes.items self.new.line result }
@@ -115,24 +114,24 @@ impl<G: Grid> GivenLines<G> {
         let cells = match line.finish() {
             Ok(cells) => cells,
             Err(LineFault::NotALine) => return Err(self.fault(NOT_TEXT)),
-            Err(LineFault::NoMemory) => return Err(GivenStop::NoMemory),
+            Err(LineFault::NoMemory) => return Err(InputStop::NoMemory),
         };
         let shape = match canonical_of(cells.as_slice()) {
             Ok(shape) => shape,
             Err(fault) => return Err(self.fault(fault.number())),
         };
         if self.shapes.push(shape).is_err() {
-            return Err(GivenStop::NoMemory);
+            return Err(InputStop::NoMemory);
         }
         Ok(())
     }
 
     /// A fault of the line that didn't end.
-    fn fault(&self, number: u32) -> GivenStop
-        ensures { result ≡ GivenStop.Fault (length self.now.shapes.items + 1) number }
+    fn fault(&self, fault: u32) -> InputStop<u32>
+        ensures { result ≡ InputStop.Fault (length self.now.shapes.items + 1) fault }
     {
         let line = self.shapes.len() as u64 + 1;
-        GivenStop::Fault { line, number }
+        InputStop::Fault { line, fault }
     }
 }
 

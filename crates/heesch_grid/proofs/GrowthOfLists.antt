@@ -1,8 +1,8 @@
 -- The free polyforms of n + 1 cells are the canonical lists of those of n cells with one adjacent cell added.
-use Rattle.std.proofs.Common.{◌≡◌, refl, sym, ap, subst, ◌∙◌, ℕ, suc, ◌+◌, ◌<◌, ◌≤◌, not-suc-le-zero, List, [], ◌∷◌, map, length, Bool, true, false, cond, not, ◌&&◌, ◌||◌, ◌==◌, ◌⊎◌, inl, inr, arith, Contains, true≢false}
+use Rattle.std.proofs.Common.{◌≡◌, refl, sym, ap, subst, ◌∙◌, ℕ, suc, ◌+◌, ◌<◌, ◌≤◌, not-suc-le-zero, List, [], ◌∷◌, map, length, Bool, true, false, cond, not, ◌&&◌, ◌==◌, ◌⊎◌, inl, inr, arith, Contains, true≢false}
 use Rattle.std.specs.Prelude.{IsTrue, ⊤}
 use Rattle.std.proofs.lemmas.List.Elements.{All-contains, All-cons}
-use Rattle.std.proofs.lemmas.Bool.{and_parts, cases_Bool, not-true}
+use Rattle.std.proofs.lemmas.Bool.{and_parts, or_parts, cases_Bool, not-true}
 use Rattle.heesch_grid.specs.declared.Cell.{Cell}
 use Rattle.heesch_grid.specs.Listing.{IsRising}
 use Rattle.heesch_grid.specs.Cells.{same_cell, cell_before, has, IsCellListOf}
@@ -25,18 +25,12 @@ abbrev pub NoRepeat : List Cell → Type 0
 NoRepeat [] = ⊤
 NoRepeat (c ∷ cs) = (has cs c ≡ false) × NoRepeat cs
 
-left_false : (a b : Bool) → (a || b) ≡ false → a ≡ false
-left_false true b e = e
-left_false false b e = refl
-
-right_false : (a b : Bool) → (a || b) ≡ false → b ≡ false
-right_false true b e = absurd (true≢false e)
-right_false false b e = e
-
 pub placed_length : (c : Cell) (ds : List Cell) → has ds c ≡ false → length (placed_in c ds) ≡ suc (length ds)
 unfolding placed_in
 placed_length c [] f = refl
-placed_length c (d ∷ ds) f = step (cell_before c d) (same_cell c d) (left_false (same_cell c d) (has ds c) f) (placed_length c ds (right_false (same_cell c d) (has ds c) f))
+placed_length c (d ∷ ds) f =
+    let apart = or_parts (same_cell c d) (has ds c) f in
+    step (cell_before c d) (same_cell c d) apart.0 (placed_length c ds apart.1)
   where
     step : (b s : Bool) → s ≡ false → length (placed_in c ds) ≡ suc (length ds) → length (cond b (c ∷ d ∷ ds) (cond s (d ∷ ds) (d ∷ placed_in c ds))) ≡ suc (suc (length ds))
     step true s e h = refl

@@ -28,9 +28,11 @@ pub mod ReductionFacts
 pub mod TorusFacts
 pub mod Adding
 pub mod NonTilers
+pub mod Rotations
+pub mod KindTables
 pub mod Images
 pub mod VersionFacts
 pub mod FromDefinitions
 pub mod SymmetryFacts
-mod SmallShapes
+pub mod SmallShapes
 mod WorkedRows

@@ -1,5 +1,5 @@
 -- The order of cells and of cell lists, as tests and as answers of three.
-use Rattle.std.proofs.Common.{◌≡◌, refl, ◌∙◌, arith, ◌&&◌, ◌||◌, List, [], ◌∷◌}
+use Rattle.std.proofs.Common.{◌≡◌, refl, ◌∙◌, arith, ◌&&◌, ◌||◌, Bool, List, [], ◌∷◌}
 use Rattle.std.specs.declared.cmp.Ordering.{Ordering}
 use Rattle.std.specs.declared.cmp.Ordering.TheVariants.{Less, Equal, Greater}
 use Rattle.std.specs.Ordering.{is_lt, is_gt, is_eq, ordering_then}
@@ -31,18 +31,17 @@ then_greater Less r = refl
 then_greater Equal r = refl
 then_greater Greater r = refl
 
+-- what an answer on lists says, by its cases
+cells_by : (f : Ordering → Bool) (before : List Cell → List Cell → Bool) → f Equal ≡ before [] [] → ((y : Cell) (ys : List Cell) → f Less ≡ before [] (y ∷ ys)) → ((x : Cell) (xs : List Cell) → f Greater ≡ before (x ∷ xs) []) → ((x y : Cell) (xs ys : List Cell) → f (slice_cmp cell_cmp xs ys) ≡ before xs ys → f (ordering_then (cell_cmp x y) (slice_cmp cell_cmp xs ys)) ≡ before (x ∷ xs) (y ∷ ys)) → (xs ys : List Cell) → f (slice_cmp cell_cmp xs ys) ≡ before xs ys
+cells_by f before none shorter longer step [] [] = none
+cells_by f before none shorter longer step [] (y ∷ ys) = shorter y ys
+cells_by f before none shorter longer step (x ∷ xs) [] = longer x xs
+cells_by f before none shorter longer step (x ∷ xs) (y ∷ ys) = step x y xs ys (cells_by f before none shorter longer step xs ys)
+
 pub cells_less : (xs ys : List Cell) → is_lt (slice_cmp cell_cmp xs ys) ≡ cells_before xs ys
-cells_less [] [] = refl
-cells_less [] (y ∷ ys) = refl
-cells_less (x ∷ xs) [] = refl
-cells_less (x ∷ xs) (y ∷ ys) =
-    then_less (cell_cmp x y) (slice_cmp cell_cmp xs ys)
-    ∙ (λ i. cell_less x y i || (cell_equal x y i && cells_less xs ys i))
+cells_less =
+    cells_by is_lt cells_before refl (λ y ys. refl) (λ x xs. refl) (λ x y xs ys rest. then_less (cell_cmp x y) (slice_cmp cell_cmp xs ys) ∙ (λ i. cell_less x y i || (cell_equal x y i && rest i)))
 
 pub cells_greater : (xs ys : List Cell) → is_gt (slice_cmp cell_cmp xs ys) ≡ cells_before ys xs
-cells_greater [] [] = refl
-cells_greater [] (y ∷ ys) = refl
-cells_greater (x ∷ xs) [] = refl
-cells_greater (x ∷ xs) (y ∷ ys) =
-    then_greater (cell_cmp x y) (slice_cmp cell_cmp xs ys)
-    ∙ (λ i. cell_greater x y i || (cell_equal_back x y i && cells_greater xs ys i))
+cells_greater =
+    cells_by is_gt (λ xs ys. cells_before ys xs) refl (λ y ys. refl) (λ x xs. refl) (λ x y xs ys rest. then_greater (cell_cmp x y) (slice_cmp cell_cmp xs ys) ∙ (λ i. cell_greater x y i || (cell_equal_back x y i && rest i)))

@@ -58,26 +58,19 @@ greatest f x (y ∷ ys) =
 
 module _ (g : Geometry) (law : IsGrid g) where
   no_further : (x : Cell) (xs : List Cell) (by other : Iso) → by.turn ≡ other.turn → ((c : Cell) → Contains (image g other (x ∷ xs)) c → Contains (image g by (x ∷ xs)) c) → (other.da ≤ℤ by.da) × (other.db ≤ℤ by.db)
-  no_further x xs by other same within =
-      (below_by_multiple g.unit other.da by.da law.unit_range.0 at_a, below_by_multiple g.unit other.db by.db law.unit_range.0 at_b)
+  no_further x xs by other same within = (
+    below_by_multiple g.unit other.da by.da law.unit_range.0 (along (λ z. z.a) (λ i. i.da) (λ i z. refl)),
+    below_by_multiple g.unit other.db by.db law.unit_range.0 (along (λ z. z.b) (λ i. i.db) (λ i z. refl)),
+  )
     where
-      at_a : (pos g.unit *ℤ other.da) ≤ℤ (pos g.unit *ℤ by.da)
-      at_a =
-          let r : Greatest (λ z. z.a) (image g by (x ∷ xs)) = greatest (λ z. z.a) (apply g by x) (map (apply g by) xs) in
+      along : (part : Cell → ℤ) (by_part : Iso → ℤ) → ((i : Iso) (z : Cell) → part (apply g i z) ≡ part (g.turn i.turn z) +ℤ pos g.unit *ℤ by_part i) → (pos g.unit *ℤ by_part other) ≤ℤ (pos g.unit *ℤ by_part by)
+      along part by_part moves =
+          let r : Greatest part (image g by (x ∷ xs)) = greatest part (apply g by x) (map (apply g by) xs) in
           let c = map_member (apply g by) (x ∷ xs) r.at r.member in
-          let h : (apply g other c.0).a ≤ℤ r.at.a = r.bound (apply g other c.0) (within (apply g other c.0) (member_map (apply g other) (x ∷ xs) c.0 c.1)) in
-          let e : (apply g by c.0).a ≡ r.at.a = ap (λ (z : Cell). z.a) c.2 in
-          let t : (g.turn by.turn c.0).a ≡ (g.turn other.turn c.0).a = ap (λ (k : ℕ). (g.turn k c.0).a) same in
-          omega (arith, ints, h, e, t)
-
-      at_b : (pos g.unit *ℤ other.db) ≤ℤ (pos g.unit *ℤ by.db)
-      at_b =
-          let r : Greatest (λ z. z.b) (image g by (x ∷ xs)) = greatest (λ z. z.b) (apply g by x) (map (apply g by) xs) in
-          let c = map_member (apply g by) (x ∷ xs) r.at r.member in
-          let h : (apply g other c.0).b ≤ℤ r.at.b = r.bound (apply g other c.0) (within (apply g other c.0) (member_map (apply g other) (x ∷ xs) c.0 c.1)) in
-          let e : (apply g by c.0).b ≡ r.at.b = ap (λ (z : Cell). z.b) c.2 in
-          let t : (g.turn by.turn c.0).b ≡ (g.turn other.turn c.0).b = ap (λ (k : ℕ). (g.turn k c.0).b) same in
-          omega (arith, ints, h, e, t)
+          let h : part (apply g other c.0) ≤ℤ part r.at = r.bound (apply g other c.0) (within (apply g other c.0) (member_map (apply g other) (x ∷ xs) c.0 c.1)) in
+          let e : part (apply g by c.0) ≡ part r.at = ap part c.2 in
+          let t : part (g.turn by.turn c.0) ≡ part (g.turn other.turn c.0) = ap (λ (k : ℕ). part (g.turn k c.0)) same in
+          omega (arith, ints, h, e, t, moves other c.0, moves by c.0)
 
 both_ways : (x y : ℤ) → x ≤ℤ y → y ≤ℤ x → y ≡ x
 both_ways x y h k = omega (arith, ints)

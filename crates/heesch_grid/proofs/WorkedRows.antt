@@ -54,17 +54,9 @@ domino_variable_count = refl
 abbrev domino_clauses : List (List (ℕ × Bool))
 domino_clauses = corona_clauses signed square (cells_around square) domino 1 domino_variables
 
-domino_clause_count : length domino_clauses ≡ 52
+domino_worked : (length domino_clauses ≡ 52) × (formula_size domino_clauses ≡ 118) × (slice_get domino_clauses 0 ≡ Some ((1, true) ∷ (5, true) ∷ (6, true) ∷ (7, true) ∷ []))
 unfolding sorted placed_in
-domino_clause_count = refl
-
-domino_size : formula_size domino_clauses ≡ 118
-unfolding sorted placed_in
-domino_size = refl
-
-domino_clause_1 : slice_get domino_clauses 0 ≡ Some ((1, true) ∷ (5, true) ∷ (6, true) ∷ (7, true) ∷ [])
-unfolding sorted placed_in
-domino_clause_1 = refl
+domino_worked = (refl, refl, refl)
 
 -- ---- in the second version: 44 variables, 78 clauses, 170 literals
 
@@ -77,29 +69,13 @@ domino_owned_count = refl
 abbrev domino_owned_clauses : List (List (ℕ × Bool))
 domino_owned_clauses = owned_corona_clauses signed square (cells_around square) domino 1 domino_variables domino_owned
 
-domino_owned_clause_count : length domino_owned_clauses ≡ 78
+domino_owned_size : (length domino_owned_clauses ≡ 78) × (formula_size domino_owned_clauses ≡ 170)
 unfolding sorted placed_in
-domino_owned_clause_count = refl
+domino_owned_size = (refl, refl)
 
-domino_owned_size : formula_size domino_owned_clauses ≡ 170
+domino_owned_rows : (slice_get domino_owned_clauses 0 ≡ Some ((1, true) ∷ (5, true) ∷ (6, true) ∷ (7, true) ∷ [])) × (slice_get domino_owned_clauses 10 ≡ Some ((1, false) ∷ (25, false) ∷ [])) × (slice_get domino_owned_clauses 12 ≡ Some ((5, false) ∷ (25, true) ∷ [])) × (slice_get domino_owned_clauses 17 ≡ Some ((7, false) ∷ (26, true) ∷ []))
 unfolding sorted placed_in
-domino_owned_size = refl
-
-domino_owned_clause_1 : slice_get domino_owned_clauses 0 ≡ Some ((1, true) ∷ (5, true) ∷ (6, true) ∷ (7, true) ∷ [])
-unfolding sorted placed_in
-domino_owned_clause_1 = refl
-
-domino_owned_clause_11 : slice_get domino_owned_clauses 10 ≡ Some ((1, false) ∷ (25, false) ∷ [])
-unfolding sorted placed_in
-domino_owned_clause_11 = refl
-
-domino_owned_clause_13 : slice_get domino_owned_clauses 12 ≡ Some ((5, false) ∷ (25, true) ∷ [])
-unfolding sorted placed_in
-domino_owned_clause_13 = refl
-
-domino_owned_clause_18 : slice_get domino_owned_clauses 17 ≡ Some ((7, false) ∷ (26, true) ∷ [])
-unfolding sorted placed_in
-domino_owned_clause_18 = refl
+domino_owned_rows = (refl, refl, refl, refl)
 
 -- ---- the single square at level 2: 24 variables, 80 clauses and 168 literals in both versions, since no cell is owned
 
@@ -116,17 +92,9 @@ square_owns_none = refl
 abbrev square_clauses : List (List (ℕ × Bool))
 square_clauses = corona_clauses signed square (cells_around square) (o ∷ []) 2 square_variables
 
-square_clause_count : length square_clauses ≡ 80
+square_worked : (length square_clauses ≡ 80) × (formula_size square_clauses ≡ 168) × (owned_corona_clauses signed square (cells_around square) (o ∷ []) 2 square_variables [] ≡ square_clauses)
 unfolding sorted placed_in
-square_clause_count = refl
-
-square_size : formula_size square_clauses ≡ 168
-unfolding sorted placed_in
-square_size = refl
-
-square_versions : owned_corona_clauses signed square (cells_around square) (o ∷ []) 2 square_variables [] ≡ square_clauses
-unfolding sorted placed_in
-square_versions = refl
+square_worked = (refl, refl, refl)
 
 -- ---- the single iamond at level 1: 12 variables and 12 literals
 

@@ -26,6 +26,7 @@ pub mod Alike
 pub mod Neighbours
 pub mod PatternTests
 pub mod PatternLaws
+pub mod Tabled
 pub mod GridTests
 pub mod Examples
 pub mod Names

@@ -1,81 +1,47 @@
 //! The grid of hexagons.
-use crate::tables::neighbour;
-use crate::turns::{composed_turn, hex_turn, inverted_turn};
-use crate::{Cell, Grid, Sizes};
+use crate::turns::hex_turn;
+use crate::{Cell, Numbers, Tabled, Tables, cells};
 
-static NEIGHBOURS: [Cell; 6] = [
-    Cell { a: 0, b: -1 },
-    Cell { a: 1, b: -1 },
-    Cell { a: -1, b: 0 },
-    Cell { a: 1, b: 0 },
-    Cell { a: -1, b: 1 },
-    Cell { a: 0, b: 1 },
-];
+static HEXAGON: Tables = Tables {
+    cell: Cell { a: 0, b: 0 },
+    adjacent: &cells![0, -1; 1, -1; -1, 0; 1, 0; -1, 1; 0, 1],
+    touching: &cells![0, -1; 1, -1; -1, 0; 1, 0; -1, 1; 0, 1],
+};
 
 /// The grid of hexagons: every pair is a cell, with six corners.
 #[derive(Clone, Copy, Debug)]
 pub struct Hex;
 
-impl Sizes for Hex {
-    ghost use Rattle.std.specs.Prelude.{pos};
-
-    ghost UNIT = { pos 1 };
-
-    ghost PER = { 1 };
-
-    ghost TURNS = { 12 };
-
-    ghost HALF_TURN = { 3 };
-
-    ghost ADJACENT = { 6 };
-
-    ghost TOUCHING = { 6 };
-
-    const UNIT: i32 = 1;
-
-    const PER: u32 = 1;
-
-    const TURNS: u32 = 12;
-
-    const HALF_TURN: u32 = 3;
-
-    const ADJACENT: u32 = 6;
-
-    const TOUCHING: u32 = 6;
-}
-
-impl Grid for Hex {
-    ghost use Rattle.heesch_grid.specs.Pattern.{grid_of};
+impl Tabled for Hex {
+    ghost use Rattle.std.specs.Prelude.{refl};
     ghost use Rattle.heesch_grid.specs.Grids.{hex};
-    ghost use Rattle.heesch_grid.specs.GridTests.{hex_laws, hex_sizes};
+    ghost use Rattle.heesch_grid.specs.Tabled.{numbers_of};
+    ghost use Rattle.heesch_grid.specs.GridTests.{hex_passes};
 
-    ghost geometry = { grid_of hex };
+    ghost pattern = { hex };
 
-    ghost laws = { hex_laws };
+    ghost NUMBERS = { numbers_of hex };
 
-    ghost sizes = { hex_sizes };
+    const NUMBERS: Numbers = Numbers {
+        unit: 1,
+        per: 1,
+        turns: 12,
+        half_turn: 3,
+        adjacent: 6,
+        touching: 6,
+    };
 
-    fn is_cell(_c: Cell) -> bool {
-        true
-    }
-
-    fn turn(k: u32, c: Cell) -> Cell {
+    fn turned(k: u32, c: Cell) -> Cell {
         hex_turn(k, c)
     }
 
-    fn inverse(k: u32) -> u32 {
-        inverted_turn(6, k)
+    fn tables(_c: Cell) -> Option<&'static Tables> {
+        Some(&HEXAGON)
     }
 
-    fn compose(k: u32, l: u32) -> u32 {
-        composed_turn(6, k, l)
-    }
+    ghost numbers = { refl };
 
-    fn adjacent(c: Cell, i: u32) -> Cell {
-        neighbour(c, &NEIGHBOURS, i)
-    }
+    ghost tests = { hex_passes };
 
-    fn touching(c: Cell, i: u32) -> Cell {
-        neighbour(c, &NEIGHBOURS, i)
-    }
+    ghost halves = { refl };
 }

@@ -1,128 +1,63 @@
 //! The grid of triangles.
-use crate::tables::{is_congruent, neighbour};
-use crate::turns::{composed_turn, hex_turn, inverted_turn};
-use crate::{Cell, Grid, Sizes};
+use crate::tables::is_congruent;
+use crate::turns::hex_turn;
+use crate::{Cell, Numbers, Tabled, Tables, cells};
 
-/// A triangle that points up, and one that points down.
-const UP: Cell = Cell { a: 1, b: 1 };
+/// A triangle that points up.
+static UP: Tables = Tables {
+    cell: Cell { a: 1, b: 1 },
+    adjacent: &cells![1, -2; -2, 1; 1, 1],
+    touching: &cells![0, -3; 3, -3; -2, -2; 1, -2; 4, -2; -3, 0; 3, 0; -2, 1; 1, 1; -3, 3; 0, 3; -2, 4],
+};
 
-const DOWN: Cell = Cell { a: 2, b: 2 };
-
-static UP_ADJACENT: [Cell; 3] = [
-    Cell { a: 1, b: -2 },
-    Cell { a: -2, b: 1 },
-    Cell { a: 1, b: 1 },
-];
-
-static DOWN_ADJACENT: [Cell; 3] = [
-    Cell { a: -1, b: -1 },
-    Cell { a: 2, b: -1 },
-    Cell { a: -1, b: 2 },
-];
-
-static UP_TOUCHING: [Cell; 12] = [
-    Cell { a: 0, b: -3 },
-    Cell { a: 3, b: -3 },
-    Cell { a: -2, b: -2 },
-    Cell { a: 1, b: -2 },
-    Cell { a: 4, b: -2 },
-    Cell { a: -3, b: 0 },
-    Cell { a: 3, b: 0 },
-    Cell { a: -2, b: 1 },
-    Cell { a: 1, b: 1 },
-    Cell { a: -3, b: 3 },
-    Cell { a: 0, b: 3 },
-    Cell { a: -2, b: 4 },
-];
-
-static DOWN_TOUCHING: [Cell; 12] = [
-    Cell { a: 2, b: -4 },
-    Cell { a: 0, b: -3 },
-    Cell { a: 3, b: -3 },
-    Cell { a: -1, b: -1 },
-    Cell { a: 2, b: -1 },
-    Cell { a: -3, b: 0 },
-    Cell { a: 3, b: 0 },
-    Cell { a: -4, b: 2 },
-    Cell { a: -1, b: 2 },
-    Cell { a: 2, b: 2 },
-    Cell { a: -3, b: 3 },
-    Cell { a: 0, b: 3 },
-];
+/// A triangle that points down.
+static DOWN: Tables = Tables {
+    cell: Cell { a: 2, b: 2 },
+    adjacent: &cells![-1, -1; 2, -1; -1, 2],
+    touching: &cells![2, -4; 0, -3; 3, -3; -1, -1; 2, -1; -3, 0; 3, 0; -4, 2; -1, 2; 2, 2; -3, 3; 0, 3],
+};
 
 /// The grid of triangles: the pairs with both coordinates 1 modulo 3 point up, those with both 2
 /// modulo 3 point down, and no other pair is a cell.
 #[derive(Clone, Copy, Debug)]
 pub struct Iamond;
 
-impl Sizes for Iamond {
-    ghost use Rattle.std.specs.Prelude.{pos};
-
-    ghost UNIT = { pos 3 };
-
-    ghost PER = { 2 };
-
-    ghost TURNS = { 12 };
-
-    ghost HALF_TURN = { 3 };
-
-    ghost ADJACENT = { 3 };
-
-    ghost TOUCHING = { 12 };
-
-    const UNIT: i32 = 3;
-
-    const PER: u32 = 2;
-
-    const TURNS: u32 = 12;
-
-    const HALF_TURN: u32 = 3;
-
-    const ADJACENT: u32 = 3;
-
-    const TOUCHING: u32 = 12;
-}
-
-impl Grid for Iamond {
-    ghost use Rattle.heesch_grid.specs.Pattern.{grid_of};
+impl Tabled for Iamond {
+    ghost use Rattle.std.specs.Prelude.{refl};
     ghost use Rattle.heesch_grid.specs.Grids.{iamond};
-    ghost use Rattle.heesch_grid.specs.GridTests.{iamond_laws, iamond_sizes};
+    ghost use Rattle.heesch_grid.specs.Tabled.{numbers_of};
+    ghost use Rattle.heesch_grid.specs.GridTests.{iamond_passes};
 
-    ghost geometry = { grid_of iamond };
+    ghost pattern = { iamond };
 
-    ghost laws = { iamond_laws };
+    ghost NUMBERS = { numbers_of iamond };
 
-    ghost sizes = { iamond_sizes };
+    const NUMBERS: Numbers = Numbers {
+        unit: 3,
+        per: 2,
+        turns: 12,
+        half_turn: 3,
+        adjacent: 3,
+        touching: 12,
+    };
 
-    fn is_cell(c: Cell) -> bool {
-        is_congruent(c, UP, 3) || is_congruent(c, DOWN, 3)
-    }
-
-    fn turn(k: u32, c: Cell) -> Cell {
+    fn turned(k: u32, c: Cell) -> Cell {
         hex_turn(k, c)
     }
 
-    fn inverse(k: u32) -> u32 {
-        inverted_turn(6, k)
-    }
-
-    fn compose(k: u32, l: u32) -> u32 {
-        composed_turn(6, k, l)
-    }
-
-    fn adjacent(c: Cell, i: u32) -> Cell {
-        if is_congruent(c, UP, 3) {
-            neighbour(c, &UP_ADJACENT, i)
+    fn tables(c: Cell) -> Option<&'static Tables> {
+        if is_congruent(c, UP.cell, 3) {
+            Some(&UP)
+        } else if is_congruent(c, DOWN.cell, 3) {
+            Some(&DOWN)
         } else {
-            neighbour(c, &DOWN_ADJACENT, i)
+            None
         }
     }
 
-    fn touching(c: Cell, i: u32) -> Cell {
-        if is_congruent(c, UP, 3) {
-            neighbour(c, &UP_TOUCHING, i)
-        } else {
-            neighbour(c, &DOWN_TOUCHING, i)
-        }
-    }
+    ghost numbers = { refl };
+
+    ghost tests = { iamond_passes };
+
+    ghost halves = { refl };
 }

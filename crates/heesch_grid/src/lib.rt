@@ -21,6 +21,7 @@ pub mod laws;
 pub mod moves;
 mod names;
 mod squares;
+mod tabled;
 pub mod tables;
 pub mod turns;
 
@@ -29,6 +30,7 @@ pub use hexes::Hex;
 pub use iamonds::Iamond;
 pub use isometries::Iso;
 pub use squares::Square;
+pub use tabled::{Numbers, Tabled, Tables};
 
 /// A cell of a grid, or any other pair of coordinates, in grid units.
 #[derive(Clone, Copy, Debug, Default, PartialEq, Eq, Hash)]

@@ -1,91 +1,48 @@
 //! The grid of squares.
 
-use crate::tables::neighbour;
-use crate::turns::{composed_turn, inverted_turn, square_turn};
-use crate::{Cell, Grid, Sizes};
+use crate::turns::square_turn;
+use crate::{Cell, Numbers, Tabled, Tables, cells};
 
-static ADJACENT: [Cell; 4] = [
-    Cell { a: 0, b: -1 },
-    Cell { a: -1, b: 0 },
-    Cell { a: 1, b: 0 },
-    Cell { a: 0, b: 1 },
-];
-
-static TOUCHING: [Cell; 8] = [
-    Cell { a: -1, b: -1 },
-    Cell { a: 0, b: -1 },
-    Cell { a: 1, b: -1 },
-    Cell { a: -1, b: 0 },
-    Cell { a: 1, b: 0 },
-    Cell { a: -1, b: 1 },
-    Cell { a: 0, b: 1 },
-    Cell { a: 1, b: 1 },
-];
+static SQUARE: Tables = Tables {
+    cell: Cell { a: 0, b: 0 },
+    adjacent: &cells![0, -1; -1, 0; 1, 0; 0, 1],
+    touching: &cells![-1, -1; 0, -1; 1, -1; -1, 0; 1, 0; -1, 1; 0, 1; 1, 1],
+};
 
 /// The grid of squares: every pair is a cell, with the four corners of a unit square.
 #[derive(Clone, Copy, Debug)]
 pub struct Square;
 
-impl Sizes for Square {
-    ghost use Rattle.std.specs.Prelude.{pos};
-
-    ghost UNIT = { pos 1 };
-
-    ghost PER = { 1 };
-
-    ghost TURNS = { 8 };
-
-    ghost HALF_TURN = { 2 };
-
-    ghost ADJACENT = { 4 };
-
-    ghost TOUCHING = { 8 };
-
-    const UNIT: i32 = 1;
-
-    const PER: u32 = 1;
-
-    const TURNS: u32 = 8;
-
-    const HALF_TURN: u32 = 2;
-
-    const ADJACENT: u32 = 4;
-
-    const TOUCHING: u32 = 8;
-}
-
-impl Grid for Square {
-    ghost use Rattle.heesch_grid.specs.Pattern.{grid_of};
+impl Tabled for Square {
+    ghost use Rattle.std.specs.Prelude.{refl};
     ghost use Rattle.heesch_grid.specs.Grids.{square};
-    ghost use Rattle.heesch_grid.specs.GridTests.{square_laws, square_sizes};
+    ghost use Rattle.heesch_grid.specs.Tabled.{numbers_of};
+    ghost use Rattle.heesch_grid.specs.GridTests.{square_passes};
 
-    ghost geometry = { grid_of square };
+    ghost pattern = { square };
 
-    ghost laws = { square_laws };
+    ghost NUMBERS = { numbers_of square };
 
-    ghost sizes = { square_sizes };
+    const NUMBERS: Numbers = Numbers {
+        unit: 1,
+        per: 1,
+        turns: 8,
+        half_turn: 2,
+        adjacent: 4,
+        touching: 8,
+    };
 
-    fn is_cell(_c: Cell) -> bool {
-        true
-    }
-
-    fn turn(k: u32, c: Cell) -> Cell {
+    fn turned(k: u32, c: Cell) -> Cell {
         square_turn(k, c)
     }
 
-    fn inverse(k: u32) -> u32 {
-        inverted_turn(4, k)
+    fn tables(_c: Cell) -> Option<&'static Tables> {
+        Some(&SQUARE)
     }
 
-    fn compose(k: u32, l: u32) -> u32 {
-        composed_turn(4, k, l)
-    }
+    ghost numbers = { refl };
 
-    fn adjacent(c: Cell, i: u32) -> Cell {
-        neighbour(c, &ADJACENT, i)
-    }
+    ghost tests = { square_passes };
 
-    fn touching(c: Cell, i: u32) -> Cell {
-        neighbour(c, &TOUCHING, i)
-    }
+    ghost halves = { refl };
 }

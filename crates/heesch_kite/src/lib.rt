@@ -2,9 +2,9 @@
 //! its edges.
 #![tactic(auto)]
 
-use heesch_grid::tables::{is_congruent, neighbour};
-use heesch_grid::turns::{composed_turn, hex_turn, inverted_turn};
-use heesch_grid::{Cell, Grid, Sizes};
+use heesch_grid::tables::is_congruent;
+use heesch_grid::turns::hex_turn;
+use heesch_grid::{Cell, Numbers, Tabled, Tables, cells};
 pub use heesch_grid::{GridName, Hex, Iamond, Square};
 
 /// What a function that is generic over the grid answers on the grid of a name: `on_grid!(name, f::<_, T, H>(x, y))` is
@@ -23,226 +23,91 @@ macro_rules! on_grid {
 }
 
 /// The six kites of the hexagon around (0, 0), each a sixth of a turn from the one before.
-const KITE_0: Cell = Cell { a: 1, b: 1 };
+static KITE_0: Tables = Tables {
+    cell: Cell { a: 1, b: 1 },
+    adjacent: &cells![1, -2; 3, 0; -2, 1; 0, 3],
+    touching: &cells![0, -3; -2, -2; 1, -2; 4, -2; -3, 0; 3, 0; -2, 1; 0, 3; -2, 4],
+};
 
-const KITE_1: Cell = Cell { a: -1, b: 2 };
+static KITE_1: Tables = Tables {
+    cell: Cell { a: -1, b: 2 },
+    adjacent: &cells![-1, -1; 2, -1; -3, 3; 0, 3],
+    touching: &cells![2, -4; 0, -3; 3, -3; -1, -1; 2, -1; -4, 2; 2, 2; -3, 3; 0, 3],
+};
 
-const KITE_2: Cell = Cell { a: -2, b: 1 };
+static KITE_2: Tables = Tables {
+    cell: Cell { a: -2, b: 1 },
+    adjacent: &cells![1, -2; -3, 0; 1, 1; -3, 3],
+    touching: &cells![3, -3; -2, -2; 1, -2; 4, -2; -3, 0; 3, 0; 1, 1; -3, 3; -2, 4],
+};
 
-const KITE_3: Cell = Cell { a: -1, b: -1 };
+static KITE_3: Tables = Tables {
+    cell: Cell { a: -1, b: -1 },
+    adjacent: &cells![0, -3; 2, -1; -3, 0; -1, 2],
+    touching: &cells![2, -4; 0, -3; 2, -1; -3, 0; 3, 0; -4, 2; -1, 2; 2, 2; 0, 3],
+};
 
-const KITE_4: Cell = Cell { a: 1, b: -2 };
+static KITE_4: Tables = Tables {
+    cell: Cell { a: 1, b: -2 },
+    adjacent: &cells![0, -3; 3, -3; -2, 1; 1, 1],
+    touching: &cells![0, -3; 3, -3; -2, -2; 4, -2; -2, 1; 1, 1; -3, 3; 0, 3; -2, 4],
+};
 
-const KITE_5: Cell = Cell { a: 2, b: -1 };
-
-static ADJACENT_0: [Cell; 4] = [
-    Cell { a: 1, b: -2 },
-    Cell { a: 3, b: 0 },
-    Cell { a: -2, b: 1 },
-    Cell { a: 0, b: 3 },
-];
-
-static TOUCHING_0: [Cell; 9] = [
-    Cell { a: 0, b: -3 },
-    Cell { a: -2, b: -2 },
-    Cell { a: 1, b: -2 },
-    Cell { a: 4, b: -2 },
-    Cell { a: -3, b: 0 },
-    Cell { a: 3, b: 0 },
-    Cell { a: -2, b: 1 },
-    Cell { a: 0, b: 3 },
-    Cell { a: -2, b: 4 },
-];
-
-static ADJACENT_1: [Cell; 4] = [
-    Cell { a: -1, b: -1 },
-    Cell { a: 2, b: -1 },
-    Cell { a: -3, b: 3 },
-    Cell { a: 0, b: 3 },
-];
-
-static TOUCHING_1: [Cell; 9] = [
-    Cell { a: 2, b: -4 },
-    Cell { a: 0, b: -3 },
-    Cell { a: 3, b: -3 },
-    Cell { a: -1, b: -1 },
-    Cell { a: 2, b: -1 },
-    Cell { a: -4, b: 2 },
-    Cell { a: 2, b: 2 },
-    Cell { a: -3, b: 3 },
-    Cell { a: 0, b: 3 },
-];
-
-static ADJACENT_2: [Cell; 4] = [
-    Cell { a: 1, b: -2 },
-    Cell { a: -3, b: 0 },
-    Cell { a: 1, b: 1 },
-    Cell { a: -3, b: 3 },
-];
-
-static TOUCHING_2: [Cell; 9] = [
-    Cell { a: 3, b: -3 },
-    Cell { a: -2, b: -2 },
-    Cell { a: 1, b: -2 },
-    Cell { a: 4, b: -2 },
-    Cell { a: -3, b: 0 },
-    Cell { a: 3, b: 0 },
-    Cell { a: 1, b: 1 },
-    Cell { a: -3, b: 3 },
-    Cell { a: -2, b: 4 },
-];
-
-static ADJACENT_3: [Cell; 4] = [
-    Cell { a: 0, b: -3 },
-    Cell { a: 2, b: -1 },
-    Cell { a: -3, b: 0 },
-    Cell { a: -1, b: 2 },
-];
-
-static TOUCHING_3: [Cell; 9] = [
-    Cell { a: 2, b: -4 },
-    Cell { a: 0, b: -3 },
-    Cell { a: 2, b: -1 },
-    Cell { a: -3, b: 0 },
-    Cell { a: 3, b: 0 },
-    Cell { a: -4, b: 2 },
-    Cell { a: -1, b: 2 },
-    Cell { a: 2, b: 2 },
-    Cell { a: 0, b: 3 },
-];
-
-static ADJACENT_4: [Cell; 4] = [
-    Cell { a: 0, b: -3 },
-    Cell { a: 3, b: -3 },
-    Cell { a: -2, b: 1 },
-    Cell { a: 1, b: 1 },
-];
-
-static TOUCHING_4: [Cell; 9] = [
-    Cell { a: 0, b: -3 },
-    Cell { a: 3, b: -3 },
-    Cell { a: -2, b: -2 },
-    Cell { a: 4, b: -2 },
-    Cell { a: -2, b: 1 },
-    Cell { a: 1, b: 1 },
-    Cell { a: -3, b: 3 },
-    Cell { a: 0, b: 3 },
-    Cell { a: -2, b: 4 },
-];
-
-static ADJACENT_5: [Cell; 4] = [
-    Cell { a: 3, b: -3 },
-    Cell { a: -1, b: -1 },
-    Cell { a: 3, b: 0 },
-    Cell { a: -1, b: 2 },
-];
-
-static TOUCHING_5: [Cell; 9] = [
-    Cell { a: 2, b: -4 },
-    Cell { a: 3, b: -3 },
-    Cell { a: -1, b: -1 },
-    Cell { a: -3, b: 0 },
-    Cell { a: 3, b: 0 },
-    Cell { a: -4, b: 2 },
-    Cell { a: -1, b: 2 },
-    Cell { a: 2, b: 2 },
-    Cell { a: -3, b: 3 },
-];
+static KITE_5: Tables = Tables {
+    cell: Cell { a: 2, b: -1 },
+    adjacent: &cells![3, -3; -1, -1; 3, 0; -1, 2],
+    touching: &cells![2, -4; 3, -3; -1, -1; -3, 0; 3, 0; -4, 2; -1, 2; 2, 2; -3, 3],
+};
 
 /// The grid of kites: a cell is six times a pair of whole numbers, added to one of the six kites around (0, 0); no other
 /// pair is a cell.
 #[derive(Clone, Copy, Debug)]
 pub struct Kite;
 
-impl Sizes for Kite {
-    ghost use Rattle.std.specs.Prelude.{pos};
-
-    ghost UNIT = { pos 6 };
-
-    ghost PER = { 6 };
-
-    ghost TURNS = { 12 };
-
-    ghost HALF_TURN = { 3 };
-
-    ghost ADJACENT = { 4 };
-
-    ghost TOUCHING = { 9 };
-
-    const UNIT: i32 = 6;
-
-    const PER: u32 = 6;
-
-    const TURNS: u32 = 12;
-
-    const HALF_TURN: u32 = 3;
-
-    const ADJACENT: u32 = 4;
-
-    const TOUCHING: u32 = 9;
-}
-
-impl Grid for Kite {
-    ghost use Rattle.heesch_grid.specs.Pattern.{grid_of};
+impl Tabled for Kite {
+    ghost use Rattle.std.specs.Prelude.{refl};
     ghost use Rattle.heesch_grid.specs.Grids.{kite};
-    ghost use Rattle.heesch_kite.specs.KiteTests.{kite_laws, kite_sizes};
+    ghost use Rattle.heesch_grid.specs.Tabled.{numbers_of};
+    ghost use Rattle.heesch_kite.specs.KiteTests.{kite_passes};
 
-    ghost geometry = { grid_of kite };
+    ghost pattern = { kite };
 
-    ghost laws = { kite_laws };
+    ghost NUMBERS = { numbers_of kite };
 
-    ghost sizes = { kite_sizes };
+    const NUMBERS: Numbers = Numbers {
+        unit: 6,
+        per: 6,
+        turns: 12,
+        half_turn: 3,
+        adjacent: 4,
+        touching: 9,
+    };
 
-    fn is_cell(c: Cell) -> bool {
-        is_congruent(c, KITE_0, 6)
-            || is_congruent(c, KITE_1, 6)
-            || is_congruent(c, KITE_2, 6)
-            || is_congruent(c, KITE_3, 6)
-            || is_congruent(c, KITE_4, 6)
-            || is_congruent(c, KITE_5, 6)
-    }
-
-    fn turn(k: u32, c: Cell) -> Cell {
+    fn turned(k: u32, c: Cell) -> Cell {
         hex_turn(k, c)
     }
 
-    fn inverse(k: u32) -> u32 {
-        inverted_turn(6, k)
-    }
-
-    fn compose(k: u32, l: u32) -> u32 {
-        composed_turn(6, k, l)
-    }
-
-    fn adjacent(c: Cell, i: u32) -> Cell {
-        if is_congruent(c, KITE_0, 6) {
-            neighbour(c, &ADJACENT_0, i)
-        } else if is_congruent(c, KITE_1, 6) {
-            neighbour(c, &ADJACENT_1, i)
-        } else if is_congruent(c, KITE_2, 6) {
-            neighbour(c, &ADJACENT_2, i)
-        } else if is_congruent(c, KITE_3, 6) {
-            neighbour(c, &ADJACENT_3, i)
-        } else if is_congruent(c, KITE_4, 6) {
-            neighbour(c, &ADJACENT_4, i)
+    fn tables(c: Cell) -> Option<&'static Tables> {
+        if is_congruent(c, KITE_0.cell, 6) {
+            Some(&KITE_0)
+        } else if is_congruent(c, KITE_1.cell, 6) {
+            Some(&KITE_1)
+        } else if is_congruent(c, KITE_2.cell, 6) {
+            Some(&KITE_2)
+        } else if is_congruent(c, KITE_3.cell, 6) {
+            Some(&KITE_3)
+        } else if is_congruent(c, KITE_4.cell, 6) {
+            Some(&KITE_4)
+        } else if is_congruent(c, KITE_5.cell, 6) {
+            Some(&KITE_5)
         } else {
-            neighbour(c, &ADJACENT_5, i)
+            None
         }
     }
 
-    fn touching(c: Cell, i: u32) -> Cell {
-        if is_congruent(c, KITE_0, 6) {
-            neighbour(c, &TOUCHING_0, i)
-        } else if is_congruent(c, KITE_1, 6) {
-            neighbour(c, &TOUCHING_1, i)
-        } else if is_congruent(c, KITE_2, 6) {
-            neighbour(c, &TOUCHING_2, i)
-        } else if is_congruent(c, KITE_3, 6) {
-            neighbour(c, &TOUCHING_3, i)
-        } else if is_congruent(c, KITE_4, 6) {
-            neighbour(c, &TOUCHING_4, i)
-        } else {
-            neighbour(c, &TOUCHING_5, i)
-        }
-    }
+    ghost numbers = { refl };
+
+    ghost tests = { kite_passes };
+
+    ghost halves = { refl };
 }

@@ -3,3 +3,4 @@ pub mod LineReading
 pub mod Lists
 pub mod Reading
 pub mod Scanning
+pub mod Stops

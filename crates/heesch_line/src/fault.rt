@@ -1,3 +1,4 @@
+//! Why bytes are no line.
 ghost use Rattle.std.specs.Prelude.{◌≡◌};
 ghost use Rattle.heesch_line.specs.declared.fault.LineFault.TheVariants as faults;
 

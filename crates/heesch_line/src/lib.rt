@@ -8,9 +8,11 @@ mod line_reading;
 mod list;
 mod list_line;
 mod names;
+mod stops;
 mod words;
 
 pub use fault::LineFault;
 pub use line_reading::read_line;
 pub use list::{ListLines, ListStop, read_lines, read_list};
 pub use list_line::ListLine;
+pub use stops::{InputStop, LineStop};

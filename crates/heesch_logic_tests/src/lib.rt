@@ -2,14 +2,4 @@
 #![tactic(auto)]
 
 #[cfg(test)]
-mod claims;
-#[cfg(test)]
-mod effort;
-#[cfg(test)]
-mod exact;
-#[cfg(test)]
-mod io;
-#[cfg(test)]
-mod solver;
-#[cfg(test)]
-mod trail;
+mod tests;

@@ -7,18 +7,10 @@ mod shapes;
 mod texts;
 
 pub use heesch_cert::Member;
-pub use heesch_grid::{Cell, Iso};
+pub use heesch_grid::{Cell, Iso, cells};
 pub use literals::{lit, lits};
 pub use shapes::{are_near, canonical_of, shape_of};
 pub use texts::{BRIEF_TETROMINOES, HOLED, LIMITS, TRIANGLE, tetrominoes, words_of};
-
-/// The cells of these coordinates.
-#[macro_export]
-macro_rules! cells {
-    ($($a:literal, $b:literal);*) => {
-        [$($crate::Cell { a: $a, b: $b }),*]
-    };
-}
 
 /// The isometries of these turns and translations.
 #[macro_export]

@@ -12,7 +12,7 @@ use Rattle.heesch_grid.specs.Cells.{cell_cmp, cells_before}
 use Rattle.heesch_grid.proofs.ListFacts.{member_cases, member_here, member_there, no_member, All-from_members}
 use Rattle.heesch_grid.proofs.OrderFacts.{cells_less, cells_greater}
 use Rattle.heesch_grid.proofs.Pinned.{cells_before-total}
-use Rattle.heesch_shape.specs.Order.{list_total}
+use Rattle.heesch_shape.proofs.ListOrder.{before_transitive}
 use Rattle.heesch_merge.specs.Union.{IsInOne, first_of, compared_options, BeginsWith, ComesBefore, TakesLeast}
 
 abbrev Lists : Type 0
@@ -44,15 +44,6 @@ rising_back : (ys zs : Lists) → IsRising cells_before (ys ++ zs) → IsRising 
 rising_back [] zs r = r
 rising_back (y ∷ ys) zs r = rising_back ys zs r.1
 
-less_is : (o : Ordering) → is_lt o ≡ true → o ≡ Less
-less_is Less e = refl
-less_is Equal e = absurd (let n : ⊥ = cc in n)
-less_is Greater e = absurd (let n : ⊥ = cc in n)
-
-before_trans : (x y z : List Cell) → cells_before x y ≡ true → cells_before y z ≡ true → cells_before x z ≡ true
-before_trans x y z p q =
-    sym (cells_less x z) ∙ ap is_lt (list_total.trans x y z (less_is (slice_cmp cell_cmp x y) (cells_less x y ∙ p)) (less_is (slice_cmp cell_cmp y z) (cells_less y z ∙ q)))
-
 -- ---- the least of two first items
 
 -- x comes before the first item of a rising list, and so before all of it
@@ -60,7 +51,7 @@ below : (l : Lists) (x : List Cell) → ((y : List Cell) → first_of l ≡ Some
 below [] x before rising = All-nil (λ z. IsAfter z x)
 below (y ∷ ys) x before rising =
     All-cons (λ z. IsAfter z x) y ys (before y refl)
-    (All-from_members (λ z. IsAfter z x) ys (λ z m. before_trans x y z (before y refl) (All-contains (λ w. IsAfter w y) ys z rising.0 m)))
+    (All-from_members (λ z. IsAfter z x) ys (λ z m. before_transitive x y z (before y refl) (All-contains (λ w. IsAfter w y) ys z rising.0 m)))
 
 first_from : (l l' : Lists) (x : List Cell) → BeginsWith x l l' → first_of l ≡ Some x
 first_from l l' x e = ap first_of e

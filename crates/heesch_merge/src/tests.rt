@@ -6,17 +6,11 @@ ghost use Rattle.heesch_grid.specs.Listing.{IsRising};
 ghost use Rattle.heesch_grid.specs.Vectors.{IsWithin};
 
 use crate::merge_all;
-use heesch_grid::{Cell, Square};
+use heesch_grid::{Cell, Square, cells};
 use heesch_io::NoMemory;
 use heesch_shape::Shape;
 use std::alloc::Global;
 use std::test::Fail;
-
-macro_rules! cells {
-    ($($a:literal, $b:literal);*) => {
-        [$(Cell { a: $a, b: $b }),*]
-    };
-}
 
 /// The list of the one shape with these cells.
 fn list_of(alloc: Global, cells: &[Cell]) -> Result<Vec<Shape<Square>>, NoMemory>

@@ -173,33 +173,6 @@ fn taking<G: Grid>(turned: &Turned<G>, k: u32, from: Iso, to: Iso) -> Option<Iso
     Some(stepping(k, moved, step, to))
 }
 
-/// The symmetry of turn k that takes one tile exactly to the other, if there is one.
-fn symmetry_taking<G: Grid>(
-    turned: &Turned<G>,
-    triple: Triple,
-    places: &[Iso],
-    k: u32,
-    from: Iso,
-    to: Iso,
-) -> Option<Iso>
-    requires turn { k < G.geometry.turns }
-    requires triple { IsTriple triple }
-    requires range { All (IsInRange G.geometry) places.now }
-    requires from { IsInRange G.geometry from }
-    requires to { IsInRange G.geometry to }
-    ensures turn { IfSome result (λ by. by.turn ≡ k) }
-    ensures some { IfSome result (TakesExactly G.geometry turned.now triple places.now from to) }
-    ensures none { IfNone result ((by : Iso) → by.turn ≡ k → TakesExactly G.geometry turned.now triple places.now from to by → ⊥) }
-{
-    let Some(by) = taking(turned, k, from, to) else {
-        return None;
-    };
-    if is_symmetry(turned, triple, places, by) {
-        return Some(by);
-    }
-    None
-}
-
 /// The symmetry of least turn that takes one tile exactly to the other, if there is one. For each
 /// turn at most one isometry does.
 pub(crate) fn least_taking<G: Grid>(
@@ -217,8 +190,10 @@ pub(crate) fn least_taking<G: Grid>(
     ensures none { IfNone result ((by : Iso) → TakesExactly G.geometry turned.now triple places.now from to by → ⊥) }
 {
     for k in 0..G::TURNS {
-        if let Some(by) = symmetry_taking(turned, triple, places, k, from, to) {
-            return Some(by);
+        if let Some(by) = taking(turned, k, from, to) {
+            if is_symmetry(turned, triple, places, by) {
+                return Some(by);
+            }
         }
     }
     None

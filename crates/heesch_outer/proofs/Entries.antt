@@ -164,10 +164,9 @@ module _ (g : Geometry) (limits : Limits) (cells : List Cell) (free : List (List
 
 module _ (g : Geometry) (limits : Limits) (cells : List Cell) (free : List (List Iso)) (proof : Proof) where
   pub not_outer : (end : ProofEnd) → (¬ HasCutsUpTo (length free) proof) → ¬ EndsOuter end g limits cells (length free) proof
-  not_outer Refuted fails r = fails r.outer_cuts
-  not_outer Spent fails r = fails r.outer_cuts
+  not_outer end fails r = fails r.outer_cuts
 
   -- it is where the wall of its entry holds
   pub ended_outer : (end : ProofEnd) → HasCutsUpTo (length free) proof → PartHolds g limits (ended_entry end cells free proof) 6 ↔ EndsOuter end g limits cells (length free) proof
-  ended_outer Refuted cuts = ((λ w. record { refutes = w; outer_cuts = cuts }), (λ r. r.refutes))
-  ended_outer Spent cuts = ((λ w. record { is_spent = w; outer_cuts = cuts }), (λ r. r.is_spent))
+  ended_outer Refuted cuts = ((λ w. record { ends = w; outer_cuts = cuts }), (λ r. r.ends))
+  ended_outer Spent cuts = ((λ w. record { ends = w; outer_cuts = cuts }), (λ r. r.ends))

@@ -44,15 +44,16 @@ module _ (g : Geometry) (limits : Limits) (entry : Entry) (true_entry : IsTrueEn
   form : FormFits g limits entry.cells entry.verdict evidence
   form = subst (FormFits g limits entry.cells entry.verdict) is true_entry.form
 
-  count : length free.layers ≡ first_number entry.verdict
-  count = (subst (FreeHolds g entry.cells entry.verdict) is true_entry.free).0
+  -- they are as many as the verdict says
+  pub count_in : length free.layers ≡ first_number entry.verdict
+  count_in = (subst (FreeHolds g entry.cells entry.verdict) is true_entry.free).0
 
   -- what was found, and the wall
   pub found_in : IsFound g limits entry.cells free.layers
   found_in = found_of g limits entry.cells free proof bare wider triples entry.verdict true_entry.shape form (subst (FreeHolds g entry.cells entry.verdict) is true_entry.free)
 
   pub wall_in : RefutesCoronas limits.version g entry.cells (length free.layers + 1) limits.size proof
-  wall_in = subst (λ n. RefutesCoronas limits.version g entry.cells (n + 1) limits.size proof) (sym count) (subst (WallHolds g limits entry.cells entry.verdict) is true_entry.wall)
+  wall_in = subst (λ n. RefutesCoronas limits.version g entry.cells (n + 1) limits.size proof) (sym count_in) (subst (WallHolds g limits entry.cells entry.verdict) is true_entry.wall)
 
   fits_beyond : (answer : OuterAnswer) (verdict : Verdict) → FormFits g limits entry.cells verdict evidence → FitsOuter g limits entry.cells verdict evidence answer ↔ IsBeyondWall g limits entry.cells (first_number verdict) proof bare answer
   fits_beyond answer (TilesVerdict kind domain classes) f = absurd f.1
@@ -66,8 +67,8 @@ module _ (g : Geometry) (limits : Limits) (entry : Entry) (true_entry : IsTrueEn
   pub answer_beyond : (answer : OuterAnswer) → IsOuterAnswer g limits entry answer ↔ IsBeyondWall g limits entry.cells (length free.layers) proof bare answer
   answer_beyond answer =
       let both = fits_beyond answer entry.verdict form in (
-        (λ a. subst (λ n. IsBeyondWall g limits entry.cells n proof bare answer) (sym count) (both.0 (subst (λ e. FitsOuter g limits entry.cells entry.verdict e answer) is a))),
-        (λ b. subst (λ e. FitsOuter g limits entry.cells entry.verdict e answer) (sym is) (both.1 (subst (λ n. IsBeyondWall g limits entry.cells n proof bare answer) count b))),
+        (λ a. subst (λ n. IsBeyondWall g limits entry.cells n proof bare answer) (sym count_in) (both.0 (subst (λ e. FitsOuter g limits entry.cells entry.verdict e answer) is a))),
+        (λ b. subst (λ e. FitsOuter g limits entry.cells entry.verdict e answer) (sym is) (both.1 (subst (λ n. IsBeyondWall g limits entry.cells n proof bare answer) count_in b))),
       )
 
   pub answer_searched : ¬ (bare ≡ BareSame) → (answer : OuterAnswer) → IsOuterAnswer g limits entry answer ↔ IsSearched g limits entry.cells (length free.layers) answer
@@ -102,5 +103,5 @@ module _ (g : Geometry) (limits : Limits) (entry : Entry) (true_entry : IsTrueEn
       near Tiles a = tt
       near Unknown a = tt
       near (More layers) a = let long = a.count in layers_near g law entry.cells true_entry.shape layers.layers a.tiles (let most = few in omega (arith, long, most)) a.spelled a.coronas.0
-      near (Same proof) a = proof_near g law entry.cells true_entry.shape limits (length free.layers + 1) proof (omega arith) few a.refutes
-      near (Spent proof) a = let s = a.is_spent in steps_near g law entry.cells true_entry.shape limits.version (length free.layers + 1) s.vars s.count s.clauses proof (omega arith) few s.formula s.lawful
+      near (Same proof) a = proof_near g law entry.cells true_entry.shape limits (length free.layers + 1) proof (omega arith) few a.ends
+      near (Spent proof) a = let s = a.ends in steps_near g law entry.cells true_entry.shape limits.version (length free.layers + 1) s.vars s.count s.clauses proof (omega arith) few s.formula s.lawful

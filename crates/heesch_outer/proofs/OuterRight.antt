@@ -68,7 +68,7 @@ module _ (g : Geometry) (law : IsGrid g) (limits : Limits) (shape : List Cell) (
   beyond : (h : ℕ) → HasHeeschNumber g shape h → (proof : Proof) (bare : Bare) → WallShows g limits shape (h + 1) (WallRefuted proof) → SameWhereNoCut (WallRefuted proof) bare → (answer : OuterAnswer) → IsBeyondWall g limits shape h proof bare answer → TellsNumber g shape h answer
   beyond h number proof BareSame w s answer a =
       subst (TellsNumber g shape h) (sym a)
-      ((outer_numbers_are_next g shape h number).same (outer_refutations_leave_none g limits shape h proof law form (record { refutes = w; outer_cuts = no_cut_up_to h proof (s.0 refl) })))
+      ((outer_numbers_are_next g shape h number).same (outer_refutations_leave_none g limits shape h proof law form (record { ends = w; outer_cuts = no_cut_up_to h proof (s.0 refl) })))
   beyond h number proof NoBare w s answer a = searched h number answer a
   beyond h number proof (BareRefuted other) w s answer a = searched h number answer a
   beyond h number proof (BareSpent other) w s answer a = searched h number answer a

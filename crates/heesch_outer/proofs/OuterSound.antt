@@ -49,4 +49,4 @@ no_outer g limits shape h proof law form layers count coronas free r inner =
 
 pub outer_refutations_leave_none : OuterRefutationsLeaveNone
 outer_refutations_leave_none g limits shape h proof law form r o =
-    no_outer g limits shape h proof law form o.0 o.1 o.2.0 o.2.1 (subst (λ n. RefutesCoronas limits.version g shape n limits.size proof) (sym o.1) r.refutes) r.outer_cuts
+    no_outer g limits shape h proof law form o.0 o.1 o.2.0 o.2.1 (subst (λ n. RefutesCoronas limits.version g shape n limits.size proof) (sym o.1) r.ends) r.outer_cuts

@@ -11,6 +11,7 @@ ghost use Rattle.heesch_outer.specs.Statements.{TellsNumber};
 
 use crate::OuterAnswer;
 use crate::copies::copy_proof;
+use heesch_audit::first_number;
 use heesch_cert::{Bare, Entry, Evidence, Limits, Wall};
 use heesch_grid::{Cell, Grid};
 use heesch_io::NoMemory;
@@ -66,13 +67,7 @@ pub fn outer<G: Grid>(alloc: Global, entry: &Entry, limits: Limits) -> Result<Ou
     ensures near { IfOk result IsNearAnswer }
     ensures number { IfOk result (TellsNumber G.geometry entry.now.cells (first_number entry.now.verdict)) }
 {
-    let Evidence::Search {
-        free,
-        wall,
-        bare,
-        ..
-    } = &entry.evidence
-    else {
+    let Evidence::Search { wall, bare, .. } = &entry.evidence else {
         return Ok(OuterAnswer::Tiles);
     };
     let Wall::Refuted { proof } = wall else {
@@ -83,5 +78,5 @@ pub fn outer<G: Grid>(alloc: Global, entry: &Entry, limits: Limits) -> Result<Ou
         return Ok(OuterAnswer::Same { proof });
     }
     let shape = shape_of::<G>(entry.cells.as_slice());
-    search_outer(alloc, &shape, free.layers.len() as u32, limits)
+    search_outer(alloc, &shape, first_number(entry.verdict), limits)
 }

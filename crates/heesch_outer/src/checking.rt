@@ -36,19 +36,13 @@ fn has_cuts_up_to(proof: &Proof, h: usize) -> bool
 fn is_tiles(answer: &OuterAnswer) -> bool
     ensures { IsTrue result ↔ (answer.now ≡ OuterAnswer.Tiles) }
 {
-    match answer {
-        OuterAnswer::Tiles => true,
-        _ => false,
-    }
+    matches!(answer, OuterAnswer::Tiles)
 }
 
 fn is_unknown(answer: &OuterAnswer) -> bool
     ensures { IsTrue result ↔ (answer.now ≡ OuterAnswer.Unknown) }
 {
-    match answer {
-        OuterAnswer::Unknown => true,
-        _ => false,
-    }
+    matches!(answer, OuterAnswer::Unknown)
 }
 
 /// Whether the answer is the number h by this proof.

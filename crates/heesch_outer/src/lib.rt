@@ -13,6 +13,3 @@ pub use answer::OuterAnswer;
 pub use answering::outer;
 pub use checking::check_outer;
 pub use record::write_answer;
-
-#[cfg(test)]
-mod tests;

@@ -1,4 +1,5 @@
 //! The entries of shapes with the answers on their outer numbers, each shape by itself, and their texts.
+ghost use Rattle.heesch_cert.specs.Limits.{AreLimits};
 
 use heesch_catalogue::{ShapeText, canonical_of};
 use heesch_cert::{Entry, Limits};
@@ -21,15 +22,13 @@ pub struct OuterEntry {
 #[derive(Clone, Copy)]
 pub struct OuterText {
     pub limits: Limits,
+    pub ghost valid: { AreLimits limits },
 }
 
 impl ShapeText for OuterText {
     type Item = OuterEntry;
 
-    ghost use Rattle.heesch_catalogue.specs.Entries.{are_limits};
     ghost use Rattle.heesch_outers.specs.Answers.{IsOuterEntryOf, IsRecord};
-
-    ghost accepts = { λ s. are_limits s.limits };
 
     ghost is_of = { λ s g shape e. IsOuterEntryOf g s.limits shape e };
 

@@ -25,8 +25,8 @@ use Rattle.heesch_parts.specs.Stages.{start, Step, Walk, end_fault}
 use Rattle.heesch_parts.specs.Shares.{items_behind}
 use Rattle.heesch_parts.specs.Faults.{HasFault, IsFaultBehind, IsLineFault, EndFault}
 use Rattle.heesch_parts.specs.Joining.{AreBuilt, Gives, Settles, Holds, TakesLine, Kept, IsFed, GoesTo, IsFrontStop, StopsBefore, StopsWithin, AppendsUntil, IsWholeStop, IsStopBeyond, FeedsTo, Advances, HasRoom, LeavesRoom, ends_entry, new_header, shares_of, header_line, whole_lines}
-use Rattle.heesch_parts.specs.declared.join_stop.JoinStop.{JoinStop}
-use Rattle.heesch_parts.specs.declared.join_stop.JoinStop.TheVariants as stops
+use Rattle.heesch_line.specs.declared.stops.LineStop.{LineStop}
+use Rattle.heesch_line.specs.declared.stops.LineStop.TheVariants as stops
 use Rattle.heesch_parts.proofs.Growing.{mapped_long}
 use Rattle.heesch_parts.proofs.SameParts.{parts_append}
 use Rattle.heesch_parts.proofs.Stepping.{walk_push}
@@ -214,7 +214,7 @@ held_until (parts.Catalogue (lines.End count)) old reached before middle items b
 held_until (parts.Catalogue line) old reached before middle items between after long settled same = inl (same ∙ settled.1)
 
 -- the answer to it
-pub advanced : (r : Result (Unit {0}) JoinStop) (before : List ℕ) (given items after : List Item) (old new : Kept) (line : PartLine) (reached : Stage) → IsFed before given old → IsPartLine line → part_words line ≡ old.left → Step old.stage line (Ok reached)
+pub advanced : (r : Result (Unit {0}) (LineStop ℕ)) (before : List ℕ) (given items after : List Item) (old new : Kept) (line : PartLine) (reached : Stage) → IsFed before given old → IsPartLine line → part_words line ≡ old.left → Step old.stage line (Ok reached)
     → Advances old new line reached items after r → FeedsTo (before ++ 10 ∷ []) given items after new r
 advanced (Ok u) before given items after old new line reached f form words step a = line_fed before given items after old new line reached f form words step a
 advanced (Err (stops.Fault at fault)) before given items after old new line reached f form words step a = absurd a
@@ -229,7 +229,7 @@ has_words (parts.Share i k) = omega arith
 has_words (parts.Catalogue line) = line_has_words line
 
 -- the answer to it leaves room
-pub leaves_room : (r : Result (Unit {0}) JoinStop) (items after : List Item) (old new : Kept) (line : PartLine) (reached : Stage) → part_words line ≡ old.left → old.lines + length old.left + 1 < 2 ^ 64 → Advances old new line reached items after r
+pub leaves_room : (r : Result (Unit {0}) (LineStop ℕ)) (items after : List Item) (old new : Kept) (line : PartLine) (reached : Stage) → part_words line ≡ old.left → old.lines + length old.left + 1 < 2 ^ 64 → Advances old new line reached items after r
     → OnOk r (LeavesRoom old new 1 × HasRoom new)
 leaves_room (Ok u) items after old new line reached words room a =
     let none = ap length a.left in
@@ -262,7 +262,7 @@ fault_behind most text rest before given kept number f split in_time fault = rec
 }
 
 -- the line that ended
-line_fault : (before : List ℕ) (given : List Item) (kept : Kept) (number : ℕ) (e : JoinStop) → IsFed before given kept → IsLineFault kept.left kept.stage number → e ≡ stops.Fault (kept.lines + 1) number → IsFrontStop (before ++ 10 ∷ []) e
+line_fault : (before : List ℕ) (given : List Item) (kept : Kept) (number : ℕ) (e : LineStop ℕ) → IsFed before given kept → IsLineFault kept.left kept.stage number → e ≡ stops.Fault (kept.lines + 1) number → IsFrontStop (before ++ 10 ∷ []) e
 line_fault before given kept number e f fault is = subst (IsFrontStop (before ++ 10 ∷ [])) (sym is) told
   where
     told : IsFrontStop (before ++ 10 ∷ []) (stops.Fault (kept.lines + 1) number)
@@ -273,7 +273,7 @@ line_fault before given kept number e f fault is = subst (IsFrontStop (before ++
         (inl (record { words = kept.left; back = rest; split = refl; one_line = f.one_line; in_time = omega (arith, few, one, long); fault = fault }))
 
 -- nothing was appended in it
-pub line_stops : (before : List ℕ) (given items : List Item) (kept : Kept) (number : ℕ) (e : JoinStop) → IsFed before given kept → IsLineFault kept.left kept.stage number → e ≡ stops.Fault (kept.lines + 1) number → FeedsTo (before ++ 10 ∷ []) given items items kept (Err e)
+pub line_stops : (before : List ℕ) (given items : List Item) (kept : Kept) (number : ℕ) (e : LineStop ℕ) → IsFed before given kept → IsLineFault kept.left kept.stage number → e ≡ stops.Fault (kept.lines + 1) number → FeedsTo (before ++ 10 ∷ []) given items items kept (Err e)
 line_stops before given items kept number e f fault is =
     let stopped : StopsBefore (before ++ 10 ∷ []) given items items kept = record { seen = before; unseen = []; split = refl; goes = nothing_new before given items kept f } in
     (line_fault before given kept number e f fault is, subst (AppendsUntil (before ++ 10 ∷ []) given items items kept) (sym is) stopped)
@@ -288,15 +288,15 @@ amid_line [] s some = absurd (some refl)
 amid_line (b ∷ left) s some = refl
 
 -- the input ends in a line
-pub ends_amid : (before : List ℕ) (given : List Item) (kept : Kept) (e : JoinStop) → IsFed before given kept → (kept.left ≡ [] → ⊥) → e ≡ stops.Fault (kept.lines + 1) 6 → IsWholeStop before e
+pub ends_amid : (before : List ℕ) (given : List Item) (kept : Kept) (e : LineStop ℕ) → IsFed before given kept → (kept.left ≡ [] → ⊥) → e ≡ stops.Fault (kept.lines + 1) 6 → IsWholeStop before e
 ends_amid before given kept e f some is = subst (IsWholeStop before) (sym is) (end_told before given kept 6 f (amid_line kept.left kept.stage some))
 
 -- the input ends behind a line
-pub ends_behind : (before : List ℕ) (given : List Item) (kept : Kept) (number : ℕ) (e : JoinStop) → IsFed before given kept → kept.left ≡ [] → end_fault kept.stage ≡ Some number → e ≡ stops.Fault (kept.lines + 1) number → IsWholeStop before e
+pub ends_behind : (before : List ℕ) (given : List Item) (kept : Kept) (number : ℕ) (e : LineStop ℕ) → IsFed before given kept → kept.left ≡ [] → end_fault kept.stage ≡ Some number → e ≡ stops.Fault (kept.lines + 1) number → IsWholeStop before e
 ends_behind before given kept number e f none fault is = subst (IsWholeStop before) (sym is) (end_told before given kept number f (subst (λ (x : List ℕ). EndFault x kept.stage number) (sym none) fault))
 
 -- the input goes on beyond what is read
-pub goes_beyond : (before : List ℕ) (given : List Item) (kept : Kept) (e : JoinStop) → IsFed before given kept → e ≡ stops.Fault (kept.lines + 1) 8 → IsStopBeyond before e
+pub goes_beyond : (before : List ℕ) (given : List Item) (kept : Kept) (e : LineStop ℕ) → IsFed before given kept → e ≡ stops.Fault (kept.lines + 1) 8 → IsStopBeyond before e
 goes_beyond before given kept e f is = subst (IsStopBeyond before) (sym is) told
   where
     told : IsStopBeyond before (stops.Fault (kept.lines + 1) 8)

@@ -15,8 +15,8 @@ use Rattle.heesch_parts.specs.Stages.{fault_at_end, end_fault}
 use Rattle.heesch_parts.specs.Shares.{entries_of, items_behind, share_items, shares_from}
 use Rattle.heesch_parts.specs.Faults.{HasFault}
 use Rattle.heesch_parts.specs.Joining.{AreBuilt, Kept, IsFed, GoesTo, FeedsTo, IsFrontStop, AppendsUntil, Joins, HasRoom, LeavesRoom, MayGoOn, MayGoOnUnless, refusal_of, lines_before}
-use Rattle.heesch_parts.specs.declared.join_stop.JoinStop.{JoinStop}
-use Rattle.heesch_parts.specs.declared.join_stop.JoinStop.TheVariants as stops
+use Rattle.heesch_line.specs.declared.stops.LineStop.{LineStop}
+use Rattle.heesch_line.specs.declared.stops.LineStop.TheVariants as stops
 use Rattle.heesch_parts.proofs.Building.{stage_of}
 use Rattle.heesch_parts.proofs.WholeShares.{full_header, whole_lines_text}
 
@@ -82,18 +82,18 @@ all_bytes : (before bytes : List ℕ) (i : ℕ) → (before ++ take (i + 1) byte
 all_bytes before bytes i = append_assoc before (take (i + 1) bytes) (drop (i + 1) bytes) ∙ ap (λ (t : List ℕ). before ++ t) (take-append-drop (i + 1) bytes)
 
 -- a fault at a front is one of a longer front
-pub front_stop_later : (front more : List ℕ) (e : JoinStop) → IsFrontStop front e → IsFrontStop (front ++ more) e
+pub front_stop_later : (front more : List ℕ) (e : LineStop ℕ) → IsFrontStop front e → IsFrontStop (front ++ more) e
 front_stop_later front more (stops.Fault line fault) h = λ most rest few.
     subst (λ (t : List ℕ). HasFault most t line fault) (sym (append_assoc front more rest)) (h most (more ++ rest) (omega (arith, few, length-append front more)))
 front_stop_later front more stops.NoMemory h = tt
 
 -- the fault of one byte is that of all
-byte_stops : (before bytes : List ℕ) (i d : ℕ) (e : JoinStop) → i < length bytes → IsFrontStop ((before ++ take i bytes) ++ get_or bytes i d ∷ []) e → IsFrontStop (before ++ bytes) e
+byte_stops : (before bytes : List ℕ) (i d : ℕ) (e : LineStop ℕ) → i < length bytes → IsFrontStop ((before ++ take i bytes) ++ get_or bytes i d ∷ []) e → IsFrontStop (before ++ bytes) e
 byte_stops before bytes i d e less h =
     subst (λ (t : List ℕ). IsFrontStop t e) (all_bytes before bytes i) (front_stop_later (before ++ take (i + 1) bytes) (drop (i + 1) bytes) e (subst (λ (t : List ℕ). IsFrontStop t e) (byte_more before bytes i d less) h))
 
 -- what was appended until then
-appends_later : (bytes more : List ℕ) (given before between after : List Item) (mid new : Kept) (e : JoinStop) → (g : GoesTo bytes given before between mid) → AppendsUntil more (given ++ g.more) between after new e → (back : List ℕ) → AppendsUntil (more ++ back) given before after new e
+appends_later : (bytes more : List ℕ) (given before between after : List Item) (mid new : Kept) (e : LineStop ℕ) → (g : GoesTo bytes given before between mid) → AppendsUntil more (given ++ g.more) between after new e → (back : List ℕ) → AppendsUntil (more ++ back) given before after new e
 appends_later bytes more given before between after mid new (stops.Fault line fault) g h back = record {
   seen = h.seen;
   unseen = h.unseen ++ back;
@@ -109,18 +109,18 @@ appends_later bytes more given before between after mid new stops.NoMemory g h b
 }
 
 -- a byte stops the joiner, behind those before it
-pub byte_ends : (r : Result (Unit {0}) JoinStop) (before bytes : List ℕ) (i d : ℕ) (given items between after : List Item) (mid new : Kept) (e : JoinStop) → i < length bytes → (g : GoesTo (before ++ take i bytes) given items between mid)
+pub byte_ends : (r : Result (Unit {0}) (LineStop ℕ)) (before bytes : List ℕ) (i d : ℕ) (given items between after : List Item) (mid new : Kept) (e : LineStop ℕ) → i < length bytes → (g : GoesTo (before ++ take i bytes) given items between mid)
     → FeedsTo ((before ++ take i bytes) ++ get_or bytes i d ∷ []) (given ++ g.more) between after new (Err e) → r ≡ Err e → FeedsTo (before ++ bytes) given items after new r
 byte_ends r before bytes i d given items between after mid new e less g h is =
     let appended = appends_later (before ++ take i bytes) ((before ++ take i bytes) ++ get_or bytes i d ∷ []) given items between after mid new e g h.1 (drop (i + 1) bytes) in
     let whole : ((before ++ take i bytes) ++ get_or bytes i d ∷ []) ++ drop (i + 1) bytes ≡ before ++ bytes = ap (λ (x : List ℕ). x ++ drop (i + 1) bytes) (byte_more before bytes i d less) ∙ all_bytes before bytes i in
-    subst (λ (x : Result (Unit {0}) JoinStop). FeedsTo (before ++ bytes) given items after new x) (sym is)
+    subst (λ (x : Result (Unit {0}) (LineStop ℕ)). FeedsTo (before ++ bytes) given items after new x) (sym is)
     (byte_stops before bytes i d e less h.0, subst (λ (x : List ℕ). AppendsUntil x given items after new e) whole appended)
 
 -- a joiner that hasn't refused may go on
-pub goes_unless : (r : Result (Unit {0}) JoinStop) (refusal : Option JoinStop) (old new : Kept) (piece : List ℕ) (items after : List Item) → refusal ≡ refusal_of r → MayGoOn old
+pub goes_unless : (r : Result (Unit {0}) (LineStop ℕ)) (refusal : Option (LineStop ℕ)) (old new : Kept) (piece : List ℕ) (items after : List Item) → refusal ≡ refusal_of r → MayGoOn old
     → ((before : List ℕ) (given : List Item) → IsFed before given old → FeedsTo (before ++ piece) given items after new r) → OnOk r (LeavesRoom old new (length piece) × HasRoom new) → MayGoOnUnless refusal new
 goes_unless (Ok u) refusal old new piece items after e going told room =
     let g = told going.0 going.1 going.2 in
-    subst (λ (x : Option JoinStop). MayGoOnUnless x new) (sym e) (going.0 ++ piece, going.1 ++ g.more, g.fed, room.1)
-goes_unless (Err stop) refusal old new piece items after e going told room = subst (λ (x : Option JoinStop). MayGoOnUnless x new) (sym e) tt
+    subst (λ (x : Option (LineStop ℕ)). MayGoOnUnless x new) (sym e) (going.0 ++ piece, going.1 ++ g.more, g.fed, room.1)
+goes_unless (Err stop) refusal old new piece items after e going told room = subst (λ (x : Option (LineStop ℕ)). MayGoOnUnless x new) (sym e) tt

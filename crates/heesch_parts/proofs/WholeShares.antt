@@ -12,7 +12,7 @@ use Rattle.heesch_cert.specs.declared.entry.Entry.{Entry}
 use Rattle.heesch_text.specs.declared.line.Line.{Line}
 use Rattle.heesch_text.specs.declared.line.Line.TheVariants as lines
 use Rattle.heesch_text.specs.Lines.{line_text, text_of}
-use Rattle.heesch_text.specs.Catalogue.{header_text, entry_lines, entry_text, brief_text, entries_text, end_text, catalogue_text}
+use Rattle.heesch_text.specs.Catalogue.{header_text, entry_lines, entries_text, end_text, catalogue_text}
 use Rattle.heesch_line.specs.Forms.{IsLine}
 use Rattle.heesch_grammar.specs.declared.spot.Spot.{Spot}
 use Rattle.heesch_grammar.specs.Grammar.{step, steps}
@@ -24,6 +24,7 @@ use Rattle.heesch_reader.specs.declared.progress.Progress.TheVariants as stages
 use Rattle.heesch_reader.specs.Feeding.{IsInside}
 use Rattle.heesch_reader.proofs.Ending.{header_first}
 use Rattle.heesch_reader.proofs.EntryLines.{body_lines, body_inside}
+use Rattle.heesch_reader.proofs.EntryTexts.{entries_full}
 use Rattle.heesch_reader.proofs.Walking.{all_append}
 use Rattle.heesch_parts.specs.declared.part_line.PartLine.{PartLine}
 use Rattle.heesch_parts.specs.declared.part_line.PartLine.TheVariants as parts
@@ -40,13 +41,6 @@ use Rattle.heesch_parts.proofs.Stepping.{walk_append}
 pub catalogue_parts : (ls : List Line) → parts_text (map parts.Catalogue ls) ≡ text_of ls
 catalogue_parts [] = refl
 catalogue_parts (line ∷ ls) = ap (λ (x : List ℕ). line_text line ++ x) (catalogue_parts ls)
-
-entries_full : (header : Header) (es : List Entry) → header.brief ≡ false → entries_text header es ≡ text_of (flat_map entry_lines es)
-entries_full header [] full = refl
-entries_full header (e ∷ es) full =
-    ap (λ (b : Bool). (if b then brief_text e else entry_text e) ++ entries_text header es) full
-    ∙ ap (λ (x : List ℕ). entry_text e ++ x) (entries_full header es full)
-    ∙ sym (flat_map-append line_text (entry_lines e) (flat_map entry_lines es))
 
 one_line_text : (line : Line) → text_of (line ∷ []) ≡ line_text line
 one_line_text line = append-nil (line_text line)

@@ -1,7 +1,6 @@
 -- What the input of a source gives that share texts are joined of.
 use Rattle.std.specs.Prelude.{◌≡◌, ℕ, ◌≤◌, List, ◌++◌, length, Option, ⊤}
 use Rattle.std.specs.List.{AllByRecursion}
-use Rattle.std.specs.Io.KnownBytes.{Consumes}
 use Rattle.heesch_cert.specs.declared.header.Header.{Header}
 use Rattle.heesch_cert.specs.declared.entry.Entry.{Entry}
 use Rattle.heesch_line.specs.Forms.{HasNoNewline}
@@ -9,19 +8,12 @@ use Rattle.heesch_reader.specs.declared.item.Item.{Item}
 use Rattle.heesch_io.specs.Input.{IsAllOf}
 use Rattle.heesch_parts.specs.declared.part_line.PartLine.{PartLine}
 use Rattle.heesch_parts.specs.declared.stage.Stage.{Stage}
-use Rattle.heesch_parts.specs.declared.join_stop.JoinStop.{JoinStop}
-use Rattle.heesch_parts.specs.declared.join_stop.JoinStop.TheVariants as join_stops
-use Rattle.heesch_parts.specs.declared.input_stop.InputStop.{InputStop}
-use Rattle.heesch_parts.specs.declared.input_stop.InputStop.TheVariants as stops
+use Rattle.heesch_line.specs.declared.stops.InputStop.{InputStop}
+use Rattle.heesch_line.specs.declared.stops.InputStop.TheVariants as stops
 use Rattle.heesch_parts.specs.PartLines.{IsPartLine, parts_text}
 use Rattle.heesch_parts.specs.Stages.{start, Walk}
 use Rattle.heesch_parts.specs.Shares.{AreShares, joined_items}
 use Rattle.heesch_parts.specs.Faults.{HasFault}
-
--- for the same reason
-abbrev pub stop_of : JoinStop → InputStop
-stop_of (join_stops.Fault line fault) = stops.Fault line fault
-stop_of join_stops.NoMemory = stops.NoMemory
 
 -- the text is that of K shares, and these are the items of the joined catalogue
 pub record AreJoined (text : List ℕ) (all : List Item) : Type 0 where
@@ -35,7 +27,7 @@ abbrev pub GivesJoined : (most : ℕ) → Option (List ℕ) → List Item → Ty
 GivesJoined most left all = (text : List ℕ) × IsAllOf left text × (length text ≤ most) × AreJoined text all
 
 -- the text that the source had left has this fault, unless the source failed, or memory was refused
-abbrev pub GivesFault : (most : ℕ) → Option (List ℕ) → InputStop → Type 0
+abbrev pub GivesFault : (most : ℕ) → Option (List ℕ) → InputStop ℕ → Type 0
 GivesFault most left (stops.Fault line fault) = (text : List ℕ) × IsAllOf left text × HasFault most text line fault
 GivesFault most left stops.Failed = ⊤
 GivesFault most left stops.NoMemory = ⊤
@@ -51,7 +43,7 @@ pub record DecideNothing (bytes : List ℕ) : Type 0 where
   pub walk : Walk start ended stage
 
 -- the text has the fault, where all of it is read
-abbrev pub IsWholeInputStop : List ℕ → InputStop → Type 0
+abbrev pub IsWholeInputStop : List ℕ → InputStop ℕ → Type 0
 IsWholeInputStop text (stops.Fault line fault) = (most : ℕ) → length text ≤ most → HasFault most text line fault
 IsWholeInputStop text stops.Failed = ⊥
 IsWholeInputStop text stops.NoMemory = ⊤

@@ -21,8 +21,8 @@ use Rattle.heesch_parts.specs.declared.stage.Stage.{Stage}
 use Rattle.heesch_parts.specs.PartLines.{IsPartLine, parts_text}
 use Rattle.heesch_parts.specs.Stages.{start, Walk}
 use Rattle.heesch_parts.specs.Shares.{IsEntry, IsShareHeader, AreShares, entries_of, items_behind, line_count, share_items, joined_items}
-use Rattle.heesch_parts.specs.declared.join_stop.JoinStop.{JoinStop}
-use Rattle.heesch_parts.specs.declared.join_stop.JoinStop.TheVariants as stops
+use Rattle.heesch_line.specs.declared.stops.LineStop.{LineStop}
+use Rattle.heesch_line.specs.declared.stops.LineStop.TheVariants as stops
 use Rattle.heesch_parts.specs.declared.scan.Scan.{Scan}
 use Rattle.heesch_parts.specs.Faults.{HasFault}
 use Rattle.heesch_grammar.specs.Entries.{AreEntryLines, HoldsItsLines}
@@ -145,13 +145,13 @@ abbrev pub MayGoOn : Kept → Type 0
 MayGoOn kept = (bytes : List ℕ) × (given : List Item) × IsFed bytes given kept × HasRoom kept
 
 -- a joiner that hasn't refused may go on
-abbrev pub MayGoOnUnless : Option JoinStop → Kept → Type 0
+abbrev pub MayGoOnUnless : Option (LineStop ℕ) → Kept → Type 0
 MayGoOnUnless None kept = MayGoOn kept
 MayGoOnUnless (Some stop) kept = Unit {0}
 
 -- what a joiner is known by: its refusal if it has one, and what it keeps
 pub record Joining : Type 0 where
-  pub refusal : Option JoinStop
+  pub refusal : Option (LineStop ℕ)
   pub kept : Kept
 
 -- no more lines and bytes are kept than before, with so many more
@@ -171,16 +171,16 @@ pub record GoesTo (bytes : List ℕ) (given before after : List Item) (kept : Ke
   pub fed : IsFed bytes (given ++ more) kept
 
 -- the refusal behind an answer
-abbrev pub refusal_of : Result (Unit {0}) JoinStop → Option JoinStop
+abbrev pub refusal_of : Result (Unit {0}) (LineStop ℕ) → Option (LineStop ℕ)
 refusal_of (Ok _) = None
 refusal_of (Err stop) = Some stop
 
 -- the answer of a joiner that refused, for good
-abbrev pub StaysRefused : JoinStop → (old new : Joining) (before after : List Item) → Result (Unit {0}) JoinStop → Type 0
+abbrev pub StaysRefused : LineStop ℕ → (old new : Joining) (before after : List Item) → Result (Unit {0}) (LineStop ℕ) → Type 0
 StaysRefused stop old new before after result = (result ≡ Err stop) × (new ≡ old) × (after ≡ before)
 
 -- each text that begins with these bytes has the fault, if all of them are read
-abbrev pub IsFrontStop : List ℕ → JoinStop → Type 0
+abbrev pub IsFrontStop : List ℕ → LineStop ℕ → Type 0
 IsFrontStop front (stops.Fault line fault) = (most : ℕ) (rest : List ℕ) → length front ≤ most → HasFault most (front ++ rest) line fault
 IsFrontStop front stops.NoMemory = ⊤
 
@@ -200,12 +200,12 @@ pub record StopsWithin (bytes : List ℕ) (given before after : List Item) : Typ
   pub goes : GoesTo seen given before after kept
 
 -- what was appended before the stop
-abbrev pub AppendsUntil : List ℕ → (given before after : List Item) → Kept → JoinStop → Type 0
+abbrev pub AppendsUntil : List ℕ → (given before after : List Item) → Kept → LineStop ℕ → Type 0
 AppendsUntil bytes given before after kept (stops.Fault line fault) = StopsBefore bytes given before after kept
 AppendsUntil bytes given before after kept stops.NoMemory = StopsWithin bytes given before after
 
 -- the answer to these bytes
-abbrev pub FeedsTo : List ℕ → (given before after : List Item) → Kept → Result (Unit {0}) JoinStop → Type 0
+abbrev pub FeedsTo : List ℕ → (given before after : List Item) → Kept → Result (Unit {0}) (LineStop ℕ) → Type 0
 FeedsTo bytes given before after kept (Ok _) = GoesTo bytes given before after kept
 FeedsTo bytes given before after kept (Err stop) = IsFrontStop bytes stop × AppendsUntil bytes given before after kept stop
 
@@ -219,17 +219,17 @@ pub record Joins (bytes : List ℕ) (given before after : List Item) : Type 0 wh
   pub joined : given ++ more ≡ joined_items header shares
 
 -- the text has the fault
-abbrev pub IsWholeStop : List ℕ → JoinStop → Type 0
+abbrev pub IsWholeStop : List ℕ → LineStop ℕ → Type 0
 IsWholeStop text (stops.Fault line fault) = (most : ℕ) → length text ≤ most → HasFault most text line fault
 IsWholeStop text stops.NoMemory = ⊤
 
 -- the answer to the end of these bytes
-abbrev pub FinishesWith : List ℕ → (given before after : List Item) → Result (Unit {0}) JoinStop → Type 0
+abbrev pub FinishesWith : List ℕ → (given before after : List Item) → Result (Unit {0}) (LineStop ℕ) → Type 0
 FinishesWith bytes given before after (Ok _) = Joins bytes given before after
 FinishesWith bytes given before after (Err stop) = IsWholeStop bytes stop × (after ≡ before)
 
 -- each text that goes on behind these bytes has the fault, if no more than these are read
-abbrev pub IsStopBeyond : List ℕ → JoinStop → Type 0
+abbrev pub IsStopBeyond : List ℕ → LineStop ℕ → Type 0
 IsStopBeyond front (stops.Fault line fault) = (byte : ℕ) (rest : List ℕ) → HasFault (length front) (front ++ byte ∷ rest) line fault
 IsStopBeyond front stops.NoMemory = ⊥
 
@@ -284,7 +284,7 @@ pub record TakesLine (old new : Kept) (line : PartLine) (reached : Stage) (items
   pub lines : new.lines ≡ old.lines + 1
 
 -- it was, unless memory was refused, and then nothing was appended, or all that the line appends
-abbrev pub Advances : (old new : Kept) → PartLine → Stage → (items after : List Item) → Result (Unit {0}) JoinStop → Type 0
+abbrev pub Advances : (old new : Kept) → PartLine → Stage → (items after : List Item) → Result (Unit {0}) (LineStop ℕ) → Type 0
 Advances old new line reached items after (Ok _) = TakesLine old new line reached items after
 Advances old new line reached items after (Err (stops.Fault at fault)) = ⊥
 Advances old new line reached items after (Err stops.NoMemory) = (after ≡ items) ⊎ ((taken : Kept) × TakesLine old taken line reached items after)

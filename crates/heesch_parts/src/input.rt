@@ -6,9 +6,9 @@ ghost use Rattle.heesch_parts.specs.Joining.{IsFed};
 ghost use Rattle.heesch_io.specs.Input.{ReadsNoFurther};
 ghost use Rattle.heesch_parts.specs.Inputs.{GivesJoined, GivesFault, DecideNothing, AreJoined, IsWholeInputStop};
 
-use crate::input_stop::InputStop;
 use crate::joiner::Joiner;
 use heesch_io::{Seq, Source};
+use heesch_line::InputStop;
 use heesch_reader::Item;
 use std::alloc::Global;
 
@@ -16,7 +16,8 @@ use std::alloc::Global;
 const PIECE_MAX: usize = 4096;
 
 /// The items of the catalogue that is joined of the share texts that the source has left: the first header, the
-/// entries of all shares in their order, and an end with their number. Or the first fault of those texts.
+/// entries of all shares in their order, and an end with their number. Or the first fault of those texts, with the number
+/// that a `Joiner` gives it.
 ///
 /// At most `MOST` bytes are read, and one more that shows that the input is longer: then fault 8 comes where no line
 /// that ends in these bytes is at fault. Reading stops with the piece that shows the first fault, and items come at the
@@ -25,7 +26,7 @@ const PIECE_MAX: usize = 4096;
 pub fn joined<R: Source, const MOST: u64>(
     alloc: Global,
     source: &mut R,
-) -> Result<Seq<Item>, InputStop>
+) -> Result<Seq<Item>, InputStop<u32>>
     ensures ok { IfOk result (GivesJoined MOST (R.left source.old)) }
     ensures stop { IfErr result (GivesFault MOST (R.left source.old)) }
     ensures ended { OnOk result (IsAtEnd (R.left source.new)) }
@@ -54,7 +55,7 @@ pub fn joined<R: Source, const MOST: u64>(
 }
 
 /// The items of the joined catalogue, where the bytes have ended.
-fn finish(joiner: Joiner, items: Seq<Item>) -> Result<Seq<Item>, InputStop>
+fn finish(joiner: Joiner, items: Seq<Item>) -> Result<Seq<Item>, InputStop<u32>>
     requires { joiner.refusal ≡ None }
     ensures ok { (before : List ℕ) → IsFed before items joiner.kept → IfOk result (AreJoined before) }
     ensures stop { (before : List ℕ) → IsFed before items joiner.kept → IfErr result (IsWholeInputStop before) }

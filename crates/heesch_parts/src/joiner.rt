@@ -1,13 +1,13 @@
 //! A joiner of share texts.
 ghost use Rattle.std.specs.Prelude.{◌≡◌, ◌+◌, ◌<◌, ◌^◌, ◌++◌, [], List, ℕ, length, None, Some, OnOk};
 ghost use Rattle.heesch_reader.specs.declared.item.Item.{Item};
-ghost use Rattle.heesch_parts.specs.declared.join_stop.JoinStop.{JoinStop};
+ghost use Rattle.heesch_line.specs.declared.stops.LineStop.{LineStop};
 ghost use Rattle.heesch_parts.specs.Joining.{IsFed, FeedsTo, FinishesWith, IsStopBeyond, StaysRefused, LeavesRoom};
 ghost use Rattle.heesch_parts.specs.Joining.{refusal_of};
 
-use crate::join_stop::JoinStop;
 use crate::scan::Scan;
 use heesch_io::Seq;
+use heesch_line::LineStop;
 use heesch_reader::Item;
 use std::alloc::Global;
 use std::marker::Model;
@@ -18,7 +18,7 @@ use std::marker::Model;
 /// the line that didn't end, and the number of lines that did. Once it refused it refuses for good.
 #[derive(Drop)]
 pub struct Joiner {
-    refusal: Option<JoinStop>,
+    refusal: Option<LineStop<u32>>,
     scan: Scan,
 }
 
@@ -47,17 +47,20 @@ impl Joiner {
     /// Appends the first share's header, and each entry that is whole by now: the line behind it ended, which begins
     /// the next entry or ends the share. An item of an entry has the number of the line of its word `shape`.
     ///
-    /// `Fault` comes exactly where a line whose newline was fed can't stand, with the first such line; the items that are
-    /// whole before it are appended. `NoMemory` may come whenever memory is refused; the first of the items that are
-    /// whole by now may be appended then. After either the joiner answers the same for good. Condition: the number of lines so far, the length of the line that
-    /// didn't end and that of the piece sum to less than 2^64. Each byte is looked at a bounded number of times.
-    pub fn feed(&mut self, piece: &[u8], items: &mut Seq<Item>) -> Result<(), JoinStop>
+    /// `Fault` comes exactly where a line whose newline was fed can't stand, with the first such line, from 1, and the number
+    /// of its fault: 6 where it can't stand in a share text, or not there; 9 for a `share` line of another number; 10 for a
+    /// header that isn't the first share's, or that no share may have; 12 for the `shape` line of entry 4,294,967,296 of all.
+    /// The items that are whole before it are appended. `NoMemory` may come whenever memory is refused; the first of the items
+    /// that are whole by now may be appended then. After either the joiner answers the same for good. Condition: the number of
+    /// lines so far, the length of the line that didn't end and that of the piece sum to less than 2^64. Each byte is looked at
+    /// a bounded number of times.
+    pub fn feed(&mut self, piece: &[u8], items: &mut Seq<Item>) -> Result<(), LineStop<u32>>
         requires room { self.old.kept.lines + length self.old.kept.left + length piece.now < 2 ^ 64 }
         ensures fed { self.old.refusal ≡ None → (before : List ℕ) (given : List Item)
             → IsFed before given self.old.kept
             → FeedsTo (before ++ piece.now) given items.old items.new self.new.kept result }
         ensures refusal { self.old.refusal ≡ None → self.new.refusal ≡ refusal_of result }
-        ensures refused { (stop : JoinStop) → self.old.refusal ≡ Some stop
+        ensures refused { (stop : LineStop ℕ) → self.old.refusal ≡ Some stop
             → StaysRefused stop self.old self.new items.old items.new result }
         ensures room { OnOk result (LeavesRoom self.old.kept self.new.kept (length piece.now)) }
     {
@@ -71,16 +74,16 @@ impl Joiner {
 
     /// Takes the end of the bytes: Ok exactly where those that were fed are the texts of K shares, numbered 1 to K in
     /// order, under one header. Then an end with the number of all entries is appended, so that the items are those of
-    /// one catalogue, and the joiner may go on as if the bytes hadn't ended. Else the fault of the end of the input.
-    /// `NoMemory` may come where memory is refused. At an error nothing is appended, and the joiner answers the same for
-    /// good.
-    pub fn finish(&mut self, items: &mut Seq<Item>) -> Result<(), JoinStop>
+    /// one catalogue, and the joiner may go on as if the bytes hadn't ended. Else the fault of the end of the input: 11 behind
+    /// a share that isn't the last, and 6 elsewhere than behind a whole share. `NoMemory` may come where memory is refused. At
+    /// an error nothing is appended, and the joiner answers the same for good.
+    pub fn finish(&mut self, items: &mut Seq<Item>) -> Result<(), LineStop<u32>>
         ensures finished { self.old.refusal ≡ None → (before : List ℕ) (given : List Item)
             → IsFed before given self.old.kept
             → FinishesWith before given items.old items.new result }
         ensures refusal { self.old.refusal ≡ None → self.new.refusal ≡ refusal_of result }
         ensures kept { self.new.kept ≡ self.old.kept }
-        ensures refused { (stop : JoinStop) → self.old.refusal ≡ Some stop
+        ensures refused { (stop : LineStop ℕ) → self.old.refusal ≡ Some stop
             → StaysRefused stop self.old self.new items.old items.new result }
     {
         if let Some(stop) = self.refusal {
@@ -92,7 +95,7 @@ impl Joiner {
     }
 
     /// The fault of a text that goes on behind the bytes that were fed, where no more of it are read.
-    pub fn beyond(&self) -> JoinStop
+    pub fn beyond(&self) -> LineStop<u32>
         requires { self.now.refusal ≡ None }
         ensures { (before : List ℕ) (given : List Item) → IsFed before given self.now.kept
             → IsStopBeyond before result }

@@ -2,8 +2,6 @@
 #![tactic(auto)]
 
 mod input;
-mod input_stop;
-mod join_stop;
 mod joiner;
 pub mod laws;
 mod part_line;
@@ -13,8 +11,6 @@ mod shares;
 mod stage;
 
 pub use input::joined;
-pub use input_stop::InputStop;
-pub use join_stop::JoinStop;
 pub use joiner::Joiner;
 pub use places::Span;
 pub use shares::{SHARES_MAX, span};

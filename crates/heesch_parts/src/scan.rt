@@ -7,13 +7,12 @@ ghost use Rattle.heesch_parts.specs.PartLines.{IsPartLine};
 ghost use Rattle.heesch_parts.specs.Joining.{IsFed, MayGoOn, FeedsTo, FinishesWith, IsStopBeyond, Settles, Holds};
 ghost use Rattle.heesch_parts.specs.Joining.{Advances, HasRoom, LeavesRoom, ends_entry, kept_of};
 
-use crate::join_stop::JoinStop;
 use crate::part_line::{PartLine, read_part_line};
 use crate::stage::{CANNOT_STAND, Stage};
 use heesch_cert::Header;
 use heesch_grammar::entry_of;
 use heesch_io::{NoMemory, Seq};
-use heesch_line::LineFault;
+use heesch_line::{LineFault, LineStop};
 use heesch_reader::Item;
 use heesch_text::Line;
 use std::alloc::Global;
@@ -49,7 +48,7 @@ impl Scan {
     }
 
     /// Takes the bytes one after the other.
-    pub fn take_bytes(&mut self, piece: &[u8], items: &mut Seq<Item>) -> Result<(), JoinStop>
+    pub fn take_bytes(&mut self, piece: &[u8], items: &mut Seq<Item>) -> Result<(), LineStop<u32>>
         requires going { MayGoOn (kept_of self.old) }
         requires room { self.old.lines + length self.old.line.items + length piece.now < 2 ^ 64 }
         ensures fed { (before : List ℕ) (given : List Item) → IsFed before given (kept_of self.old)
@@ -64,7 +63,7 @@ impl Scan {
     }
 
     /// Takes the end of the bytes.
-    pub fn take_end(&self, items: &mut Seq<Item>) -> Result<(), JoinStop>
+    pub fn take_end(&self, items: &mut Seq<Item>) -> Result<(), LineStop<u32>>
         requires going { MayGoOn (kept_of self.now) }
         ensures { (before : List ℕ) (given : List Item) → IsFed before given (kept_of self.now)
             → FinishesWith before given items.old items.new result }
@@ -83,7 +82,7 @@ impl Scan {
     }
 
     /// The fault of a text that goes on behind the most bytes that are read.
-    pub fn beyond(&self) -> JoinStop
+    pub fn beyond(&self) -> LineStop<u32>
         requires { HasRoom (kept_of self.now) }
         ensures { (before : List ℕ) (given : List Item) → IsFed before given (kept_of self.now)
             → IsStopBeyond before result }
@@ -92,7 +91,7 @@ impl Scan {
     }
 
     /// Takes one byte.
-    fn take_byte(&mut self, byte: u8, items: &mut Seq<Item>) -> Result<(), JoinStop>
+    fn take_byte(&mut self, byte: u8, items: &mut Seq<Item>) -> Result<(), LineStop<u32>>
         requires going { MayGoOn (kept_of self.old) }
         requires room { self.old.lines + length self.old.line.items + 1 < 2 ^ 64 }
         ensures fed { (before : List ℕ) (given : List Item) → IsFed before given (kept_of self.old)
@@ -107,7 +106,7 @@ impl Scan {
     }
 
     /// Ends the line at hand.
-    fn end_line(&mut self, items: &mut Seq<Item>) -> Result<(), JoinStop>
+    fn end_line(&mut self, items: &mut Seq<Item>) -> Result<(), LineStop<u32>>
         requires going { MayGoOn (kept_of self.old) }
         requires room { self.old.lines + length self.old.line.items + 1 < 2 ^ 64 }
         ensures fed { (before : List ℕ) (given : List Item) → IsFed before given (kept_of self.old)
@@ -117,7 +116,7 @@ impl Scan {
         let line = match read_part_line(self.alloc, self.line.as_slice()) {
             Ok(line) => line,
             Err(LineFault::NotALine) => return Err(self.fault(CANNOT_STAND)),
-            Err(LineFault::NoMemory) => return Err(JoinStop::NoMemory),
+            Err(LineFault::NoMemory) => return Err(LineStop::NoMemory),
         };
         match self.stage.next(&line) {
             Ok(reached) => self.advance(line, reached, items),
@@ -131,7 +130,7 @@ impl Scan {
         line: PartLine,
         reached: Stage,
         items: &mut Seq<Item>,
-    ) -> Result<(), JoinStop>
+    ) -> Result<(), LineStop<u32>>
         requires whole { ends_entry line ≡ true → self.old.held.items ≢ [] → AreEntryLines false self.old.held.items }
         requires held { length self.old.held.items ≤ self.old.lines }
         requires room { self.old.lines < 2 ^ 64 - 1 }
@@ -154,12 +153,12 @@ impl Scan {
     }
 
     /// A fault of the line that didn't end.
-    fn fault(&self, fault: u32) -> JoinStop
+    fn fault(&self, fault: u32) -> LineStop<u32>
         requires { HasRoom (kept_of self.now) }
-        ensures { result ≡ JoinStop.Fault (self.now.lines + 1) fault }
+        ensures { result ≡ LineStop.Fault (self.now.lines + 1) fault }
     {
         let line = self.lines + 1;
-        JoinStop::Fault { line, fault }
+        LineStop::Fault { line, fault }
     }
 }
 

@@ -11,7 +11,7 @@ use Rattle.std.proofs.lemmas.Bool.{cases_lt}
 use Rattle.std.proofs.lemmas.List.{take_more}
 use Rattle.std.proofs.lemmas.List.Folds.{list_any_at, list_any_more}
 use Rattle.std.proofs.lemmas.Option.{get_or_from_slice_get}
-use Rattle.std.proofs.lemmas.List.Elements.{All-cons, All-nil, Contains-append_cases, Contains-append_left, Contains-append_right}
+use Rattle.std.proofs.lemmas.List.Elements.{All-cons, All-nil, All-contains, Contains-append_cases, Contains-append_left, Contains-append_right}
 use Rattle.std.proofs.lemmas.List.Kept.{Contains-dedup, Contains-from_dedup, IsStrictlySortedBy-dedup}
 use Rattle.std.proofs.lemmas.List.Sorted.{Contains-permutation, IsPermutation-sym}
 use Rattle.heesch_grid.specs.Listing.{IsRising, ListsExactly}
@@ -135,13 +135,17 @@ module _ {K : Type 0} (cmp : K → K → Ordering) (before : K → K → Bool) (
   rising_of [] h = tt
   rising_of (x ∷ xs) h = (before_all x xs h.0, rising_of xs h.1)
 
-  pub listed : (P : K → Type 0) (all ys zs : List K) → Adds P [] all → IsPermutation all ys → IsSorted cmp ys → zs ≡ dedup same ys → ListsExactly before P zs
-  listed P all ys zs a p sorted is = record {
+  pub listed : (all ys zs : List K) → IsPermutation all ys → IsSorted cmp ys → zs ≡ dedup same ys → ListsExactly before (Contains all) zs
+  listed all ys zs p sorted is = record {
     rising = subst (IsRising before) (sym is) (rising_of (dedup same ys) (IsStrictlySortedBy-dedup total ties ys sorted));
-    only = All-from_members P zs (λ r m. made r (subst (λ ws. Contains ws r) is m));
-    every = λ r h. subst (λ ws. Contains ws r) (sym is) (Contains-dedup equivalence tied ys r (Contains-permutation all ys r p (a.all r h)));
+    only = All-from_members (Contains all) zs (λ r m. Contains-permutation ys all r (IsPermutation-sym all ys p) (Contains-from_dedup same ys r (subst (λ ws. Contains ws r) is m)));
+    every = λ r h. subst (λ ws. Contains ws r) (sym is) (Contains-dedup equivalence tied ys r (Contains-permutation all ys r p h));
   }
-    where
-      made : (r : K) → Contains (dedup same ys) r → P r
-      made r m =
-          elim (a.only r (Contains-permutation ys all r (IsPermutation-sym all ys p) (Contains-from_dedup same ys r m))) [ inl none ↦ absurd (no_member r none) | inr h ↦ h ]
+
+-- what lists the members of a list that has what was added to none lists what was added
+pub lists_added : {K : Type 0} (before : K → K → Bool) (P : K → Type 0) (all zs : List K) → Adds P [] all → ListsExactly before (Contains all) zs → ListsExactly before P zs
+lists_added before P all zs a l = record {
+  rising = l.rising;
+  only = All-from_members P zs (λ r m. elim (a.only r (All-contains (Contains all) zs r l.only m)) [ inl none ↦ absurd (no_member r none) | inr h ↦ h ]);
+  every = λ r h. l.every r (a.all r h);
+}

@@ -68,7 +68,7 @@ pub gives_tile : (g : Geometry) (unit : ℤ) (by : Iso) (units s : Cell) (shape 
 gives_tile g unit by units s shape turned tile e ea eb h l is =
     subst (IsCellListOf (image g by shape)) (ap (λ m. map (plus m) turned) (move_is g unit by units s e ea eb h) ∙ sym is) (image_list g by shape turned l)
 
-plus_once : (s t c : Cell) → plus s c ≡ plus t c → s ≡ t
+pub plus_once : (s t c : Cell) → plus s c ≡ plus t c → s ≡ t
 plus_once s t c e = let a = ap (λ z. z.a) e in let b = ap (λ z. z.b) e in Cell-eta s t (omega (arith, ints, a)) (omega (arith, ints, b))
 
 head_of : (x y : Cell) (xs ys : List Cell) → x ∷ xs ≡ y ∷ ys → x ≡ y
@@ -92,7 +92,7 @@ pub moved_more : (f : Cell → Cell) (from to : List Cell) (i : ℕ) (d e : Cell
 moved_more f from to i d e lf lt is so_far =
     take_more to i e lt ∙ ap (λ zs. zs ++ get_or to i e ∷ []) so_far ∙ ap (λ z. map f (take i from) ++ z ∷ []) is ∙ sym (map_more f from i d lf)
 
-get_or_map : (f : Cell → Cell) (xs : List Cell) (i : ℕ) (d e : Cell) → i < length xs → get_or (map f xs) i e ≡ f (get_or xs i d)
+pub get_or_map : (f : Cell → Cell) (xs : List Cell) (i : ℕ) (d e : Cell) → i < length xs → get_or (map f xs) i e ≡ f (get_or xs i d)
 get_or_map f [] i d e l = absurd (omega arith)
 get_or_map f (x ∷ xs) zero d e l = refl
 get_or_map f (x ∷ xs) (suc i) d e l = get_or_map f xs i d e (omega arith)

@@ -1,5 +1,5 @@
 -- Sorted lists of cells and of cell lists, kept once.
-use Rattle.std.proofs.Common.{◌≡◌, true, false, List, [], IsPermutation, IsSorted, Ordering, refl, sym, ◌∙◌, ap}
+use Rattle.std.proofs.Common.{◌≡◌, true, false, List, Contains, IsPermutation, IsSorted, Ordering, refl, sym, ◌∙◌, ap}
 use Rattle.std.specs.declared.cmp.Ordering.TheVariants.{Less, Equal, Greater}
 use Rattle.std.specs.Cmp.{IsEquivalence, IsTotalOrder}
 use Rattle.std.specs.Cmp.Lexicographic.{slice_cmp}
@@ -14,7 +14,6 @@ use Rattle.heesch_grid.specs.Integers.{same_truth}
 use Rattle.heesch_grid.proofs.OrderFacts.{cell_less, cell_equal, cells_less, cells_greater}
 use Rattle.heesch_grid.proofs.Pinned.{cells_before-total}
 use Rattle.heesch_shape.specs.Order.{list_total, list_equivalence}
-use Rattle.heesch_place.specs.Found.{Adds}
 use Rattle.heesch_place.proofs.Gathering.{listed}
 
 cell_total : IsTotalOrder cell_cmp
@@ -46,8 +45,8 @@ cell_equivalence = record {
   congr = λ x y z h. ap (λ w. same_cell w z) (same_cell-true x y h);
 }
 
-pub listed_cells : (P : Cell → Type 0) (all ys zs : List Cell) → Adds P [] all → IsPermutation all ys → IsSorted cell_cmp ys → zs ≡ dedup same_cell ys → ListsExactly cell_before P zs
+pub listed_cells : (all ys zs : List Cell) → IsPermutation all ys → IsSorted cell_cmp ys → zs ≡ dedup same_cell ys → ListsExactly cell_before (Contains all) zs
 listed_cells = listed cell_cmp cell_before same_cell cell_less same_cell-true cell_total cell_equivalence cell_ties
 
-pub listed_lists : (P : List Cell → Type 0) (all ys zs : List (List Cell)) → Adds P [] all → IsPermutation all ys → IsSorted (slice_cmp cell_cmp) ys → zs ≡ dedup (eq_by_cmp (slice_cmp cell_cmp)) ys → ListsExactly cells_before P zs
+pub listed_lists : (all ys zs : List (List Cell)) → IsPermutation all ys → IsSorted (slice_cmp cell_cmp) ys → zs ≡ dedup (eq_by_cmp (slice_cmp cell_cmp)) ys → ListsExactly cells_before (Contains all) zs
 listed_lists = listed (slice_cmp cell_cmp) cells_before (eq_by_cmp (slice_cmp cell_cmp)) cells_less tied_lists list_total list_equivalence (λ x y. refl)

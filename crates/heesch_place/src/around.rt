@@ -6,7 +6,7 @@ ghost use Rattle.heesch_grid.specs.Listing.{ListsExactly};
 ghost use Rattle.heesch_grid.specs.Vectors.{IsWithin};
 ghost use Rattle.heesch_place.specs.Found.{Adds, FromOne, TouchesSome};
 
-use crate::lists::add;
+use crate::lists::{add, listed_cells};
 use heesch_grid::{Cell, Grid};
 use heesch_io::NoMemory;
 use heesch_shape::Shape;
@@ -47,7 +47,5 @@ pub(crate) fn cells_touching<G: Grid>(
     for tile in tiles {
         add_beside(&mut all, tile)?;
     }
-    all.sort_unstable();
-    all.dedup();
-    Ok(all)
+    Ok(listed_cells(all))
 }

@@ -6,7 +6,6 @@ mod level;
 mod lists;
 mod onto;
 mod placement;
-mod steps;
 mod turned;
 mod universe;
 

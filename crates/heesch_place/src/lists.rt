@@ -1,7 +1,11 @@
-//! Lists that grow.
-ghost use Rattle.std.specs.Prelude.{◌≡◌, ◌++◌, ◌∷◌, [], OnOk};
+//! Lists that grow, and are then sorted and kept once.
+ghost use Rattle.std.specs.Prelude.{◌≡◌, ◌++◌, ◌∷◌, [], Contains, OnOk};
+ghost use Rattle.heesch_grid.specs.Cells.{cell_before, cells_before};
+ghost use Rattle.heesch_grid.specs.Listing.{ListsExactly};
 
+use heesch_grid::{Cell, Grid};
 use heesch_io::NoMemory;
+use heesch_shape::Shape;
 
 /// The item stands last.
 pub(crate) fn add<T: Drop>(all: &mut Vec<T>, item: T) -> Result<(), NoMemory>
@@ -11,4 +15,22 @@ pub(crate) fn add<T: Drop>(all: &mut Vec<T>, item: T) -> Result<(), NoMemory>
         Ok(()) => Ok(()),
         Err(_) => Err(NoMemory),
     }
+}
+
+/// The same cells, each once, in cell order.
+pub(crate) fn listed_cells(mut all: Vec<Cell>) -> Vec<Cell>
+    ensures { ListsExactly cell_before (Contains all.items) result.items }
+{
+    all.sort_unstable();
+    all.dedup();
+    all
+}
+
+/// The same tiles, each once, in the order of their cell lists.
+pub(crate) fn listed_tiles<G: Grid>(mut all: Vec<Shape<G>>) -> Vec<Shape<G>>
+    ensures { ListsExactly cells_before (Contains all.items) result.items }
+{
+    all.sort_unstable();
+    all.dedup();
+    all
 }

@@ -7,7 +7,7 @@ ghost use Rattle.heesch_grid.specs.Listing.{ListsExactly};
 ghost use Rattle.heesch_grid.specs.Vectors.{IsWithin};
 ghost use Rattle.heesch_place.specs.Found.{Adds, FromOne, LeadsTo, LeadsOnto, IsImageBy, IsTurnedOver, IsPlacementOver};
 
-use crate::lists::add;
+use crate::lists::{add, listed_cells, listed_tiles};
 use heesch_grid::moves::{difference, units_of};
 use heesch_grid::{Cell, Grid, Iso};
 use heesch_io::NoMemory;
@@ -58,9 +58,7 @@ fn units_onto<G: Grid>(
     for c in cells {
         add_leading(&mut all, G::turn(k, *c), targets, G::UNIT)?;
     }
-    all.sort_unstable();
-    all.dedup();
-    Ok(all)
+    Ok(listed_cells(all))
 }
 
 /// Adds the images of the shape by turn k and each of the numbers of units.
@@ -120,7 +118,5 @@ pub(crate) fn placements_over<G: Grid>(
     for k in 0..G::TURNS {
         add_turned(&mut all, alloc, shape, k, targets)?;
     }
-    all.sort_unstable();
-    all.dedup();
-    Ok(all)
+    Ok(listed_tiles(all))
 }

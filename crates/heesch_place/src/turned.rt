@@ -7,7 +7,6 @@ ghost use Rattle.heesch_grid.specs.Geometry.{image};
 ghost use Rattle.heesch_grid.specs.Vectors.{IsWithin, plus};
 ghost use Rattle.heesch_place.specs.Steps.{IsFirstOf};
 
-use crate::steps::moved;
 use arrayvec::ArrayVec;
 use heesch_grid::moves::{difference, units_of};
 use heesch_grid::{Cell, Grid, Iso};
@@ -41,8 +40,8 @@ fn turned<G: Grid>(shape: &Shape<G>, k: u32) -> ArrayVec<Cell, CELLS_MAX>
 
 /// Whether the second list is the first, with each cell moved by the same step.
 fn is_moved(from: &[Cell], step: Cell, to: &[Cell]) -> bool
-    requires within { (c : Cell) → has from.now c ≡ true → IsWithin 2000000 c }
-    requires near { IsWithin 3000000 step }
+    requires from { (c : Cell) → has from.now c ≡ true → IsWithin 2000000 c }
+    requires to { (c : Cell) → has to.now c ≡ true → IsWithin 1000000 c }
     ensures yes { result ≡ true → to.now ≡ map (plus step) from.now }
     ensures no { result ≡ false → to.now ≢ map (plus step) from.now }
 {
@@ -50,7 +49,7 @@ fn is_moved(from: &[Cell], step: Cell, to: &[Cell]) -> bool
         return false;
     }
     for (i, c) in from.iter().enumerate() {
-        if to[i] != moved(*c, step) {
+        if difference(*c, to[i]) != step {
             return false;
         }
     }

@@ -39,7 +39,8 @@ pub fn gather<R: Threads + Sync, T: Send + Sync + Drop, W: Answer<T> + Sync, H: 
     ensures answers { IfOk result (λ g. AnswersEach (W.gives job.now.work) from g.pairs.items) }
 {
     if seats.len() == 1 {
-        return alone(alloc, job, from, board, seats, first, gate);
+        let pairs = work(alloc, job, from, board, &mut seats[0], first, gate)?;
+        return Ok(Gathered { seats, pairs });
     }
     let half = seats.len() / 2;
     let others = seats.split_off(half)?;
@@ -56,28 +57,6 @@ pub fn gather<R: Threads + Sync, T: Send + Sync + Drop, W: Answer<T> + Sync, H: 
     { gather(rt, alloc, job, from, board, others, second, gate) };
     let (low, high) = join(rt, front, back);
     together(low?, high?)
-}
-
-/// The one worker of a seat.
-fn alone<T: Send + Sync + Drop, W: Answer<T> + Sync, H: Gate + Sync>(
-    alloc: Global,
-    job: &Job<T, W>,
-    from: u32,
-    board: &Board,
-    mut seats: Vec<Seat>,
-    worker: u32,
-    gate: &H,
-) -> Result<Gathered<T>, NoMemory>
-    requires ready { AreReady board.now seats.items }
-    requires one { vec_len seats ≡ 1 }
-    requires span { from + board.now.count ≤ job.now.count }
-    requires work { W.ready job.now.work }
-    ensures worked { IfOk result (λ g. HaveWorked board.now seats.items g.seats.items (tickets_of g.pairs.items)) }
-    ensures answers { IfOk result (λ g. AnswersEach (W.gives job.now.work) from g.pairs.items) }
-{
-    let seat = &mut seats[0];
-    let pairs = work(alloc, job, from, board, seat, worker, gate)?;
-    Ok(Gathered { seats, pairs })
 }
 
 /// What two groups of workers leave.

@@ -6,6 +6,7 @@
 #![tactic(auto)]
 
 mod beside;
+mod crew;
 mod gate;
 mod gather;
 mod job;
@@ -17,7 +18,7 @@ mod tests;
 mod workers;
 
 pub use beside::run_beside;
+pub use crew::Crew;
 pub use gate::{Gate, Open};
 pub use job::{Answer, Job};
-pub use run::{run_all, run_span};
 pub use workers::work;

@@ -1,5 +1,5 @@
 //! What workers do at once, what is claimed first, and what a gate is told.
-use crate::{Answer, Gate, Job, Open, run_all, run_span, work};
+use crate::{Answer, Crew, Gate, Job, Open, work};
 use heesch_claims::Board;
 use heesch_io::NoMemory;
 use std::sync::atomic::{AtomicU64, Ordering};
@@ -144,7 +144,7 @@ const TURNS: u64 = 200_000_000;
 fn two_workers_run_at_once(rt: HostRuntime) -> Result<(), Fail> {
     let job = Job::new(Halves { refused: None }, 2);
     let gate = Hold::new(0, 1, TURNS);
-    let items = run_all(&rt, rt.alloc(), &job, 2, &gate)?;
+    let items = Crew::new(&rt, rt.alloc(), 2, &gate).run_all(&job)?;
     assert!(rt; items.as_slice() == [0, 0].as_slice());
     assert!(rt; !gate.has_expired());
     Ok(())
@@ -155,7 +155,7 @@ fn two_workers_run_at_once(rt: HostRuntime) -> Result<(), Fail> {
 fn one_worker_lets_the_gate_expire(rt: HostRuntime) -> Result<(), Fail> {
     let job = Job::new(Halves { refused: None }, 2);
     let gate = Hold::new(0, 1, 1_000);
-    let items = run_all(&rt, rt.alloc(), &job, 1, &gate)?;
+    let items = Crew::new(&rt, rt.alloc(), 1, &gate).run_all(&job)?;
     assert!(rt; items.as_slice() == [0, 0].as_slice());
     assert!(rt; gate.has_expired());
     Ok(())
@@ -166,7 +166,7 @@ fn workers_claim_as_they_come_free(rt: HostRuntime) -> Result<(), Fail> {
     let job = Job::new(Halves { refused: None }, 8);
     for held in 0..8 {
         let gate = Hold::new(held, 7, TURNS);
-        let items = run_all(&rt, rt.alloc(), &job, 2, &gate)?;
+        let items = Crew::new(&rt, rt.alloc(), 2, &gate).run_all(&job)?;
         assert!(rt; items.as_slice() == [0, 0, 1, 1, 2, 2, 3, 3].as_slice());
         assert!(rt; !gate.has_expired(), "ticket {held}");
     }
@@ -178,7 +178,7 @@ fn workers_claim_as_they_come_free(rt: HostRuntime) -> Result<(), Fail> {
 fn the_gate_is_told_workers_and_numbers(rt: HostRuntime) -> Result<(), Fail> {
     let job = Job::new(Halves { refused: None }, 10);
     let gate = Told::new();
-    let items = run_span(&rt, rt.alloc(), &job, 4, 9, 2, &gate)?;
+    let items = Crew::new(&rt, rt.alloc(), 2, &gate).run_span(&job, 4, 9)?;
     assert!(rt; items.as_slice() == [2, 2, 3, 3, 4].as_slice());
     let (first, second, others) = gate.notes();
     assert!(rt; first != 0 && second != 0 && others == 0);
@@ -191,7 +191,9 @@ fn a_refusal_of_one_ticket_refuses_all(rt: HostRuntime) -> Result<(), Fail> {
     let job = Job::new(Halves { refused: Some(5) }, 8);
     for workers in [1, 3, 8] {
         assert!(rt;
-            run_all(&rt, rt.alloc(), &job, workers, &Open).is_err(),
+            Crew::new(&rt, rt.alloc(), workers, &Open)
+                .run_all(&job)
+                .is_err(),
             "{workers} workers"
         );
     }
@@ -201,9 +203,13 @@ fn a_refusal_of_one_ticket_refuses_all(rt: HostRuntime) -> Result<(), Fail> {
 #[test]
 fn a_span_begins_where_it_is_told(rt: HostRuntime) -> Result<(), Fail> {
     let job = Job::new(Halves { refused: None }, 10);
-    let items = run_span(&rt, rt.alloc(), &job, 4, 9, 3, &Open)?;
+    let items = Crew::new(&rt, rt.alloc(), 3, &Open).run_span(&job, 4, 9)?;
     assert!(rt; items.as_slice() == [2, 2, 3, 3, 4].as_slice());
-    assert!(rt; run_span(&rt, rt.alloc(), &job, 9, 9, 64, &Open)?.is_empty());
+    assert!(rt;
+        Crew::new(&rt, rt.alloc(), 64, &Open)
+            .run_span(&job, 9, 9)?
+            .is_empty()
+    );
     Ok(())
 }
 

@@ -4,17 +4,18 @@ use Rattle.std.proofs.lemmas.List.{length-append}
 use Rattle.heesch_text.specs.Lines.{text_of}
 use Rattle.heesch_line.specs.Forms.{HasNoNewline}
 use Rattle.heesch_reader.specs.declared.item.Item.{Item}
-use Rattle.heesch_reader.specs.declared.item.Stop.{Stop}
-use Rattle.heesch_reader.specs.declared.item.Stop.TheVariants as stops
+use Rattle.heesch_reader.specs.declared.item.Part.{Part}
+use Rattle.heesch_line.specs.declared.stops.LineStop.{LineStop}
+use Rattle.heesch_line.specs.declared.stops.LineStop.TheVariants as stops
 use Rattle.heesch_reader.specs.declared.scan.Appended.{Appended}
 use Rattle.heesch_reader.specs.declared.scan.Scan.{Scan}
 use Rattle.heesch_reader.specs.Feeding.{RunsOut}
 use Rattle.heesch_reader.specs.Scanning.{MayGoOn, rest_of, Settles, EndsOrFaults, TakesLine, Pushes, Reaches, ReachesOrRefused, shows_whole}
 use Rattle.heesch_reader.proofs.Following.{Follows, starts, pushes, ends_line, reaches, refuses, runs_out, runs_out_settled, room_so_far}
 
-pub line_ended : (s filled mid t : Scan) (before between after : List Item) (bytes : List ℕ) (r : Result (Unit {0}) Stop) → Pushes s filled bytes → Settles (shows_whole filled) filled mid before between → EndsOrFaults mid t between after r → TakesLine s t before after bytes r
+pub line_ended : (s filled mid t : Scan) (before between after : List Item) (bytes : List ℕ) (r : Result (Unit {0}) (LineStop Part)) → Pushes s filled bytes → Settles (shows_whole filled) filled mid before between → EndsOrFaults mid t between after r → TakesLine s t before after bytes r
 line_ended s filled mid t before between after bytes (Ok u) p g e = (filled, p, record { middle = mid; between = between; settled = g; ended = e })
-line_ended s filled mid t before between after bytes (Err (stops.NotText line part)) p g e = (filled, p, record { middle = mid; settled = subst (λ (x : List Item). Settles (shows_whole filled) filled mid before x) (sym e.1) g; faults = e.0 })
+line_ended s filled mid t before between after bytes (Err (stops.Fault line part)) p g e = (filled, p, record { middle = mid; settled = subst (λ (x : List Item). Settles (shows_whole filled) filled mid before x) (sym e.1) g; faults = e.0 })
 line_ended s filled mid t before between after bytes (Err stops.NoMemory) p g e = inr (filled, p, (mid, subst (λ (x : List Item). Settles (shows_whole filled) filled mid before x) (sym e) g))
 
 -- before a line: what the bytes so far made, and those left
@@ -44,11 +45,11 @@ stops_behind first s before middle after piece left g same =
     subst (λ (bytes : List ℕ). RunsOut first.appended before after bytes) (sym g.split)
     (subst (λ (x : List Item). RunsOut first.appended before x (g.read ++ left)) (sym same) (runs_out first.appended s before middle g.read left g.follows))
 
-pub stops_at : (first s t last : Scan) (before middle after : List Item) (piece left line behind : List ℕ) (e : Stop) → left ≡ line ++ 10 ∷ behind → HasNoNewline line
+pub stops_at : (first s t last : Scan) (before middle after : List Item) (piece left line behind : List ℕ) (e : LineStop Part) → left ≡ line ++ 10 ∷ behind → HasNoNewline line
     → Going first s before middle piece left → TakesLine s t middle after line (Err e) → ReachesOrRefused first last before after (rest_of first ++ piece) (Err e)
-stops_at first s t last before middle after piece left line behind (stops.NotText number part) cut one_line g h =
+stops_at first s t last before middle after piece left line behind (stops.Fault number part) cut one_line g h =
     let whole : (g.read ++ line) ++ 10 ∷ behind ≡ rest_of first ++ piece = sym (g.split ∙ ap (λ (x : List ℕ). g.read ++ x) cut ∙ around_line g.read line behind) in
-    subst (λ (bytes : List ℕ). ReachesOrRefused first last before after bytes (Err (stops.NotText number part))) whole
+    subst (λ (bytes : List ℕ). ReachesOrRefused first last before after bytes (Err (stops.Fault number part))) whole
     (refuses first.appended h.0 before middle after (g.read ++ line) behind number part (pushes first.appended s h.0 before middle g.read line one_line g.follows h.1) h.2)
 stops_at first s t last before middle after piece left line behind stops.NoMemory cut one_line g h =
     elim h [

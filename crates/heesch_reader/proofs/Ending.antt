@@ -19,8 +19,9 @@ use Rattle.heesch_grammar.specs.Statements.{start}
 use Rattle.heesch_grammar.proofs.Heading.{bind_some, shape_step, end_step, inner_place, IsInner}
 use Rattle.heesch_reader.specs.declared.item.Item.{Item}
 use Rattle.heesch_reader.specs.declared.item.Item.TheVariants as items
-use Rattle.heesch_reader.specs.declared.item.Stop.{Stop}
-use Rattle.heesch_reader.specs.declared.item.Stop.TheVariants as stops
+use Rattle.heesch_reader.specs.declared.item.Part.{Part}
+use Rattle.heesch_line.specs.declared.stops.LineStop.{LineStop}
+use Rattle.heesch_line.specs.declared.stops.LineStop.TheVariants as stops
 use Rattle.heesch_reader.specs.declared.progress.Progress.{Progress}
 use Rattle.heesch_reader.specs.declared.progress.Progress.TheVariants as stages
 use Rattle.heesch_reader.specs.declared.scan.Appended.{Appended}
@@ -341,7 +342,7 @@ ends s t before after line reached i settled form words room may a =
 pub may_not : (p : Progress) (line : Line) (words : List ℕ) → IsLine line → words_of line ≡ words → next p line ≡ None → MayNotStand p words
 may_not p line words form e none other form_too f = subst (λ (x : Line). next p x ≡ None) (words_tell line other form form_too (e ∙ sym f)) none
 
-pub faulty : (s t : Scan) (items : List Item) (r : Result (Unit {0}) Stop) → IsFaultOf s r → MayNotStand s.progress s.line.items → EndsOrFaults s t items items r
+pub faulty : (s t : Scan) (items : List Item) (r : Result (Unit {0}) (LineStop Part)) → IsFaultOf s r → MayNotStand s.progress s.line.items → EndsOrFaults s t items items r
 faulty s t items (Ok u) f n = absurd f
-faulty s t items (Err (stops.NotText line part)) f n = (record { may_not = n; number = f.0; part_is = f.1 }, refl)
+faulty s t items (Err (stops.Fault line part)) f n = (record { may_not = n; number = f.0; part_is = f.1 }, refl)
 faulty s t items (Err stops.NoMemory) f n = refl

@@ -9,7 +9,7 @@ use Rattle.heesch_text.specs.Lines.{words_of, line_text, text_of}
 use Rattle.heesch_line.specs.Forms.{IsLine, HasNoNewline}
 use Rattle.heesch_reader.specs.declared.item.Item.{Item}
 use Rattle.heesch_reader.specs.declared.item.Part.{Part}
-use Rattle.heesch_reader.specs.declared.item.Stop.{Stop}
+use Rattle.heesch_line.specs.declared.stops.LineStop.{LineStop}
 use Rattle.heesch_reader.specs.declared.progress.Progress.{Progress}
 use Rattle.heesch_reader.specs.declared.scan.Appended.{Appended}
 use Rattle.heesch_reader.specs.declared.scan.Scan.{Scan}
@@ -242,7 +242,7 @@ takes_room old new before after bytes t =
 pub fed_room : (old new : Kept) (before after : List Item) (piece : List ℕ) (u : Unit {0}) (fed : ℕ) → FeedResult old new before after piece (Ok u) → old.appended.lines + length old.rest ≤ fed → new.appended.lines + length new.rest ≤ fed + length piece
 fed_room old new before after piece u fed f le = by_refusal old.refusal f
   where
-    by_refusal : (r : Option Stop) → FeedFrom r old new before after (old.rest ++ piece) (Ok u) → new.appended.lines + length new.rest ≤ fed + length piece
+    by_refusal : (r : Option (LineStop Part)) → FeedFrom r old new before after (old.rest ++ piece) (Ok u) → new.appended.lines + length new.rest ≤ fed + length piece
     by_refusal None t = let room = takes_room old new before after (old.rest ++ piece) t in omega (arith, room, le, length-append old.rest piece)
     by_refusal (Some stop) t = let bad = t.0 in absurd cc
 

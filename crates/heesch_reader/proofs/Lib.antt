@@ -2,6 +2,7 @@ mod Bytes
 pub mod Ending
 mod Endings
 pub mod EntryLines
+pub mod EntryTexts
 pub mod Finishing
 pub mod FirstWords
 pub mod Following

@@ -7,8 +7,8 @@ use Rattle.heesch_text.specs.Lines.{text_of}
 use Rattle.heesch_line.specs.Forms.{IsShape, HasNoNewline}
 use Rattle.heesch_reader.specs.declared.item.Item.{Item}
 use Rattle.heesch_reader.specs.declared.item.Part.{Part}
-use Rattle.heesch_reader.specs.declared.item.Stop.{Stop}
-use Rattle.heesch_reader.specs.declared.item.Stop.TheVariants as stops
+use Rattle.heesch_line.specs.declared.stops.LineStop.{LineStop}
+use Rattle.heesch_line.specs.declared.stops.LineStop.TheVariants as stops
 use Rattle.heesch_reader.specs.declared.progress.Progress.{Progress}
 use Rattle.heesch_reader.specs.declared.scan.Appended.{Appended}
 use Rattle.heesch_reader.specs.Progress.{Lead, walk, may_end, between}
@@ -93,21 +93,21 @@ pub record RunsOut (old : Appended) (before after : List Item) (bytes : List ℕ
   pub after_is : after ≡ before ++ found
 
 -- what a reader that hasn't refused makes of the bytes behind its last item
-abbrev pub FeedFresh : Kept → Kept → List Item → List Item → List ℕ → Result (Unit {0}) Stop → Type 0
+abbrev pub FeedFresh : Kept → Kept → List Item → List Item → List ℕ → Result (Unit {0}) (LineStop Part) → Type 0
 FeedFresh old new before after bytes (Ok _) = Takes old new before after bytes
-FeedFresh old new before after bytes (Err (stops.NotText line part)) = Refuses old.appended before after bytes line part × (new.refusal ≡ Some (stops.NotText line part))
+FeedFresh old new before after bytes (Err (stops.Fault line part)) = Refuses old.appended before after bytes line part × (new.refusal ≡ Some (stops.Fault line part))
 FeedFresh old new before after bytes (Err stops.NoMemory) = RunsOut old.appended before after bytes × (new.refusal ≡ Some stops.NoMemory)
 
 -- a refusal stays, and nothing changes
-abbrev pub StaysRefused : Stop → Kept → Kept → List Item → List Item → Result (Unit {0}) Stop → Type 0
+abbrev pub StaysRefused : LineStop Part → Kept → Kept → List Item → List Item → Result (Unit {0}) (LineStop Part) → Type 0
 StaysRefused stop old new before after result = (result ≡ Err stop) × (new ≡ old) × (after ≡ before)
 
-abbrev pub FeedFrom : Option Stop → Kept → Kept → List Item → List Item → List ℕ → Result (Unit {0}) Stop → Type 0
+abbrev pub FeedFrom : Option (LineStop Part) → Kept → Kept → List Item → List Item → List ℕ → Result (Unit {0}) (LineStop Part) → Type 0
 FeedFrom (Some stop) old new before after bytes result = StaysRefused stop old new before after result
 FeedFrom None old new before after bytes result = FeedFresh old new before after bytes result
 
 -- the answer to a piece
-abbrev pub FeedResult : Kept → Kept → List Item → List Item → List ℕ → Result (Unit {0}) Stop → Type 0
+abbrev pub FeedResult : Kept → Kept → List Item → List Item → List ℕ → Result (Unit {0}) (LineStop Part) → Type 0
 FeedResult old new before after piece result = FeedFrom old.refusal old new before after (old.rest ++ piece) result
 
 -- ---- the end of the bytes
@@ -144,17 +144,17 @@ pub record FallsShort (old : Appended) (before after : List Item) (bytes : List 
   pub part_is : part ≡ part_of reached left
   pub after_is : after ≡ before ++ found
 
-abbrev pub FinishFresh : Kept → Kept → List Item → List Item → List ℕ → Result (Unit {0}) Stop → Type 0
+abbrev pub FinishFresh : Kept → Kept → List Item → List Item → List ℕ → Result (Unit {0}) (LineStop Part) → Type 0
 FinishFresh old new before after bytes (Ok _) = Finishes old new before after bytes
-FinishFresh old new before after bytes (Err (stops.NotText line part)) = FallsShort old.appended before after bytes line part × (new.refusal ≡ Some (stops.NotText line part))
+FinishFresh old new before after bytes (Err (stops.Fault line part)) = FallsShort old.appended before after bytes line part × (new.refusal ≡ Some (stops.Fault line part))
 FinishFresh old new before after bytes (Err stops.NoMemory) = (after ≡ before) × (new.refusal ≡ Some stops.NoMemory)
 
-abbrev pub FinishFrom : Option Stop → Kept → Kept → List Item → List Item → List ℕ → Result (Unit {0}) Stop → Type 0
+abbrev pub FinishFrom : Option (LineStop Part) → Kept → Kept → List Item → List Item → List ℕ → Result (Unit {0}) (LineStop Part) → Type 0
 FinishFrom (Some stop) old new before after bytes result = StaysRefused stop old new before after result
 FinishFrom None old new before after bytes result = FinishFresh old new before after bytes result
 
 -- the answer to the end of the bytes
-abbrev pub FinishResult : Kept → Kept → List Item → List Item → Result (Unit {0}) Stop → Type 0
+abbrev pub FinishResult : Kept → Kept → List Item → List Item → Result (Unit {0}) (LineStop Part) → Type 0
 FinishResult old new before after result = FinishFrom old.refusal old new before after old.rest result
 
 -- the two answers to the end of the bytes exclude each other: a whole catalogue doesn't fall short of one

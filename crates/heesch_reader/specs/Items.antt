@@ -9,7 +9,8 @@ use Rattle.heesch_grammar.specs.declared.place.Place.TheVariants as places
 use Rattle.heesch_grammar.specs.Entries.{HoldsItsLines}
 use Rattle.heesch_reader.specs.declared.item.Item.{Item}
 use Rattle.heesch_reader.specs.declared.item.Item.TheVariants as items
-use Rattle.heesch_reader.specs.declared.item.Stop.{Stop}
+use Rattle.heesch_reader.specs.declared.item.Part.{Part}
+use Rattle.heesch_line.specs.declared.stops.LineStop.{LineStop}
 use Rattle.heesch_reader.specs.declared.progress.Progress.{Progress}
 use Rattle.heesch_reader.specs.declared.progress.Progress.TheVariants as stages
 use Rattle.heesch_reader.specs.declared.scan.Appended.{Appended}
@@ -65,6 +66,6 @@ progress_of a = progress_behind a.header a.entries a.ended
 
 -- what a reader keeps between two calls: its refusal if it has one, what was appended, and the bytes fed after the last whole item
 pub record Kept : Type 0 where
-  pub refusal : Option Stop
+  pub refusal : Option (LineStop Part)
   pub appended : Appended
   pub rest : List ℕ

@@ -7,8 +7,8 @@ use Rattle.heesch_line.specs.Forms.{IsLine, HasNoNewline}
 use Rattle.heesch_reader.specs.declared.item.Item.{Item}
 use Rattle.heesch_reader.specs.declared.item.Item.TheVariants as items
 use Rattle.heesch_reader.specs.declared.item.Part.{Part}
-use Rattle.heesch_reader.specs.declared.item.Stop.{Stop}
-use Rattle.heesch_reader.specs.declared.item.Stop.TheVariants as stops
+use Rattle.heesch_line.specs.declared.stops.LineStop.{LineStop}
+use Rattle.heesch_line.specs.declared.stops.LineStop.TheVariants as stops
 use Rattle.heesch_reader.specs.declared.progress.Progress.{Progress}
 use Rattle.heesch_reader.specs.declared.progress.Progress.TheVariants as stages
 use Rattle.heesch_reader.specs.declared.scan.Appended.{Appended}
@@ -42,12 +42,12 @@ pub record MayGoOn (s : Scan) : Type 0 where
   pub shown : IsShown s.appended (rest_of s)
 
 -- a reader that has not refused has a scan that may go on
-abbrev pub IsRefusedOrScan : Option Stop → Scan → Type 0
+abbrev pub IsRefusedOrScan : Option (LineStop Part) → Scan → Type 0
 IsRefusedOrScan None s = MayGoOn s
 IsRefusedOrScan (Some stop) s = Unit {0}
 
 -- what a reader with this scan keeps
-abbrev pub kept_of : Option Stop → Scan → Kept
+abbrev pub kept_of : Option (LineStop Part) → Scan → Kept
 kept_of refusal s = record { refusal = refusal; appended = s.appended; rest = rest_of s }
 
 -- items were appended, and lines read: the lines of those items, then those at hand, are the lines that were at hand and those read;
@@ -118,15 +118,15 @@ pub record Faults (s : Scan) (line : ℕ) (part : Part) : Type 0 where
   pub number : IsNumber s line
   pub part_is : part ≡ part_of s.progress (s.line.items ++ 10 ∷ [])
 
-abbrev pub EndsOrFaults : Scan → Scan → List Item → List Item → Result (Unit {0}) Stop → Type 0
+abbrev pub EndsOrFaults : Scan → Scan → List Item → List Item → Result (Unit {0}) (LineStop Part) → Type 0
 EndsOrFaults s t before after (Ok _) = Ends s t before after
-EndsOrFaults s t before after (Err (stops.NotText line part)) = Faults s line part × (after ≡ before)
+EndsOrFaults s t before after (Err (stops.Fault line part)) = Faults s line part × (after ≡ before)
 EndsOrFaults s t before after (Err stops.NoMemory) = after ≡ before
 
 -- the answer where the line at hand is at fault
-abbrev pub IsFaultOf : Scan → Result (Unit {0}) Stop → Type 0
+abbrev pub IsFaultOf : Scan → Result (Unit {0}) (LineStop Part) → Type 0
 IsFaultOf s (Ok _) = ⊥
-IsFaultOf s (Err (stops.NotText line part)) = IsNumber s line × (part ≡ part_of s.progress (s.line.items ++ 10 ∷ []))
+IsFaultOf s (Err (stops.Fault line part)) = IsNumber s line × (part ≡ part_of s.progress (s.line.items ++ 10 ∷ []))
 IsFaultOf s (Err stops.NoMemory) = Unit {0}
 
 -- ---- bytes of a line
@@ -138,13 +138,17 @@ pub record Pushes (s t : Scan) (bytes : List ℕ) : Type 0 where
   pub progress : t.progress ≡ s.progress
   pub appended : t.appended ≡ s.appended
 
--- whether the bytes show that there is an entry at hand which is whole
-abbrev pub shows_whole : Scan → Bool
-shows_whole s = (not (length s.lines.items == 0) && may_end s.progress) && begins_next s.line.items
+-- whether the bytes show that there is an entry at hand which is whole, where they end here or go on
+abbrev pub shows_whole_where : (at_end : Bool) → Scan → Bool
+shows_whole_where at_end s = (not (length s.lines.items == 0) && may_end s.progress) && ((at_end && length s.line.items == 0) || begins_next s.line.items)
 
--- the same where they end here
+-- where they may go on
+abbrev pub shows_whole : Scan → Bool
+shows_whole s = shows_whole_where false s
+
+-- where they end here
 abbrev pub shows_whole_at_end : Scan → Bool
-shows_whole_at_end s = (not (length s.lines.items == 0) && may_end s.progress) && (length s.line.items == 0 || begins_next s.line.items)
+shows_whole_at_end s = shows_whole_where true s
 
 -- whether an end was read and no byte behind it
 abbrev pub is_complete : Scan → Bool
@@ -163,9 +167,9 @@ pub record FaultsLine (s : Scan) (before after : List Item) (line : ℕ) (part :
   pub faults : Faults middle line part
 
 -- the last bytes of a line stand in it, and then its newline ends it
-abbrev pub TakesLine : Scan → Scan → List Item → List Item → List ℕ → Result (Unit {0}) Stop → Type 0
+abbrev pub TakesLine : Scan → Scan → List Item → List Item → List ℕ → Result (Unit {0}) (LineStop Part) → Type 0
 TakesLine s t before after bytes (Ok _) = (filled : Scan) × Pushes s filled bytes × EndsLine filled t before after
-TakesLine s t before after bytes (Err (stops.NotText line part)) = (filled : Scan) × Pushes s filled bytes × FaultsLine filled before after line part
+TakesLine s t before after bytes (Err (stops.Fault line part)) = (filled : Scan) × Pushes s filled bytes × FaultsLine filled before after line part
 TakesLine s t before after bytes (Err stops.NoMemory) = (after ≡ before) ⊎ ((filled : Scan) × Pushes s filled bytes × ((middle : Scan) × Settles (shows_whole filled) filled middle before after))
 
 -- ---- many bytes
@@ -180,9 +184,9 @@ pub record Reaches (first : Appended) (t : Scan) (before after : List Item) (byt
   pub after_is : after ≡ before ++ found
   pub is : MayGoOn t
 
-abbrev pub ReachesOrRefused : Scan → Scan → List Item → List Item → List ℕ → Result (Unit {0}) Stop → Type 0
+abbrev pub ReachesOrRefused : Scan → Scan → List Item → List Item → List ℕ → Result (Unit {0}) (LineStop Part) → Type 0
 ReachesOrRefused first t before after bytes (Ok _) = Reaches first.appended t before after bytes
-ReachesOrRefused first t before after bytes (Err (stops.NotText line part)) = Refuses first.appended before after bytes line part
+ReachesOrRefused first t before after bytes (Err (stops.Fault line part)) = Refuses first.appended before after bytes line part
 ReachesOrRefused first t before after bytes (Err stops.NoMemory) = RunsOut first.appended before after bytes
 
 -- the bytes end: they are a whole catalogue, and the second scan has nothing left
@@ -196,7 +200,7 @@ pub record Completes (first : Appended) (t : Scan) (before after : List Item) (b
   pub nothing_left : rest_of t ≡ []
   pub is : MayGoOn t
 
-abbrev pub CompletesOrFallsShort : Scan → Scan → List Item → List Item → Result (Unit {0}) Stop → Type 0
+abbrev pub CompletesOrFallsShort : Scan → Scan → List Item → List Item → Result (Unit {0}) (LineStop Part) → Type 0
 CompletesOrFallsShort first t before after (Ok _) = Completes first.appended t before after (rest_of first)
-CompletesOrFallsShort first t before after (Err (stops.NotText line part)) = FallsShort first.appended before after (rest_of first) line part
+CompletesOrFallsShort first t before after (Err (stops.Fault line part)) = FallsShort first.appended before after (rest_of first) line part
 CompletesOrFallsShort first t before after (Err stops.NoMemory) = after ≡ before

@@ -4,12 +4,12 @@ ghost use Rattle.heesch_reader.specs.Feeding.{PiecesLeaveRoom, WholeTextsFallNot
 ghost use Rattle.heesch_reader.specs.Parts.{PartsAreTheFormats};
 
 /// A text whose lines may all stand one behind the other, with bytes behind them that have no newline, has no line at
-/// fault. So `NotText` comes from `feed` only where the lines that were fed begin no catalogue.
+/// fault. So `feed` answers a fault only where the lines that were fed begin no catalogue.
 pub fn standing_texts_have_no_fault()
     ensures { StandingTextsHaveNoFault }
 {}
 
-/// The part of a `NotText` is the one that the format names.
+/// The part that a fault names is that of the format.
 pub fn parts_are_the_formats()
     ensures { PartsAreTheFormats }
 {}

@@ -8,7 +8,7 @@ mod reader;
 mod scan;
 mod scanning;
 
-pub use item::{Item, Part, Stop};
+pub use item::{Item, Part};
 pub use progress::{AtHand, Progress};
 pub use reader::Reader;
 pub use scan::Appended;

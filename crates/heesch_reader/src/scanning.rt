@@ -17,7 +17,7 @@ ghost use Rattle.heesch_reader.specs.Scanning.{
   IsFaultOf,
   IsNumber,
   shows_whole,
-  shows_whole_at_end,
+  shows_whole_where,
   is_complete,
   Pushes,
   TakesLine,
@@ -26,12 +26,12 @@ ghost use Rattle.heesch_reader.specs.Scanning.{
   rest_of,
 };
 
-use crate::item::{Item, Stop};
+use crate::item::{Item, Part};
 use crate::progress::{AtHand, Progress, begins_next};
 use crate::scan::Scan;
 use heesch_grammar::{brief_of, entry_of};
 use heesch_io::{NoMemory, Seq};
-use heesch_line::{LineFault, read_line};
+use heesch_line::{LineFault, LineStop, read_line};
 use heesch_text::Line;
 use memchr::memchr;
 use std::alloc::Global;
@@ -93,40 +93,22 @@ fn give_entry(scan: &mut Scan, items: &mut Seq<Item>) -> Result<(), NoMemory>
     Ok(())
 }
 
-/// Appends the entry at hand where the line at hand shows that it is whole.
-pub fn settle(scan: &mut Scan, items: &mut Seq<Item>) -> Result<(), NoMemory>
+/// Appends the entry at hand where the line at hand shows that it is whole, or the bytes end behind it.
+fn settle(scan: &mut Scan, at_end: bool, items: &mut Seq<Item>) -> Result<(), NoMemory>
     requires is { IsScan scan.old }
-    ensures ok { OnOk result (Settles (shows_whole scan.old) scan.old scan.new items.old items.new) }
+    ensures ok { OnOk result (Settles (shows_whole_where at_end scan.old) scan.old scan.new items.old items.new) }
     ensures err { OnErr result (items.new ≡ items.old) }
 {
-    if !shows_whole(scan) {
+    if !shows_whole(scan, at_end) {
         return Ok(());
     }
     give_entry(scan, items)
 }
 
-/// Appends the entry at hand where the bytes end behind it, or the line at hand shows that it is whole.
-pub fn settle_at_end(scan: &mut Scan, items: &mut Seq<Item>) -> Result<(), NoMemory>
-    requires is { IsScan scan.old }
-    ensures ok { OnOk result (Settles (shows_whole_at_end scan.old) scan.old scan.new items.old items.new) }
-    ensures err { OnErr result (items.new ≡ items.old) }
+fn shows_whole(scan: &Scan, at_end: bool) -> bool
+    ensures { result ≡ shows_whole_where at_end scan.now }
 {
-    if !shows_whole_at_end(scan) {
-        return Ok(());
-    }
-    give_entry(scan, items)
-}
-
-fn shows_whole(scan: &Scan) -> bool
-    ensures { result ≡ shows_whole scan.now }
-{
-    !scan.lines.is_empty() && scan.progress.may_end() && begins_next(scan.line.as_slice())
-}
-
-fn shows_whole_at_end(scan: &Scan) -> bool
-    ensures { result ≡ shows_whole_at_end scan.now }
-{
-    let ends = scan.line.is_empty() || begins_next(scan.line.as_slice());
+    let ends = (at_end && scan.line.is_empty()) || begins_next(scan.line.as_slice());
     !scan.lines.is_empty() && scan.progress.may_end() && ends
 }
 
@@ -138,14 +120,14 @@ fn is_complete(scan: &Scan) -> bool
 }
 
 /// The fault of the line at hand, which gets its newline.
-fn fault_of(scan: &mut Scan) -> Result<(), Stop>
+fn fault_of(scan: &mut Scan) -> Result<(), LineStop<Part>>
     requires { scan.old.appended.lines + length scan.old.lines.items + 1 < 2 ^ 64 }
     ensures { IsFaultOf scan.old result }
 {
     scan.line.push(b'\n')?;
     let part = scan.progress.part_of(scan.line.as_slice());
     let line = line_number(scan);
-    Err(Stop::NotText { line, part })
+    Err(LineStop::Fault { line, fault: part })
 }
 
 /// Takes a line that may stand.
@@ -182,7 +164,7 @@ fn advance(
 }
 
 /// Ends the line at hand.
-fn end_line(scan: &mut Scan, items: &mut Seq<Item>) -> Result<(), Stop>
+fn end_line(scan: &mut Scan, items: &mut Seq<Item>) -> Result<(), LineStop<Part>>
     requires is { IsScan scan.old }
     requires settled { shows_whole scan.old ≡ false }
     requires room { scan.old.appended.lines + length scan.old.lines.items + length scan.old.line.items + 1 < 2 ^ 64 }
@@ -190,7 +172,7 @@ fn end_line(scan: &mut Scan, items: &mut Seq<Item>) -> Result<(), Stop>
 {
     let line = match read_line(scan.alloc, scan.line.as_slice()) {
         Ok(line) => line,
-        Err(LineFault::NoMemory) => return Err(Stop::NoMemory),
+        Err(LineFault::NoMemory) => return Err(LineStop::NoMemory),
         Err(LineFault::NotALine) => return fault_of(scan),
     };
     let Some(reached) = scan.progress.next(&line) else {
@@ -198,7 +180,7 @@ fn end_line(scan: &mut Scan, items: &mut Seq<Item>) -> Result<(), Stop>
     };
     match advance(scan, line, reached, items) {
         Ok(()) => Ok(()),
-        Err(NoMemory) => Err(Stop::NoMemory),
+        Err(NoMemory) => Err(LineStop::NoMemory),
     }
 }
 
@@ -221,19 +203,23 @@ fn add_to_line(scan: &mut Scan, bytes: &[u8]) -> Result<(), NoMemory>
 }
 
 /// Takes the last bytes of a line, and the newline behind them.
-fn take_line(scan: &mut Scan, bytes: &[u8], items: &mut Seq<Item>) -> Result<(), Stop>
+fn take_line(scan: &mut Scan, bytes: &[u8], items: &mut Seq<Item>) -> Result<(), LineStop<Part>>
     requires is { IsScan scan.old }
     requires one_line { HasNoNewline bytes.now }
     requires room { scan.old.appended.lines + length (rest_of scan.old) + length bytes.now + 1 < 2 ^ 64 }
     ensures { TakesLine scan.old scan.new items.old items.new bytes.now result }
 {
     add_to_line(scan, bytes)?;
-    settle(scan, items)?;
+    settle(scan, false, items)?;
     end_line(scan, items)
 }
 
 /// Takes the bytes line by line.
-pub fn take_bytes(scan: &mut Scan, piece: &[u8], items: &mut Seq<Item>) -> Result<(), Stop>
+pub fn take_bytes(
+    scan: &mut Scan,
+    piece: &[u8],
+    items: &mut Seq<Item>,
+) -> Result<(), LineStop<Part>>
     requires is { MayGoOn scan.old }
     requires room { scan.old.appended.lines + length (rest_of scan.old) + length piece.now < 2 ^ 64 }
     ensures { ReachesOrRefused scan.old scan.new items.old items.new (rest_of scan.old ++ piece.now) result }
@@ -244,22 +230,22 @@ pub fn take_bytes(scan: &mut Scan, piece: &[u8], items: &mut Seq<Item>) -> Resul
         rest = behind;
     }
     add_to_line(scan, rest)?;
-    settle(scan, items)?;
+    settle(scan, false, items)?;
     Ok(())
 }
 
 /// Takes the end of the bytes.
-pub fn take_end(scan: &mut Scan, items: &mut Seq<Item>) -> Result<(), Stop>
+pub fn take_end(scan: &mut Scan, items: &mut Seq<Item>) -> Result<(), LineStop<Part>>
     requires is { MayGoOn scan.old }
     ensures { CompletesOrFallsShort scan.old scan.new items.old items.new result }
 {
-    settle_at_end(scan, items)?;
+    settle(scan, true, items)?;
     if is_complete(scan) {
         return Ok(());
     }
     let part = scan.progress.part_of(scan.line.as_slice());
     let line = line_number(scan);
-    Err(Stop::NotText { line, part })
+    Err(LineStop::Fault { line, fault: part })
 }
 
 /// How the line at hand begins.

@@ -43,25 +43,29 @@ fn first_or_origin(cells: &[Cell]) -> Cell
     cells[0]
 }
 
-/// The lesser a and the lesser b.
-fn lower(c: Cell, d: Cell) -> Cell
-    ensures a { result.a ≡ int_min c.a d.a }
-    ensures b { result.b ≡ int_min c.b d.b }
-{
-    Cell {
-        a: c.a.min(d.a),
-        b: c.b.min(d.b),
-    }
+/// The least and the greatest coordinates of some cells.
+#[derive(Clone, Copy)]
+struct Span {
+    low: Cell,
+    high: Cell,
 }
 
-/// The greater a and the greater b.
-fn higher(c: Cell, d: Cell) -> Cell
-    ensures a { result.a ≡ int_max c.a d.a }
-    ensures b { result.b ≡ int_max c.b d.b }
+/// The span with one more cell.
+fn with(span: Span, c: Cell) -> Span
+    ensures low_a { result.low.a ≡ int_min span.low.a c.a }
+    ensures low_b { result.low.b ≡ int_min span.low.b c.b }
+    ensures high_a { result.high.a ≡ int_max span.high.a c.a }
+    ensures high_b { result.high.b ≡ int_max span.high.b c.b }
 {
-    Cell {
-        a: c.a.max(d.a),
-        b: c.b.max(d.b),
+    Span {
+        low: Cell {
+            a: span.low.a.min(c.a),
+            b: span.low.b.min(c.b),
+        },
+        high: Cell {
+            a: span.high.a.max(c.a),
+            b: span.high.b.max(c.b),
+        },
     }
 }
 
@@ -139,13 +143,15 @@ impl Window {
         ensures unit { result.unit ≡ G.geometry.unit }
         ensures inner { (c : Cell) → has cells.now c ≡ true → is_inner result c ≡ true }
     {
-        let mut low = first_or_origin(cells);
-        let mut high = low;
+        let first = first_or_origin(cells);
+        let mut span = Span {
+            low: first,
+            high: first,
+        };
         for c in cells {
-            low = lower(low, *c);
-            high = higher(high, *c);
+            span = with(span, *c);
         }
-        Window::between(low, high, G::UNIT as usize)
+        Window::between(span.low, span.high, G::UNIT as usize)
     }
 
     /// How many words hold its marks.

@@ -1,16 +1,5 @@
-//! Runs of the program over a source and a sink in memory, and the rows of catalogues, tallies and outer numbers.
+//! Rows of the program over a source and a sink in memory: words, input, status and text. There are tests here alone.
 #![tactic(auto)]
 
 #[cfg(test)]
-mod catalogues;
-#[cfg(test)]
-mod outers;
-mod running;
-#[cfg(test)]
-mod shares;
-#[cfg(test)]
-mod tables;
-
-pub use running::{
-    Row, bytes_of, first_other, room, run_into, run_over, run_past, written, written_over,
-};
+mod tests;

@@ -1,5 +1,5 @@
 -- Lines in chunks of 1,024, and the answers on the chunks.
-use Rattle.std.proofs.Common.{inl, inr, ◌≡◌, ℕ, zero, suc, ◌+◌, ◌*◌, ◌/◌, ◌%◌, ◌<◌, ◌≤◌, min, None, Some, List, [], ◌∷◌, length, get_or, sym, ap, ◌∙◌, subst, arith}
+use Rattle.std.proofs.Common.{inl, inr, ◌≡◌, ℕ, zero, suc, ◌+◌, ◌*◌, ◌/◌, ◌%◌, ◌<◌, ◌≤◌, min, Option, None, Some, List, [], ◌∷◌, length, get_or, sym, ap, ◌∙◌, subst, arith}
 use Rattle.std.specs.Int.{div_ceil}
 use Rattle.std.specs.List.{AllZip, range_with_len}
 use Rattle.std.proofs.lemmas.Bool.{cases_lt}
@@ -29,12 +29,12 @@ told_from P a (suc n) [] h k d lt = absurd h
 told_from P a (suc n) (y ∷ ys) h zero d lt = let same : a ≡ a + 0 = omega arith in subst (λ m. P m y) same h.0
 told_from P a (suc n) (y ∷ ys) h (suc k) d lt = let same : a + 1 + k ≡ a + suc k = omega arith in subst (λ m. P m (get_or ys k d)) same (told_from P (a + 1) n ys h.1 k d (omega arith))
 
-module _ {Y : Type 0} (P : ℕ → Y → Type 0) (n : ℕ) (numbers : List ℕ) (is : numbers ≡ range_with_len 0 n) (ys : List Y) (told : AllZip P numbers ys) where
-  pub told_at : (k : ℕ) (d : Y) → k < n → P k (get_or ys k d)
-  told_at k d lt = let same : 0 + k ≡ k = omega arith in subst (λ m. P m (get_or ys k d)) same (told_from P 0 n ys (subst (λ (xs : List ℕ). AllZip P xs ys) is told) k d lt)
+module _ {Y : Type 0} (P : ℕ → Y → Type 0) (n : ℕ) (ys : List Y) (told : AllZip P (range_with_len 0 n) ys) where
+  told_at : (k : ℕ) (d : Y) → k < n → P k (get_or ys k d)
+  told_at k d lt = let same : 0 + k ≡ k = omega arith in subst (λ m. P m (get_or ys k d)) same (told_from P 0 n ys told k d lt)
 
   pub told_length : length ys ≡ n
-  told_length = AllZip-long P numbers ys told ∙ (ap length is ∙ length-range_with_len 0 n)
+  told_length = AllZip-long P (range_with_len 0 n) ys told ∙ length-range_with_len 0 n
 
   -- the same of the items that are these, where one of them is known
   pub told_of : (items : List Y) → items ≡ ys → (k : ℕ) (d y : Y) → k < length items → get_or items k d ≡ y → P k y
@@ -44,22 +44,26 @@ module _ {Y : Type 0} (P : ℕ → Y → Type 0) (n : ℕ) (numbers : List ℕ) 
 
 -- the answer on the chunk of a number, where the lines before it hold
 module _ (vars : ℕ) (clauses : List (List Lit)) (lines : List Line) (n k : ℕ) (before : (i : ℕ) → i < k * 1024 → i < n → HoldsAtLine vars clauses lines i) where
-  pub chunk_holds : IsFirstFailing vars clauses lines (k * 1024) (min (k * 1024 + 1024) n) None → (i : ℕ) → i < (k + 1) * 1024 → i < n → HoldsAtLine vars clauses lines i
-  chunk_holds here i lt below = elim (cases_lt i (k * 1024)) [
+  abbrev IsAnswer : Option ℕ → Type 0
+  IsAnswer = IsFirstFailing vars clauses lines (k * 1024) (min (k * 1024 + 1024) n)
+
+  pub chunk_holds : (answer : Option ℕ) → IsAnswer answer → answer ≡ None → (i : ℕ) → i < (k + 1) * 1024 → i < n → HoldsAtLine vars clauses lines i
+  chunk_holds answer told none i lt below = elim (cases_lt i (k * 1024)) [
     | inl less ↦ before i less below
-    | inr past ↦ here i past (omega (arith, lt, below))
+    | inr past ↦ subst IsAnswer none told i past (omega (arith, lt, below))
   ]
 
-  pub chunk_fails : (at : ℕ) → IsFirstFailing vars clauses lines (k * 1024) (min (k * 1024 + 1024) n) (Some at) → IsFirstFailing vars clauses lines 0 n (Some at)
-  chunk_fails at here = (
-    omega arith,
-    omega (arith, here.1),
-    λ i le lt. elim (cases_lt i (k * 1024)) [
-      | inl less ↦ before i less (omega (arith, here.1, lt))
-      | inr past ↦ here.2 i past lt
-    ],
-    here.3,
-  )
+  pub chunk_fails : (answer : Option ℕ) → IsAnswer answer → (at : ℕ) → answer ≡ Some at → IsFirstFailing vars clauses lines 0 n (Some at)
+  chunk_fails answer told at some =
+      let here = subst IsAnswer some told in (
+        omega arith,
+        omega (arith, here.1),
+        λ i le lt. elim (cases_lt i (k * 1024)) [
+          | inl less ↦ before i less (omega (arith, here.1, lt))
+          | inr past ↦ here.2 i past lt
+        ],
+        here.3,
+      )
 
 -- the same of whether lines are new
 module _ (clauses : List (List Lit)) (lines : List Line) (n k : ℕ) where

@@ -11,13 +11,12 @@ ghost use Rattle.heesch_rup.specs.Hints.{hints_of};
 
 use crate::added::add_formed;
 use crate::assignment::Assignment;
-use crate::chunks::{CHUNK, LEAST_SPLIT};
+use crate::chunks::{CHUNK, LEAST_SPLIT, by_chunks};
 use crate::hints::{reaches_conflict, refute};
 use crate::numbers::are_numbers;
 use crate::steps::Steps;
 use heesch_cnf::{FlatFormula, Formula, Lit, Log, is_clause};
 use heesch_io::NoMemory;
-use rayon::prelude::*;
 use std::alloc::Global;
 use std::thread::Threads;
 
@@ -163,16 +162,15 @@ fn first_failing_in_chunks<R: Threads + Sync, S: Steps + Sync>(
     requires added { AddsFirst formula.now.vars (S.written steps.now).lines added.now }
     ensures { IfOk result (IsFirstFailing formula.now.vars formula.now.clauses (S.written steps.now).lines 0 (length added.now.clauses)) }
 {
-    let found = (0..added.len().div_ceil(CHUNK))
-        .into_par_iter()
-        .map(
-            move |chunk: usize| -> Result<Option<usize>, NoMemory>
-                requires { AddsFirst formula.now.vars (S.written steps.now).lines added.now × (chunk * 1024 < length added.now.clauses) }
-                ensures { IfOk result (IsFirstFailing formula.entry.now.vars formula.entry.now.clauses (S.written steps.entry.now).lines (chunk * 1024) (min (chunk * 1024 + 1024) (length added.entry.now.clauses))) }
-            { first_failing_of(alloc, formula, added, steps, chunk) },
-        )
-        .with_min_len(1)
-        .collect::<Vec<_>>(rt, alloc)?;
+    let found = by_chunks(
+        rt,
+        alloc,
+        added.len(),
+        move |chunk: usize| -> Result<Option<usize>, NoMemory>
+            requires { AddsFirst formula.now.vars (S.written steps.now).lines added.now × (chunk * 1024 < length added.now.clauses) }
+            ensures { IfOk result (IsFirstFailing formula.entry.now.vars formula.entry.now.clauses (S.written steps.entry.now).lines (chunk * 1024) (min (chunk * 1024 + 1024) (length added.entry.now.clauses))) }
+        { first_failing_of(alloc, formula, added, steps, chunk) },
+    )?;
     for answer in found.iter() {
         let Ok(failing) = answer else {
             return Err(NoMemory);
@@ -285,20 +283,6 @@ pub fn check_steps<R: Threads + Sync, S: Steps + Sync>(
     }
 }
 
-/// What the check of a log over the formula finds: the least line, from 1, that doesn't hold, where there is one; the final line
-/// counts after the others. A Learn line costs as many steps as its clause and its hinted clauses have literals, a Given line
-/// as many as its clause has. The clauses of the lines are copied into one array.
-pub fn check_log_flat<R: Threads + Sync>(
-    rt: &R,
-    alloc: Global,
-    formula: &FlatFormula,
-    log: &Log,
-) -> Result<LogAnswer, NoMemory>
-    ensures { IfOk result (IsLogAnswer formula.now.vars formula.now.clauses log.now) }
-{
-    check_steps(rt, alloc, formula, log)
-}
-
 /// The least line, from 1, that doesn't hold, where there is one; the final line counts after the others. A Learn line costs
 /// as many steps as its clause and its hinted clauses have literals, a Given line as many as its clause has. The formula is
 /// copied into one array first; one of 2^31 variables or more counts as want of memory.
@@ -311,5 +295,5 @@ pub fn check_log<R: Threads + Sync>(
     ensures { IfOk result (IsLogAnswer formula.now.vars formula.now.clauses log.now) }
 {
     let flat = FlatFormula::of(alloc, formula)?;
-    check_log_flat(rt, alloc, &flat, log)
+    check_steps(rt, alloc, &flat, log)
 }

@@ -13,10 +13,8 @@ mod rarity;
 mod spent;
 mod status;
 mod steps;
-#[cfg(test)]
-mod tests;
 
-pub use check::{LogAnswer, check_log, check_log_flat, check_steps};
-pub use newness::{all_new, all_new_flat, all_new_steps};
+pub use check::{LogAnswer, check_log, check_steps};
+pub use newness::{all_new, all_new_steps};
 pub use spent::is_spent;
 pub use steps::Steps;

@@ -9,14 +9,13 @@ ghost use Rattle.heesch_rup.specs.Listed.{AreAllListed, ListsFirst, SomeFalsifie
 
 use crate::added::clauses_of;
 use crate::assignment::Assignment;
-use crate::chunks::{CHUNK, LEAST_SPLIT};
+use crate::chunks::{CHUNK, LEAST_SPLIT, by_chunks};
 use crate::hints::refute;
 use crate::occurrences::{Occurrences, lit_slot};
 use crate::rarity::counts_of;
 use crate::steps::Steps;
 use heesch_cnf::{FlatFormula, Formula, Lit, Log};
 use heesch_io::NoMemory;
-use rayon::prelude::*;
 use std::alloc::Global;
 use std::thread::Threads;
 
@@ -101,40 +100,6 @@ fn occurrences_of(
     Ok(listed)
 }
 
-/// Whether no line contains an earlier clause, in the order of the lines. The assignment is all open.
-fn are_new_in_turn<S: Steps>(
-    alloc: Global,
-    assignment: &mut Assignment,
-    formula: &FlatFormula,
-    added: &FlatFormula,
-    steps: &S,
-) -> Result<bool, NoMemory>
-    requires room { formula.now.vars < vec_len assignment.old.values }
-    requires open { held assignment.old.values.items ≡ all_open }
-    requires lines { LinesHold formula.now.vars formula.now.clauses (S.written steps.now).lines }
-    requires added { added.now ≡ record { vars = formula.now.vars; clauses = clauses_of (S.written steps.now).lines } }
-    ensures { IfOk result (λ yes. IsTrue yes ↔ LinesAreNew formula.now.clauses (S.written steps.now).lines) }
-{
-    // Reading the number of the variables tells the proof that the clauses are over them.
-    let _vars = formula.vars();
-    let given = formula.len();
-    let mut occurrences = occurrences_of(alloc, formula, added, given)?;
-    for i in 0..steps.count() {
-        if !is_new(
-            &occurrences,
-            assignment,
-            formula,
-            added,
-            given + i,
-            steps.clause(i),
-        )? {
-            return Ok(false);
-        }
-        occurrences.list_next(formula, added)?;
-    }
-    Ok(true)
-}
-
 /// Whether each line of one chunk contains no earlier clause. All clauses are listed.
 fn are_new_of<S: Steps>(
     alloc: Global,
@@ -154,47 +119,37 @@ fn are_new_of<S: Steps>(
     let until = (from + CHUNK).min(count);
     let mut assignment = Assignment::new(alloc, formula.vars())?;
     for i in from..until {
-        if !is_new(
-            occurrences,
-            &mut assignment,
-            formula,
-            added,
-            given + i,
-            steps.clause(i),
-        )? {
+        let (before, clause) = (given + i, steps.clause(i));
+        if !is_new(occurrences, &mut assignment, formula, added, before, clause)? {
             return Ok(false);
         }
     }
     Ok(true)
 }
 
-/// Whether no line contains an earlier clause, by chunks, in as many threads as there are processors. All clauses are listed
-/// first, and a search passes over those that don't stand before its line.
+/// Whether no line contains an earlier clause, by chunks, in as many threads as there are processors. All clauses are listed,
+/// and a search passes over those that don't stand before its line.
 fn are_new_in_chunks<R: Threads + Sync, S: Steps + Sync>(
     rt: &R,
     alloc: Global,
+    occurrences: &Occurrences,
     formula: &FlatFormula,
     added: &FlatFormula,
     steps: &S,
 ) -> Result<bool, NoMemory>
-    requires lines { LinesHold formula.now.vars formula.now.clauses (S.written steps.now).lines }
-    requires added { added.now ≡ record { vars = formula.now.vars; clauses = clauses_of (S.written steps.now).lines } }
+    requires listed { AreAllListed formula.now added.now occurrences.now }
+    requires added { added.now.clauses ≡ clauses_of (S.written steps.now).lines }
     ensures { IfOk result (λ yes. IsTrue yes ↔ LinesAreNew formula.now.clauses (S.written steps.now).lines) }
 {
-    // Reading the number of the variables tells the proof that the clauses are over them.
-    let _vars = formula.vars();
-    let occurrences = occurrences_of(alloc, formula, added, formula.len() + added.len())?;
-    let listed = &occurrences;
-    let found = (0..added.len().div_ceil(CHUNK))
-        .into_par_iter()
-        .map(
-            move |chunk: usize| -> Result<bool, NoMemory>
-                requires { AreAllListed formula.now added.now listed.now × (added.now.clauses ≡ clauses_of (S.written steps.now).lines) × (chunk * 1024 < length added.now.clauses) }
-                ensures { IfOk result (λ yes. IsTrue yes ↔ AreNewBetween formula.entry.now.clauses (S.written steps.entry.now).lines (chunk * 1024) (min (chunk * 1024 + 1024) (length added.entry.now.clauses))) }
-            { are_new_of(alloc, listed, formula, added, steps, chunk) },
-        )
-        .with_min_len(1)
-        .collect::<Vec<_>>(rt, alloc)?;
+    let found = by_chunks(
+        rt,
+        alloc,
+        added.len(),
+        move |chunk: usize| -> Result<bool, NoMemory>
+            requires { AreAllListed formula.now added.now occurrences.now × (added.now.clauses ≡ clauses_of (S.written steps.now).lines) × (chunk * 1024 < length added.now.clauses) }
+            ensures { IfOk result (λ yes. IsTrue yes ↔ AreNewBetween formula.entry.now.clauses (S.written steps.entry.now).lines (chunk * 1024) (min (chunk * 1024 + 1024) (length added.entry.now.clauses))) }
+        { are_new_of(alloc, occurrences, formula, added, steps, chunk) },
+    )?;
     for answer in found.iter() {
         let Ok(fresh) = answer else {
             return Err(NoMemory);
@@ -206,26 +161,35 @@ fn are_new_in_chunks<R: Threads + Sync, S: Steps + Sync>(
     Ok(true)
 }
 
-/// Whether no line contains an earlier clause, where the clauses that the lines add are these. The assignment is all open. The
-/// lines are checked by chunks where they are `LEAST_SPLIT` or more.
+/// Whether no line contains an earlier clause, where the clauses that the lines add are these. The lines are checked by chunks
+/// where they are `LEAST_SPLIT` or more, and else in their order, in the caller's thread; each is listed after its check.
 pub fn are_new<R: Threads + Sync, S: Steps + Sync>(
     rt: &R,
     alloc: Global,
-    assignment: &mut Assignment,
     formula: &FlatFormula,
     added: &FlatFormula,
     steps: &S,
 ) -> Result<bool, NoMemory>
-    requires room { formula.now.vars < vec_len assignment.old.values }
-    requires open { held assignment.old.values.items ≡ all_open }
     requires lines { LinesHold formula.now.vars formula.now.clauses (S.written steps.now).lines }
     requires added { added.now ≡ record { vars = formula.now.vars; clauses = clauses_of (S.written steps.now).lines } }
     ensures { IfOk result (λ yes. IsTrue yes ↔ LinesAreNew formula.now.clauses (S.written steps.now).lines) }
 {
-    if added.len() < LEAST_SPLIT {
-        return are_new_in_turn(alloc, assignment, formula, added, steps);
+    let vars = formula.vars();
+    let (given, count) = (formula.len(), added.len());
+    if LEAST_SPLIT <= count {
+        let occurrences = occurrences_of(alloc, formula, added, given + count)?;
+        return are_new_in_chunks(rt, alloc, &occurrences, formula, added, steps);
     }
-    are_new_in_chunks(rt, alloc, formula, added, steps)
+    let mut listed = occurrences_of(alloc, formula, added, given)?;
+    let mut assignment = Assignment::new(alloc, vars)?;
+    for i in 0..steps.count() {
+        let (before, clause) = (given + i, steps.clause(i));
+        if !is_new(&listed, &mut assignment, formula, added, before, clause)? {
+            return Ok(false);
+        }
+        listed.list_next(formula, added)?;
+    }
+    Ok(true)
 }
 
 /// Whether no line contains an earlier clause, be it of the formula or of a line, wherever the lines stand. It costs as many
@@ -240,25 +204,8 @@ pub fn all_new_steps<R: Threads + Sync, S: Steps + Sync>(
     requires { LinesHold formula.now.vars formula.now.clauses (S.written steps.now).lines }
     ensures { IfOk result (λ yes. IsTrue yes ↔ LinesAreNew formula.now.clauses (S.written steps.now).lines) }
 {
-    let vars = formula.vars();
-    let added = clauses_of(alloc, vars, steps)?;
-    let mut assignment = Assignment::new(alloc, vars)?;
-    are_new(rt, alloc, &mut assignment, formula, &added, steps)
-}
-
-/// Whether no line contains an earlier clause, be it of the formula or of a line. It costs as many steps as all clauses have
-/// literals, and for each line the lengths of the clauses of which the line has the literal that is rarest in lines. The
-/// clauses of the lines are copied into one array.
-pub fn all_new_flat<R: Threads + Sync>(
-    rt: &R,
-    alloc: Global,
-    formula: &FlatFormula,
-    log: &Log,
-) -> Result<bool, NoMemory>
-    requires { LinesHold formula.now.vars formula.now.clauses log.now.lines }
-    ensures { IfOk result (λ yes. IsTrue yes ↔ LinesAreNew formula.now.clauses log.now.lines) }
-{
-    all_new_steps(rt, alloc, formula, log)
+    let added = clauses_of(alloc, formula.vars(), steps)?;
+    are_new(rt, alloc, formula, &added, steps)
 }
 
 /// Whether no line contains an earlier clause, be it of the formula or of a line. It costs as many steps as all clauses have
@@ -274,5 +221,5 @@ pub fn all_new<R: Threads + Sync>(
     ensures { IfOk result (λ yes. IsTrue yes ↔ LinesAreNew formula.now.clauses log.now.lines) }
 {
     let flat = FlatFormula::of(alloc, formula)?;
-    all_new_flat(rt, alloc, &flat, log)
+    all_new_steps(rt, alloc, &flat, log)
 }

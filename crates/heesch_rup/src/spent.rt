@@ -34,6 +34,6 @@ pub fn is_spent<R: Threads + Sync, S: Steps + Sync>(
     let mut added = FlatFormula::new(alloc, vars);
     match bad_line(rt, alloc, &mut assignment, formula, &mut added, steps)? {
         Some(_) => Ok(false),
-        None => are_new(rt, alloc, &mut assignment, formula, &added, steps),
+        None => are_new(rt, alloc, formula, &added, steps),
     }
 }

@@ -12,7 +12,7 @@ use heesch_grid::{Grid, GridName};
 use heesch_grow::{Draws, grown};
 use heesch_io::NoMemory;
 use heesch_kite::on_grid;
-use heesch_pool::Gate;
+use heesch_pool::{Crew, Gate};
 use heesch_shape::Shape;
 use heesch_table::Tally;
 use std::alloc::Global;
@@ -20,33 +20,26 @@ use std::thread::Threads;
 
 /// The text of the tally of `count` polyforms of n cells, classified under the limits. They are grown
 /// one after the other, from one state that starts at the seed, and stand by their canonical lists.
-/// n is 1 to 32, `count` at most 1,000, and there are 1 to 64 workers.
+/// n is 1 to 32, and `count` at most 1,000.
 ///
 /// Errors: `NoMemory` alone. Nearly all of its time goes to the classification of the shapes, each by
 /// one worker. The shapes are kept to the end, their entries until their round of at most 256 is
 /// counted, and the memory of the searches for a shape until its entry is made.
 pub fn sample<T: Threads + Sync, H: Gate + Sync>(
-    rt: &T,
-    alloc: Global,
+    crew: &Crew<'_, T, H>,
     grid: GridName,
     n: u32,
     count: u32,
     seed: u64,
     limits: Limits,
-    workers: u32,
-    gate: &H,
 ) -> Result<Vec<u8>, NoMemory>
     requires size { (1 ≤ n) × (n ≤ 32) }
     requires few { count ≤ 1000 }
     requires limits { AreLimits limits }
-    requires workers { (1 ≤ workers) × (workers ≤ 64) }
     ensures { IfOk result (λ text. IsSample (geometry_of grid) n count seed limits text.items) }
 {
     let growth = Growth { n, count, seed };
-    on_grid!(
-        grid,
-        sample_of::<_, T, H>(rt, alloc, growth, limits, workers, gate)
-    )
+    on_grid!(grid, sample_of::<_, T, H>(crew, growth, limits))
 }
 
 /// What is grown: so many polyforms of n cells, one after the other, from one state that starts at the seed.
@@ -58,22 +51,18 @@ struct Growth {
 }
 
 fn sample_of<G: Grid + Send + Sync, T: Threads + Sync, H: Gate + Sync>(
-    rt: &T,
-    alloc: Global,
+    crew: &Crew<'_, T, H>,
     growth: Growth,
     limits: Limits,
-    workers: u32,
-    gate: &H,
 ) -> Result<Vec<u8>, NoMemory>
     requires size { (1 ≤ growth.n) × (growth.n ≤ 32) }
     requires few { growth.count ≤ 1000 }
     requires limits { AreLimits limits }
-    requires workers { (1 ≤ workers) × (workers ≤ 64) }
     ensures { IfOk result (λ text. IsSample G.geometry growth.n growth.count growth.seed limits text.items) }
 {
-    let shapes = grown_shapes::<G>(alloc, growth)?;
-    let tally = tally_of(rt, alloc, &shapes, growth.count, limits, workers, gate)?;
-    let mut text = Vec::new(alloc);
+    let shapes = grown_shapes::<G>(crew.alloc, growth)?;
+    let tally = tally_of(crew, &shapes, growth.count, limits)?;
+    let mut text = Vec::new(crew.alloc);
     tally.write(&mut text)?;
     Ok(text)
 }
@@ -95,32 +84,28 @@ fn grown_shapes<G: Grid>(alloc: Global, growth: Growth) -> Result<Vec<Shape<G>>,
 
 /// The tally of the entries of canonical shapes, of which there are `count`, one round after the other.
 fn tally_of<G: Grid + Send + Sync, T: Threads + Sync, H: Gate + Sync>(
-    rt: &T,
-    alloc: Global,
+    crew: &Crew<'_, T, H>,
     shapes: &[Shape<G>],
     count: u32,
     limits: Limits,
-    workers: u32,
-    gate: &H,
 ) -> Result<Tally, NoMemory>
     requires canonical { All (λ s. IsCanonicalListOf G.geometry s s) shapes.now }
     requires count { count ≡ length shapes.now }
     requires few { count ≤ 1000 }
     requires limits { AreLimits limits }
-    requires workers { (1 ≤ workers) × (workers ≤ 64) }
     ensures { IfOk result (HaveCounts G.geometry limits shapes.now) }
 {
     let texts = EntryText {
         brief: true,
         limits,
     };
-    let mut tally = Tally::new(alloc);
+    let mut tally = Tally::new(crew.alloc);
     let mut from = 0;
     while from < count {
         let until = from + ROUND.min(count - from);
-        let entries = items_between(rt, alloc, &texts, shapes, from, until, workers, gate)?;
+        let entries = items_between(crew, &texts, shapes, from, until)?;
         add_entries(
-            alloc,
+            crew.alloc,
             &shapes[from as usize..until as usize],
             &entries,
             &mut tally,

@@ -1,6 +1,8 @@
 //! A module for each crate that is tried.
+mod audit;
 mod encode;
 mod levels;
 mod made;
+mod outer;
 mod torus;
 mod verdict;

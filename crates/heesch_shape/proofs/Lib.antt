@@ -13,3 +13,5 @@ pub mod Single
 pub mod Faultless
 pub mod Touches
 pub mod Merging
+pub mod ListOrder
+pub mod Zips

@@ -1,12 +1,21 @@
 -- What the writer of a share writes.
-use Rattle.std.specs.Prelude.{◌≡◌, ◌<◌, ◌^◌, ℕ, List, ◌++◌, length, slice_range}
+use Rattle.std.specs.Prelude.{◌≡◌, ◌<◌, ◌≤◌, ◌^◌, ℕ, List, ◌++◌, length, slice_range}
 use Rattle.heesch_grid.specs.declared.Cell.{Cell}
 use Rattle.heesch_grid.specs.Geometry.{Geometry}
 use Rattle.heesch_grid.specs.Polyform.{IsFreeList}
 use Rattle.heesch_cert.specs.declared.header.Header.{Header}
+use Rattle.heesch_cert.specs.Limits.{AreLimits}
 use Rattle.heesch_catalogue.specs.Catalogues.{IsCatalogue, IsBegunCatalogue}
 use Rattle.heesch_parts.specs.Shares.{share_line}
 use Rattle.heesch_parts.specs.Spans.{span_of}
+use Rattle.heesch_share.specs.declared.written.Share.{Share}
+
+-- the share is one of at most 1,000, and the limits of its header are limits
+pub record MayBeWritten (share : Share) : Type 0 where
+  pub first : 1 ≤ share.i
+  pub last : share.i ≤ share.k
+  pub most : share.k ≤ 1000
+  pub limits : AreLimits share.header.limits
 
 -- the shapes at the places that share i of k of the list has
 abbrev pub shapes_of_share : (i k : ℕ) → List (List Cell) → List (List Cell)

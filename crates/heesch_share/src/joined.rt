@@ -9,7 +9,8 @@ ghost use Rattle.heesch_text.specs.Lines.{text_of};
 ghost use Rattle.heesch_share.specs.Joined.{GivesText, IsFull};
 
 use heesch_io::{NoMemory, Source};
-use heesch_parts::{InputStop, joined};
+use heesch_line::InputStop;
+use heesch_parts::joined;
 use heesch_reader::Item;
 use heesch_text::{write_end, write_entry, write_header};
 use std::alloc::Global;
@@ -22,7 +23,7 @@ use std::alloc::Global;
 pub fn joined_text<R: Source, const MOST: u64>(
     alloc: Global,
     source: &mut R,
-) -> Result<Vec<u8>, InputStop>
+) -> Result<Vec<u8>, InputStop<u32>>
     ensures ok { IfOk result (λ text. GivesText MOST (R.left source.old) text.items) }
     ensures stop { IfErr result (GivesFault MOST (R.left source.old)) }
     ensures ended { OnOk result (IsAtEnd (R.left source.new)) }

@@ -8,7 +8,7 @@ ghost use Rattle.heesch_grid.specs.Names.{geometry_of};
 ghost use Rattle.heesch_grid.specs.Polyform.{IsCanonicalListOf};
 ghost use Rattle.heesch_catalogue.specs.Rounds.{BeginsOne, WritesOne};
 ghost use Rattle.heesch_parts.specs.Shares.{share_line};
-ghost use Rattle.heesch_share.specs.Written.{IsShare, IsBegunShare, IsShareOfSize, IsBegunShareOfSize};
+ghost use Rattle.heesch_share.specs.Written.{IsShare, IsBegunShare, IsShareOfSize, IsBegunShareOfSize, MayBeWritten};
 
 use heesch_catalogue::write_catalogue;
 use heesch_cert::Header;
@@ -17,27 +17,32 @@ use heesch_io::{IoStop, NoMemory, Sink, put};
 use heesch_kite::on_grid;
 use heesch_listing::all_shapes;
 use heesch_parts::{Span, span};
-use heesch_pool::Gate;
+use heesch_pool::{Crew, Gate};
 use heesch_shape::Shape;
 use heesch_text::fields::{append_byte, append_labelled};
 use std::alloc::Global;
 use std::thread::Threads;
 
+/// Share `i` of `k` of a catalogue, under the header.
+#[derive(Clone, Copy)]
+pub struct Share {
+    pub header: Header,
+    pub i: u32,
+    pub k: u32,
+}
+
 /// Writes share `i` of `k` of the catalogue, under the header, of all free polyforms of n cells: the line that names the
 /// share, and the catalogue text of the shapes at the places that the share has, as `write_catalogue` writes it. n is 1 to
-/// 31, 1 <= i <= k <= 1,000, and there are 1 to 64 workers.
+/// 31, and 1 <= i <= k <= 1,000.
 ///
 /// Errors: as of `write_catalogue`; where memory was refused for the list of the shapes, nothing was written. Beside that
 /// list it keeps the entries of one round.
 pub fn write_share<T: Threads + Sync, W: Sink, H: Gate + Sync>(
-    rt: &T,
-    alloc: Global,
+    crew: &Crew<'_, T, H>,
     header: &Header,
     n: u32,
     i: u32,
     k: u32,
-    workers: u32,
-    gate: &H,
     sink: &mut W,
 ) -> Result<(), IoStop>
     requires size { (1 ≤ n) × (n ≤ 31) }
@@ -45,7 +50,6 @@ pub fn write_share<T: Threads + Sync, W: Sink, H: Gate + Sync>(
     requires last { i ≤ k }
     requires most { k ≤ 1000 }
     requires limits { AreLimits header.now.limits }
-    requires workers { (1 ≤ workers) × (workers ≤ 64) }
     ensures ok { OnOk result
         (WritesOne (IsShareOfSize (geometry_of header.now.grid) header.now n i k)
         (W.held sink.old) (W.held sink.new)) }
@@ -55,72 +59,61 @@ pub fn write_share<T: Threads + Sync, W: Sink, H: Gate + Sync>(
     ensures failed { result ≡ Err IoStop.Failed → Rose (W.faults sink.old) (W.faults sink.new) }
     ensures later { W.faults sink.old ≤ W.faults sink.new }
 {
-    on_grid!(
-        header.grid,
-        write_one::<_, T, W, H>(rt, alloc, header, n, i, k, workers, gate, sink)
-    )
+    let share = Share {
+        header: *header,
+        i,
+        k,
+    };
+    on_grid!(header.grid, write_one::<_, T, W, H>(crew, n, &share, sink))
 }
 
 fn write_one<G: Grid + Send + Sync, T: Threads + Sync, W: Sink, H: Gate + Sync>(
-    rt: &T,
-    alloc: Global,
-    header: &Header,
+    crew: &Crew<'_, T, H>,
     n: u32,
-    i: u32,
-    k: u32,
-    workers: u32,
-    gate: &H,
+    share: &Share,
     sink: &mut W,
 ) -> Result<(), IoStop>
     requires size { (1 ≤ n) × (n ≤ 31) }
-    requires first { 1 ≤ i }
-    requires last { i ≤ k }
-    requires most { k ≤ 1000 }
-    requires limits { AreLimits header.now.limits }
-    requires workers { (1 ≤ workers) × (workers ≤ 64) }
+    requires may { MayBeWritten share.now }
     ensures ok { OnOk result
-        (WritesOne (IsShareOfSize G.geometry header.now n i k) (W.held sink.old) (W.held sink.new)) }
+        (WritesOne (IsShareOfSize G.geometry share.now.header n share.now.i share.now.k)
+        (W.held sink.old) (W.held sink.new)) }
     ensures err { OnErr result
-        (BeginsOne (IsBegunShareOfSize G.geometry header.now n i k) (W.held sink.old) (W.held sink.new)) }
+        (BeginsOne (IsBegunShareOfSize G.geometry share.now.header n share.now.i share.now.k)
+        (W.held sink.old) (W.held sink.new)) }
     ensures failed { result ≡ Err IoStop.Failed → Rose (W.faults sink.old) (W.faults sink.new) }
     ensures later { W.faults sink.old ≤ W.faults sink.new }
 {
-    let shapes = all_shapes::<G, T, H>(rt, alloc, n, workers, gate)?;
-    write_share_of(rt, alloc, header, &shapes, i, k, workers, gate, sink)
+    let shapes = all_shapes::<G, T, H>(crew, n)?;
+    write_share_of(crew, &shapes, share, sink)
 }
 
 /// Writes the share of the catalogue of canonical shapes.
 fn write_share_of<G: Grid + Send + Sync, T: Threads + Sync, W: Sink, H: Gate + Sync>(
-    rt: &T,
-    alloc: Global,
-    header: &Header,
+    crew: &Crew<'_, T, H>,
     shapes: &[Shape<G>],
-    i: u32,
-    k: u32,
-    workers: u32,
-    gate: &H,
+    share: &Share,
     sink: &mut W,
 ) -> Result<(), IoStop>
     requires canonical { All (λ s. IsCanonicalListOf G.geometry s s) shapes.now }
-    requires first { 1 ≤ i }
-    requires last { i ≤ k }
-    requires most { k ≤ 1000 }
-    requires limits { AreLimits header.now.limits }
-    requires workers { (1 ≤ workers) × (workers ≤ 64) }
+    requires may { MayBeWritten share.now }
     ensures ok { OnOk result
-        (WritesOne (IsShare G.geometry header.now i k shapes.now) (W.held sink.old) (W.held sink.new)) }
+        (WritesOne (IsShare G.geometry share.now.header share.now.i share.now.k shapes.now)
+        (W.held sink.old) (W.held sink.new)) }
     ensures err { OnErr result
-        (BeginsOne (IsBegunShare G.geometry header.now i k shapes.now) (W.held sink.old) (W.held sink.new)) }
+        (BeginsOne (IsBegunShare G.geometry share.now.header share.now.i share.now.k shapes.now)
+        (W.held sink.old) (W.held sink.new)) }
     ensures failed { result ≡ Err IoStop.Failed → Rose (W.faults sink.old) (W.faults sink.new) }
     ensures later { W.faults sink.old ≤ W.faults sink.new }
 {
     let Ok(count) = u32::try_from(shapes.len()) else {
         return Err(IoStop::NoMemory);
     };
+    let Share { header, i, k } = *share;
     let Span { from, until } = span(count, i, k);
-    put_line(alloc, i, k, sink)?;
+    put_line(crew.alloc, i, k, sink)?;
     let part = &shapes[from as usize..until as usize];
-    write_catalogue(rt, alloc, header, part, workers, gate, sink)
+    write_catalogue(crew, &header, part, sink)
 }
 
 /// Writes the line that names share `i` of `k`.

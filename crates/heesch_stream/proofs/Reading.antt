@@ -9,8 +9,8 @@ use Rattle.std.proofs.lemmas.List.{append-nil, length-append}
 use Rattle.std.proofs.lemmas.List.Sums.{sum_by-append, count_by-le-length}
 use Rattle.heesch_reader.specs.declared.item.Item.{Item}
 use Rattle.heesch_reader.specs.declared.item.Part.{Part}
-use Rattle.heesch_reader.specs.declared.item.Stop.{Stop}
-use Rattle.heesch_reader.specs.declared.item.Stop.TheVariants as reader_stops
+use Rattle.heesch_line.specs.declared.stops.LineStop.{LineStop}
+use Rattle.heesch_line.specs.declared.stops.LineStop.TheVariants as line_stops
 use Rattle.heesch_reader.specs.declared.progress.Progress.TheVariants as stages
 use Rattle.heesch_reader.specs.Items.{Kept, none_appended}
 use Rattle.heesch_reader.specs.Feeding.{Takes, Finishes, Refuses, FallsShort, RunsOut, FeedFrom, FeedResult, FinishFrom, FinishResult}
@@ -21,7 +21,7 @@ use Rattle.heesch_stream.specs.declared.answers.StreamStop.{StreamStop}
 use Rattle.heesch_stream.specs.declared.answers.StreamStop.TheVariants as stops
 use Rattle.heesch_stream.specs.Answers.{stop_of}
 use Rattle.heesch_stream.specs.Input.{newlines}
-use Rattle.heesch_stream.specs.Taking.{Streamed, Begins, HasFault, HasRead, HasWhole, TakesPiece, TakesEnd, TellsFault, TellsTooLong, RunsOutOfMemory, TakeResult, FeedsPiece, FinishesAll}
+use Rattle.heesch_stream.specs.Taking.{Streamed, Begins, HasFault, HasRead, HasWhole, IsSplit, TakesPiece, TakesEnd, TellsFault, TellsTooLong, RunsOutOfMemory, TakeResult, FeedsPiece, FinishesAll}
 use Rattle.heesch_stream.proofs.Joining.{takes_on, refuses_on, falls_short_on, finishes_on, runs_out_on, none_on}
 
 -- ---- known bytes
@@ -75,8 +75,8 @@ newlines_append xs ys = sum_by-append (λ (b : ℕ). if b == 10 then 1 else 0) x
 pub newlines_within : (xs : List ℕ) → newlines xs ≤ length xs
 newlines_within xs = count_by-le-length (λ (b : ℕ). b == 10) xs
 
-none_again : (r : Option Stop) (old new : Kept) (items after : List Item) (bytes : List ℕ) (res : Result (Unit {0}) Stop) → r ≡ None → FeedFrom r old new items after bytes res → FeedFrom None old new items after bytes res
-none_again r old new items after bytes res e f = subst (λ (x : Option Stop). FeedFrom x old new items after bytes res) e f
+none_again : (r : Option (LineStop Part)) (old new : Kept) (items after : List Item) (bytes : List ℕ) (res : Result (Unit {0}) (LineStop Part)) → r ≡ None → FeedFrom r old new items after bytes res → FeedFrom None old new items after bytes res
+none_again r old new items after bytes res e f = subst (λ (x : Option (LineStop Part)). FeedFrom x old new items after bytes res) e f
 
 pub fed : (old new : Kept) (items after : List Item) (piece : List ℕ) (u : Unit {0}) → old.refusal ≡ None → FeedResult old new items after piece (Ok u) → Takes old new items after (old.rest ++ piece)
 fed old new items after piece u e f = none_again old.refusal old new items after (old.rest ++ piece) (Ok u) e f
@@ -101,17 +101,12 @@ took_piece old new items after piece before now t count most line some c = recor
       };
 }
 
--- the input is these bytes and those behind them
-record IsSplit (first : Option (List ℕ)) (front behind : List ℕ) : Type 0 where
-  pub all_of : IsAllOf first (front ++ behind)
-  pub few : length front ≤ 1099511627776
-
 with_fault : (first : Option (List ℕ)) (front behind : List ℕ) (all : List Item) (line : ℕ) (part : Part) → IsSplit first front behind
     → Refuses none_appended [] all front line part ⊎ (FallsShort none_appended [] all front line part × (behind ≡ [])) → HasFault first all line part
 with_fault first front behind all line part i fault = record { input = front ++ behind; all_of = i.all_of; front = front; behind = behind; split = refl; few = i.few; fault = fault }
 
 with_whole : (first : Option (List ℕ)) (front behind : List ℕ) (all : List Item) → IsSplit first front behind → RunsOut none_appended [] all front → HasWhole first all
-with_whole first front behind all i whole = record { input = front ++ behind; all_of = i.all_of; front = front; behind = behind; split = refl; few = i.few; whole = whole }
+with_whole first front behind all i whole = record { front = front; behind = behind; split = i; whole = whole }
 
 -- up to a piece, or to the end
 piece_split : (first before now : Option (List ℕ)) (found : List Item) (old : Streamed) (piece : List ℕ) → (h : HasRead first before found old) → Consumes before now piece → old.count + length piece ≤ 1099511627776 → IsSplit first (h.bytes ++ piece) (unread now)
@@ -127,9 +122,9 @@ end_split first before found old h end = record {
 }
 
 pub refused_piece : (old : Streamed) (new : Kept) (items after : List Item) (piece : List ℕ) (line : ℕ) (part : Part) (before now : Option (List ℕ)) → old.kept.refusal ≡ None
-    → FeedResult old.kept new items after piece (Err (reader_stops.NotText line part)) → Consumes before now piece → old.count + length piece ≤ 1099511627776 → TellsFault before old items after line part
+    → FeedResult old.kept new items after piece (Err (line_stops.Fault line part)) → Consumes before now piece → old.count + length piece ≤ 1099511627776 → TellsFault before old items after line part
 refused_piece old new items after piece line part before now e f c few =
-    let t = (none_again old.kept.refusal old.kept new items after (old.kept.rest ++ piece) (Err (reader_stops.NotText line part)) e f).0 in
+    let t = (none_again old.kept.refusal old.kept new items after (old.kept.rest ++ piece) (Err (line_stops.Fault line part)) e f).0 in
     record {
       more = t.found;
       after_is = t.after_is;
@@ -137,9 +132,9 @@ refused_piece old new items after piece line part before now e f c few =
     }
 
 pub starved_piece : (old : Streamed) (new : Kept) (items after : List Item) (piece : List ℕ) (before now : Option (List ℕ)) → old.kept.refusal ≡ None
-    → FeedResult old.kept new items after piece (Err reader_stops.NoMemory) → Consumes before now piece → old.count + length piece ≤ 1099511627776 → RunsOutOfMemory before old items after
+    → FeedResult old.kept new items after piece (Err line_stops.NoMemory) → Consumes before now piece → old.count + length piece ≤ 1099511627776 → RunsOutOfMemory before old items after
 starved_piece old new items after piece before now e f c few =
-    let t = (none_again old.kept.refusal old.kept new items after (old.kept.rest ++ piece) (Err reader_stops.NoMemory) e f).0 in
+    let t = (none_again old.kept.refusal old.kept new items after (old.kept.rest ++ piece) (Err line_stops.NoMemory) e f).0 in
     record {
       more = t.found;
       after_is = t.after_is;
@@ -148,8 +143,8 @@ starved_piece old new items after piece before now e f c few =
 
 -- ---- the end
 
-finish_again : (r : Option Stop) (old new : Kept) (items after : List Item) (bytes : List ℕ) (res : Result (Unit {0}) Stop) → r ≡ None → FinishFrom r old new items after bytes res → FinishFrom None old new items after bytes res
-finish_again r old new items after bytes res e f = subst (λ (x : Option Stop). FinishFrom x old new items after bytes res) e f
+finish_again : (r : Option (LineStop Part)) (old new : Kept) (items after : List Item) (bytes : List ℕ) (res : Result (Unit {0}) (LineStop Part)) → r ≡ None → FinishFrom r old new items after bytes res → FinishFrom None old new items after bytes res
+finish_again r old new items after bytes res e f = subst (λ (x : Option (LineStop Part)). FinishFrom x old new items after bytes res) e f
 
 pub took_end : (old : Streamed) (new : Kept) (items after : List Item) (u : Unit {0}) (before : Option (List ℕ)) → old.kept.refusal ≡ None → FinishResult old.kept new items after (Ok u) → IsAtEnd before → TakesEnd before old items after
 took_end old new items after u before e f end =
@@ -167,9 +162,9 @@ took_end old new items after u before e f end =
     }
 
 pub fell_short : (old : Streamed) (new : Kept) (items after : List Item) (line : ℕ) (part : Part) (before : Option (List ℕ)) → old.kept.refusal ≡ None
-    → FinishResult old.kept new items after (Err (reader_stops.NotText line part)) → IsAtEnd before → TellsFault before old items after line part
+    → FinishResult old.kept new items after (Err (line_stops.Fault line part)) → IsAtEnd before → TellsFault before old items after line part
 fell_short old new items after line part before e f end =
-    let t = (finish_again old.kept.refusal old.kept new items after old.kept.rest (Err (reader_stops.NotText line part)) e f).0 in
+    let t = (finish_again old.kept.refusal old.kept new items after old.kept.rest (Err (line_stops.Fault line part)) e f).0 in
     record {
       more = t.found;
       after_is = t.after_is;
@@ -177,9 +172,9 @@ fell_short old new items after line part before e f end =
     }
 
 pub starved_end : (old : Streamed) (new : Kept) (items after : List Item) (before : Option (List ℕ)) → old.kept.refusal ≡ None
-    → FinishResult old.kept new items after (Err reader_stops.NoMemory) → IsAtEnd before → RunsOutOfMemory before old items after
+    → FinishResult old.kept new items after (Err line_stops.NoMemory) → IsAtEnd before → RunsOutOfMemory before old items after
 starved_end old new items after before e f end =
-    let same = (finish_again old.kept.refusal old.kept new items after old.kept.rest (Err reader_stops.NoMemory) e f).0 in
+    let same = (finish_again old.kept.refusal old.kept new items after old.kept.rest (Err line_stops.NoMemory) e f).0 in
     record {
       more = [];
       after_is = same ∙ sym (append-nil items);
@@ -189,16 +184,16 @@ starved_end old new items after before e f end =
 -- ---- the answers
 
 -- a stream that was refused said nothing of what was read
-pub refused_again : (before now : Option (List ℕ)) (failed fails : ℕ) (old new : Streamed) (items : List Item) (stop : Stop) → old.kept.refusal ≡ Some stop → TakeResult before now failed fails old new items items (Err (stop_of stop))
-refused_again before now failed fails old new items (reader_stops.NotText line part) e = record {
+pub refused_again : (before now : Option (List ℕ)) (failed fails : ℕ) (old new : Streamed) (items : List Item) (stop : LineStop Part) → old.kept.refusal ≡ Some stop → TakeResult before now failed fails old new items items (Err (stop_of stop))
+refused_again before now failed fails old new items (line_stops.Fault line part) e = record {
   more = [];
   after_is = sym (append-nil items);
-  fault = λ first found h. let bad : Some (reader_stops.NotText line part) ≡ None = sym e ∙ ap (λ (k : Kept). k.refusal) h.kept_is in absurd cc;
+  fault = λ first found h. let bad : Some (line_stops.Fault line part) ≡ None = sym e ∙ ap (λ (k : Kept). k.refusal) h.kept_is in absurd cc;
 }
-refused_again before now failed fails old new items reader_stops.NoMemory e = record {
+refused_again before now failed fails old new items line_stops.NoMemory e = record {
   more = [];
   after_is = sym (append-nil items);
-  whole = λ first found h. let bad : Some reader_stops.NoMemory ≡ None = sym e ∙ ap (λ (k : Kept). k.refusal) h.kept_is in absurd cc;
+  whole = λ first found h. let bad : Some line_stops.NoMemory ≡ None = sym e ∙ ap (λ (k : Kept). k.refusal) h.kept_is in absurd cc;
 }
 
 at_end_before : (before now : Option (List ℕ)) → Consumes before now [] → IsAtEnd now → IsAtEnd before
@@ -225,14 +220,14 @@ feed_stops before now failed fails old new items after piece stops.Failed f c = 
 feed_stops before now failed fails old new items after piece stops.NoMemory f c = f before now c
 
 -- the reader's refusal of a piece, as the stream tells it
-pub feed_refuses : (old new : Streamed) (items after : List Item) (piece : List ℕ) (stop : Stop) → old.kept.refusal ≡ None → FeedResult old.kept new.kept items after piece (Err stop) → old.count + length piece ≤ 1099511627776 → FeedsPiece old new items after piece (Err (stop_of stop))
-feed_refuses old new items after piece (reader_stops.NotText line part) e f few = λ before now c. refused_piece old new.kept items after piece line part before now e f c few
-feed_refuses old new items after piece reader_stops.NoMemory e f few = λ before now c. starved_piece old new.kept items after piece before now e f c few
+pub feed_refuses : (old new : Streamed) (items after : List Item) (piece : List ℕ) (stop : LineStop Part) → old.kept.refusal ≡ None → FeedResult old.kept new.kept items after piece (Err stop) → old.count + length piece ≤ 1099511627776 → FeedsPiece old new items after piece (Err (stop_of stop))
+feed_refuses old new items after piece (line_stops.Fault line part) e f few = λ before now c. refused_piece old new.kept items after piece line part before now e f c few
+feed_refuses old new items after piece line_stops.NoMemory e f few = λ before now c. starved_piece old new.kept items after piece before now e f c few
 
 -- and of the end
-pub finish_refuses : (old : Streamed) (new : Kept) (items after : List Item) (stop : Stop) → old.kept.refusal ≡ None → FinishResult old.kept new items after (Err stop) → FinishesAll old items after (Err (stop_of stop))
-finish_refuses old new items after (reader_stops.NotText line part) e f = λ before end. fell_short old new items after line part before e f end
-finish_refuses old new items after reader_stops.NoMemory e f = λ before end. starved_end old new items after before e f end
+pub finish_refuses : (old : Streamed) (new : Kept) (items after : List Item) (stop : LineStop Part) → old.kept.refusal ≡ None → FinishResult old.kept new items after (Err stop) → FinishesAll old items after (Err (stop_of stop))
+finish_refuses old new items after (line_stops.Fault line part) e f = λ before end. fell_short old new items after line part before e f end
+finish_refuses old new items after line_stops.NoMemory e f = λ before end. starved_end old new items after before e f end
 
 -- one byte more than may be read
 pub too_long : (before now : Option (List ℕ)) (old new : Streamed) (items : List Item) (byte : ℕ) → new ≡ old → Consumes before now (byte ∷ []) → old.count ≡ 1099511627776 → TellsTooLong before old new items items old.line
@@ -285,32 +280,32 @@ finished_room old new items after u count e f room =
     (ap (λ (k : Kept). k.refusal) t.new_is, omega (arith, room, takes_room old new items after old.rest (finish_taken old new items after t)))
 
 -- a refusal is kept
-pub fed_refusal : (old new : Kept) (items after : List Item) (piece : List ℕ) (stop : Stop) → old.refusal ≡ None → FeedResult old new items after piece (Err stop) → new.refusal ≡ Some stop
-fed_refusal old new items after piece (reader_stops.NotText line part) e f = (none_again old.refusal old new items after (old.rest ++ piece) (Err (reader_stops.NotText line part)) e f).1
-fed_refusal old new items after piece reader_stops.NoMemory e f = (none_again old.refusal old new items after (old.rest ++ piece) (Err reader_stops.NoMemory) e f).1
+pub fed_refusal : (old new : Kept) (items after : List Item) (piece : List ℕ) (stop : LineStop Part) → old.refusal ≡ None → FeedResult old new items after piece (Err stop) → new.refusal ≡ Some stop
+fed_refusal old new items after piece (line_stops.Fault line part) e f = (none_again old.refusal old new items after (old.rest ++ piece) (Err (line_stops.Fault line part)) e f).1
+fed_refusal old new items after piece line_stops.NoMemory e f = (none_again old.refusal old new items after (old.rest ++ piece) (Err line_stops.NoMemory) e f).1
 
-pub finished_refusal : (old new : Kept) (items after : List Item) (stop : Stop) → old.refusal ≡ None → FinishResult old new items after (Err stop) → new.refusal ≡ Some stop
-finished_refusal old new items after (reader_stops.NotText line part) e f = (finish_again old.refusal old new items after old.rest (Err (reader_stops.NotText line part)) e f).1
-finished_refusal old new items after reader_stops.NoMemory e f = (finish_again old.refusal old new items after old.rest (Err reader_stops.NoMemory) e f).1
+pub finished_refusal : (old new : Kept) (items after : List Item) (stop : LineStop Part) → old.refusal ≡ None → FinishResult old new items after (Err stop) → new.refusal ≡ Some stop
+finished_refusal old new items after (line_stops.Fault line part) e f = (finish_again old.refusal old new items after old.rest (Err (line_stops.Fault line part)) e f).1
+finished_refusal old new items after line_stops.NoMemory e f = (finish_again old.refusal old new items after old.rest (Err line_stops.NoMemory) e f).1
 
 -- ---- refusals
 
-one_stop : (a b : Stop) → stop_of a ≡ stop_of b → a ≡ b
-one_stop (reader_stops.NotText line part) (reader_stops.NotText at other) e = cc
-one_stop (reader_stops.NotText line part) reader_stops.NoMemory e = absurd cc
-one_stop reader_stops.NoMemory (reader_stops.NotText at other) e = absurd cc
-one_stop reader_stops.NoMemory reader_stops.NoMemory e = refl
+one_stop : (a b : LineStop Part) → stop_of a ≡ stop_of b → a ≡ b
+one_stop (line_stops.Fault line part) (line_stops.Fault at other) e = cc
+one_stop (line_stops.Fault line part) line_stops.NoMemory e = absurd cc
+one_stop line_stops.NoMemory (line_stops.Fault at other) e = absurd cc
+one_stop line_stops.NoMemory line_stops.NoMemory e = refl
 
 -- the stream tells the refusal that it keeps
-pub told_refusal : {A : Type 0} (result : Result A StreamStop) (kept : Option Stop) (told stop : Stop) → kept ≡ Some told → result ≡ Err (stop_of told) → result ≡ Err (stop_of stop) → kept ≡ Some stop
+pub told_refusal : {A : Type 0} (result : Result A StreamStop) (kept : Option (LineStop Part)) (told stop : LineStop Part) → kept ≡ Some told → result ≡ Err (stop_of told) → result ≡ Err (stop_of stop) → kept ≡ Some stop
 told_refusal result kept told stop k is same = let both : stop_of told ≡ stop_of stop = cc in k ∙ ap Some (one_stop told stop both)
 
 -- a failure of the source is no refusal
-pub no_refusal : {A : Type 0} (result : Result A StreamStop) (kept : Option Stop) (stop : Stop) → result ≡ Err stops.Failed → result ≡ Err (stop_of stop) → kept ≡ Some stop
-no_refusal result kept (reader_stops.NotText line part) is same = absurd cc
-no_refusal result kept reader_stops.NoMemory is same = absurd cc
+pub no_refusal : {A : Type 0} (result : Result A StreamStop) (kept : Option (LineStop Part)) (stop : LineStop Part) → result ≡ Err stops.Failed → result ≡ Err (stop_of stop) → kept ≡ Some stop
+no_refusal result kept (line_stops.Fault line part) is same = absurd cc
+no_refusal result kept line_stops.NoMemory is same = absurd cc
 
 -- nor is an input that is too long
-pub too_long_keeps : {A : Type 0} (result : Result A StreamStop) (kept : Option Stop) (line : ℕ) (stop : Stop) → result ≡ Err (stops.TooLong line) → result ≡ Err (stop_of stop) → kept ≡ Some stop
-too_long_keeps result kept line (reader_stops.NotText at part) is same = absurd cc
-too_long_keeps result kept line reader_stops.NoMemory is same = absurd cc
+pub too_long_keeps : {A : Type 0} (result : Result A StreamStop) (kept : Option (LineStop Part)) (line : ℕ) (stop : LineStop Part) → result ≡ Err (stops.TooLong line) → result ≡ Err (stop_of stop) → kept ≡ Some stop
+too_long_keeps result kept line (line_stops.Fault at part) is same = absurd cc
+too_long_keeps result kept line line_stops.NoMemory is same = absurd cc

@@ -7,7 +7,7 @@ use Rattle.heesch_text.specs.Lines.{text_of}
 use Rattle.heesch_line.specs.Forms.{HasNoNewline}
 use Rattle.heesch_reader.specs.declared.item.Item.{Item}
 use Rattle.heesch_reader.specs.declared.item.Part.{Part}
-use Rattle.heesch_reader.specs.declared.item.Stop.{Stop}
+use Rattle.heesch_line.specs.declared.stops.LineStop.{LineStop}
 use Rattle.heesch_reader.specs.declared.progress.Progress.{Progress}
 use Rattle.heesch_reader.specs.Items.{Kept, with_items, none_appended}
 use Rattle.heesch_reader.specs.Feeding.{Stands, IsPrompt, IsShown, Refuses, FallsShort, RunsOut}
@@ -30,7 +30,7 @@ pub record Streamed : Type 0 where
   pub line : ℕ
 
 -- no more is read than may be, the reader's refusal is known, and where it has none it keeps no more lines and bytes than were read
-pub record IsStream (refusal : Option Stop) (kept : Kept) (count line : ℕ) : Type 0 where
+pub record IsStream (refusal : Option (LineStop Part)) (kept : Kept) (count line : ℕ) : Type 0 where
   pub at_most : count ≤ input_max
   pub few_lines : line ≤ count + 1
   pub same_refusal : kept.refusal ≡ refusal
@@ -128,14 +128,16 @@ pub record TellsFailed (before now : Option (List ℕ)) (failed fails : ℕ) (ol
   pub same : new ≡ old
   pub after_is : after ≡ items
 
+-- the input is these bytes at its front, no more than are read, and those behind them
+pub record IsSplit (first : Option (List ℕ)) (front behind : List ℕ) : Type 0 where
+  pub all_of : IsAllOf first (front ++ behind)
+  pub few : length front ≤ input_max
+
 -- bytes at the front of the input, no more than are read, begin with the text of these items, and those behind it show that they are whole
 pub record HasWhole (first : Option (List ℕ)) (all : List Item) : Type 0 where
-  pub input : List ℕ
-  pub all_of : IsAllOf first input
   pub front : List ℕ
   pub behind : List ℕ
-  pub split : input ≡ front ++ behind
-  pub few : length front ≤ input_max
+  pub split : IsSplit first front behind
   pub whole : RunsOut none_appended [] all front
 
 -- memory was refused, and the first of the items that are whole behind those read before were appended, or none
@@ -155,11 +157,11 @@ TakeResult before now failed fails old new items after (Err stops.NoMemory) = Ru
 
 -- where the reader refuses, the stream keeps that refusal
 abbrev pub KeepsRefusal : {A : Type 0} → Result A StreamStop → Streamed → Type 0
-KeepsRefusal result new = (stop : Stop) → result ≡ Err (stop_of stop) → new.kept.refusal ≡ Some stop
+KeepsRefusal result new = (stop : LineStop Part) → result ≡ Err (stop_of stop) → new.kept.refusal ≡ Some stop
 
 -- a stream that keeps a refusal answers it for good: no byte is read, nothing is appended, and it keeps what it did
 abbrev pub StaysRefused : (before now : Option (List ℕ)) (old new : Streamed) (items after : List Item) → Result Taken StreamStop → Type 0
-StaysRefused before now old new items after result = (stop : Stop) → old.kept.refusal ≡ Some stop → (result ≡ Err (stop_of stop)) × Keeps before now × (new ≡ old) × (after ≡ items)
+StaysRefused before now old new items after result = (stop : LineStop Part) → old.kept.refusal ≡ Some stop → (result ≡ Err (stop_of stop)) × Keeps before now × (new ≡ old) × (after ≡ items)
 
 -- a step consumes one piece
 abbrev pub TakesOnePiece : (before now : Option (List ℕ)) → Type 0

@@ -4,7 +4,8 @@ ghost use Rattle.heesch_stream.specs.declared.answers.StreamStop.TheVariants as 
 ghost use Rattle.heesch_stream.specs.Answers.{stop_of};
 
 use heesch_io::Failed;
-use heesch_reader::{Part, Stop};
+use heesch_line::LineStop;
+use heesch_reader::Part;
 use thiserror::Error;
 
 /// What was read.
@@ -33,13 +34,13 @@ pub enum StreamStop {
     NoMemory,
 }
 
-impl From<Stop> for StreamStop {
+impl From<LineStop<Part>> for StreamStop {
     ghost from_gives = { λ s e. e ≡ stop_of s };
 
-    fn from(stop: Stop) -> StreamStop {
+    fn from(stop: LineStop<Part>) -> StreamStop {
         match stop {
-            Stop::NotText { line, part } => StreamStop::NotText { line, part },
-            Stop::NoMemory => StreamStop::NoMemory,
+            LineStop::Fault { line, fault: part } => StreamStop::NotText { line, part },
+            LineStop::NoMemory => StreamStop::NoMemory,
         }
     }
 }

@@ -7,7 +7,8 @@ ghost use Rattle.heesch_stream.specs.Taking.{HasRead, TakeResult, TakesOnePiece,
 use crate::answers::{StreamStop, Taken};
 use crate::newlines::newlines;
 use heesch_io::{Seq, Source};
-use heesch_reader::{AtHand, Item, Reader, Stop};
+use heesch_line::LineStop;
+use heesch_reader::{AtHand, Item, Part, Reader};
 use std::alloc::Global;
 use std::marker::Model;
 
@@ -22,7 +23,7 @@ const PIECE_MAX: usize = 4096;
 #[derive(Drop)]
 pub struct Stream {
     reader: Reader,
-    refusal: Option<Stop>,
+    refusal: Option<LineStop<Part>>,
     count: u64,
     line: u64,
 }

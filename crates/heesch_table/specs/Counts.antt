@@ -1,23 +1,18 @@
 -- How many shapes of a list have each property. A shape stands there by whether it has a hole, and its verdict.
 use Rattle.std.specs.Prelude.{ℕ, max, Bool, List, [], ◌∷◌, map, length, filter, count_by}
 use Rattle.std.specs.List.{list_any, range_with_len}
+use Rattle.heesch_cert.specs.declared.verdict.Kind.TheVariants.{Translation, HalfTurn, Periodic}
 use Rattle.heesch_cert.specs.declared.verdict.Verdict.{Verdict}
-use Rattle.heesch_table.specs.declared.tilings.TilingCounts.{TilingCounts}
-use Rattle.heesch_table.specs.declared.undecided.UndecidedCounts.{UndecidedCounts}
-use Rattle.heesch_table.specs.Verdicts.{is_translation, is_halfturn, is_periodic, is_isohedral, has_heesch, is_levels, is_holes, is_turns, is_size, above_heesch}
+use Rattle.heesch_table.specs.declared.verdicts.VerdictCounts.{VerdictCounts}
+use Rattle.heesch_table.specs.Verdicts.{tiles_by, is_isohedral, has_heesch, is_levels, is_holes, is_turns, is_size, above_heesch}
 
--- the tilings by kind, and those with one class of tiles
-abbrev pub tilings_of : List Verdict → TilingCounts
-tilings_of verdicts = record {
-  translation = count_by is_translation verdicts;
-  halfturn = count_by is_halfturn verdicts;
-  periodic = count_by is_periodic verdicts;
+-- the tilings by kind, and those with one class of tiles; and the undecided verdicts by why they are
+abbrev pub verdict_counts : List Verdict → VerdictCounts
+verdict_counts verdicts = record {
+  translation = count_by (tiles_by Translation) verdicts;
+  halfturn = count_by (tiles_by HalfTurn) verdicts;
+  periodic = count_by (tiles_by Periodic) verdicts;
   isohedral = count_by is_isohedral verdicts;
-}
-
--- the undecided verdicts by why they are
-abbrev pub undecided_of : List Verdict → UndecidedCounts
-undecided_of verdicts = record {
   levels = count_by is_levels verdicts;
   holes = count_by is_holes verdicts;
   turns = count_by is_turns verdicts;
@@ -41,9 +36,8 @@ heesch_of verdicts = map (λ number. (number, count_by (has_heesch number) verdi
 pub record Counts : Type 0 where
   pub shapes : ℕ
   pub holed : ℕ
-  pub tilings : TilingCounts
+  pub verdicts : VerdictCounts
   pub heesch : List (ℕ × ℕ)
-  pub undecided : UndecidedCounts
 
 -- the verdicts of the shapes
 abbrev pub verdicts_of : List (Bool × Verdict) → List Verdict
@@ -54,7 +48,6 @@ abbrev pub counts_of : List (Bool × Verdict) → Counts
 counts_of found = record {
   shapes = length found;
   holed = count_by (λ f. f.0) found;
-  tilings = tilings_of (verdicts_of found);
+  verdicts = verdict_counts (verdicts_of found);
   heesch = heesch_of (verdicts_of found);
-  undecided = undecided_of (verdicts_of found);
 }

@@ -1,23 +1,16 @@
 -- What a tally asks of a verdict.
 use Rattle.std.specs.Prelude.{ℕ, suc, Bool, false, true, ◌==◌}
+use Rattle.heesch_cert.specs.declared.verdict.Kind.{Kind}
 use Rattle.heesch_cert.specs.declared.verdict.Kind.TheVariants.{Translation, HalfTurn, Periodic}
 use Rattle.heesch_cert.specs.declared.verdict.Verdict.{Verdict}
 use Rattle.heesch_cert.specs.declared.verdict.Verdict.TheVariants.{Tiles, Heesch, Levels, Holes, Turns, Size}
 
--- whether it tiles by translations
-abbrev pub is_translation : Verdict → Bool
-is_translation (Tiles Translation domain classes) = true
-is_translation _ = false
-
--- whether it tiles by translations and half-turns
-abbrev pub is_halfturn : Verdict → Bool
-is_halfturn (Tiles HalfTurn domain classes) = true
-is_halfturn _ = false
-
--- whether it tiles periodically, by other isometries
-abbrev pub is_periodic : Verdict → Bool
-is_periodic (Tiles Periodic domain classes) = true
-is_periodic _ = false
+-- whether it tiles by this kind of tiling: by translations, by translations and half-turns, or periodically by other isometries
+abbrev pub tiles_by : Kind → Verdict → Bool
+tiles_by Translation (Tiles Translation domain classes) = true
+tiles_by HalfTurn (Tiles HalfTurn domain classes) = true
+tiles_by Periodic (Tiles Periodic domain classes) = true
+tiles_by kind _ = false
 
 -- whether it tiles, with one class of tiles
 abbrev pub is_isohedral : Verdict → Bool

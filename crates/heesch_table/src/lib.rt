@@ -6,7 +6,6 @@ mod heesch;
 mod holes;
 pub mod laws;
 mod tally;
-mod tilings;
-mod undecided;
+mod verdicts;
 
 pub use tally::Tally;

@@ -8,8 +8,7 @@ ghost use Rattle.heesch_table.specs.Texts.{counts_text};
 use crate::fields::append_count;
 use crate::heesch::HeeschCounts;
 use crate::holes::has_hole;
-use crate::tilings::TilingCounts;
-use crate::undecided::UndecidedCounts;
+use crate::verdicts::VerdictCounts;
 use heesch_cert::Verdict;
 use heesch_grid::Grid;
 use heesch_io::NoMemory;
@@ -23,9 +22,8 @@ use std::marker::Model;
 pub struct Tally {
     shapes: u64,
     holed: u64,
-    tilings: TilingCounts,
+    verdicts: VerdictCounts,
     heesch: HeeschCounts,
-    undecided: UndecidedCounts,
 }
 
 impl Model for Tally {
@@ -35,9 +33,9 @@ impl Model for Tally {
 
     ghost use Rattle.heesch_table.specs.Steps.{AreAtMostShapes};
 
-    ghost view = { λ t. record { shapes = t.shapes; holed = t.holed; tilings = t.tilings; heesch = t.heesch; undecided = t.undecided } };
+    ghost view = { λ t. record { shapes = t.shapes; holed = t.holed; verdicts = t.verdicts; heesch = t.heesch } };
 
-    ghost invariant = { λ t. AreAtMostShapes (record { shapes = t.shapes; holed = t.holed; tilings = t.tilings; heesch = t.heesch; undecided = t.undecided }) };
+    ghost invariant = { λ t. AreAtMostShapes (record { shapes = t.shapes; holed = t.holed; verdicts = t.verdicts; heesch = t.heesch }) };
 }
 
 impl Tally {
@@ -48,9 +46,8 @@ impl Tally {
         Tally {
             shapes: 0,
             holed: 0,
-            tilings: TilingCounts::default(),
+            verdicts: VerdictCounts::default(),
             heesch: HeeschCounts::new(alloc),
-            undecided: UndecidedCounts::default(),
         }
     }
 
@@ -68,8 +65,7 @@ impl Tally {
         self.heesch.add(verdict)?;
         self.shapes += 1;
         self.holed += u64::from(holed);
-        self.tilings.add(verdict);
-        self.undecided.add(verdict);
+        self.verdicts.add(verdict);
         Ok(())
     }
 
@@ -116,8 +112,11 @@ impl Tally {
     {
         append_count(b"shapes ", self.shapes, out)?;
         append_count(b"holed ", self.holed, out)?;
-        self.tilings.append(out)?;
+        self.verdicts.append_tilings(out)?;
         self.heesch.append(out)?;
-        self.undecided.append(out)
+        append_count(b"undecided levels ", self.verdicts.levels, out)?;
+        append_count(b"undecided holes ", self.verdicts.holes, out)?;
+        append_count(b"undecided turns ", self.verdicts.turns, out)?;
+        append_count(b"undecided size ", self.verdicts.size, out)
     }
 }

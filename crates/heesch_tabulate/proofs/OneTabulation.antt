@@ -128,9 +128,9 @@ whole_shown input found w = elim w.shown [
 
 shape_or_tally : (input text : List ℕ) (line number : ℕ) → HasShapeFault (Some input) line number → IsTallied (Some input) text → ⊥
 shape_or_tally input text line number s t =
-    let cut : Cut input (lines_of t.all ++ []) [] t.catalogue.reached = subst (λ (x : List ℕ). Cut x (lines_of t.all ++ []) [] t.catalogue.reached) t.all_of (whole_cut t.input t.all t.catalogue) in
+    let cut : Cut input (lines_of t.all ++ []) [] t.read.catalogue.reached = subst (λ (x : List ℕ). Cut x (lines_of t.all ++ []) [] t.read.catalogue.reached) t.read.all_of (whole_cut t.read.input t.all t.read.catalogue) in
     let w = subst (λ (x : List ℕ). AreWholeAt x (s.before ++ s.item ∷ [])) s.all_of s.whole in
-    let o = before_cut input (lines_of (s.before ++ s.item ∷ [])) (lines_of t.all) [] (w.next ++ w.behind) [] w.reached t.catalogue.reached cut tt (λ may seen. refl) w.lead w.whole
+    let o = before_cut input (lines_of (s.before ++ s.item ∷ [])) (lines_of t.all) [] (w.next ++ w.behind) [] w.reached t.read.catalogue.reached cut tt (λ may seen. refl) w.lead w.whole
     (whole_text input (s.before ++ s.item ∷ []) w) (whole_shown input (s.before ++ s.item ∷ []) w) in
     fault_before t.all t.grid t.of_grid t.shapes (shape_before input line number t.all s o)
 
@@ -267,15 +267,15 @@ text_or_tally : (input text : List ℕ) (line number : ℕ) → HasTextFault (So
 text_or_tally input text line number s t =
     let h = s.fault in
     let all : input ≡ h.front ++ h.behind = sym h.all_of ∙ h.split in
-    let c = subst (λ (x : List ℕ). Cut x (lines_of t.all ++ []) [] t.catalogue.reached) t.all_of (whole_cut t.input t.all t.catalogue) in
+    let c = subst (λ (x : List ℕ). Cut x (lines_of t.all ++ []) [] t.read.catalogue.reached) t.read.all_of (whole_cut t.read.input t.all t.read.catalogue) in
     elim h.fault [
       | inl r ↦
           let cut : Cut input (lines_of s.all ++ r.held) (r.left ++ h.behind) r.reached = subst (λ (x : List ℕ). Cut x (lines_of s.all ++ r.held) (r.left ++ h.behind) r.reached) (sym all) (refused_cut h.front s.all line s.part h.behind r) in
-          let same = same_cut input (lines_of t.all ++ []) (lines_of s.all ++ r.held) [] (r.left ++ h.behind) t.catalogue.reached r.reached c cut in
+          let same = same_cut input (lines_of t.all ++ []) (lines_of s.all ++ r.held) [] (r.left ++ h.behind) t.read.catalogue.reached r.reached c cut in
           no_first_line r.fault.words (r.fault.back ++ h.behind) [] tt (same.1 ∙ ap (λ (x : List ℕ). x ++ h.behind) r.fault.split ∙ append_assoc r.fault.words (10 ∷ r.fault.back) h.behind)
       | inr f ↦
           let cut : Cut input (lines_of s.all ++ f.0.held) f.0.left f.0.reached = subst (λ (x : List ℕ). Cut x (lines_of s.all ++ f.0.held) f.0.left f.0.reached) (sym (all ∙ ap (λ (x : List ℕ). h.front ++ x) f.1 ∙ append-nil h.front)) (short_cut h.front s.all line s.part f.0) in
-          whole_is_not_short none_appended t.all s.all f.0.held f.0.left c.lead.forms cut.lead.forms f.0.stands.one_entry f.0.one_line (sym c.text ∙ cut.text) t.catalogue.ended
+          whole_is_not_short none_appended t.all s.all f.0.held f.0.left c.lead.forms cut.lead.forms f.0.stands.one_entry f.0.one_line (sym c.text ∙ cut.text) t.read.catalogue.ended
           (subst (λ (x : List Item). (f.0.left ≢ []) ⊎ ((with_items none_appended x).ended ≡ false)) (sym f.0.after_is) f.0.short)
     ]
 
@@ -289,8 +289,8 @@ long_input input all line h =
 length_or_tally : (input text : List ℕ) (line number : ℕ) → HasLengthFault (Some input) line number → IsTallied (Some input) text → ⊥
 length_or_tally input text line number s t =
     let long = long_input input s.all line s.too_many in
-    let few = t.few in
-    let same = ap length t.all_of in
+    let few = t.read.few in
+    let same = ap length t.read.all_of in
     omega (arith, long, few, same)
 
 two_lengths : (input : List ℕ) (line number at other : ℕ) → HasLengthFault (Some input) line number → HasLengthFault (Some input) at other → (line ≡ at) × (number ≡ other)

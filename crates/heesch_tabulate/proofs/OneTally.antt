@@ -47,11 +47,11 @@ same_grids (x ∷ f) (y ∷ g) grid other some h k e = let t = sym (grid_is grid
 
 pub one_tally : (input text other : List ℕ) → IsTallied (Some input) text → IsTallied (Some input) other → text ≡ other
 one_tally input text other s t =
-    let a = whole_cut s.input s.all s.catalogue in
-    let b = subst (λ (x : List ℕ). Cut x (lines_of t.all ++ []) [] t.catalogue.reached) (t.all_of ∙ sym s.all_of) (whole_cut t.input t.all t.catalogue) in
-    let same = same_cut s.input (lines_of s.all ++ []) (lines_of t.all ++ []) [] [] s.catalogue.reached t.catalogue.reached a b in
+    let a = whole_cut s.read.input s.all s.read.catalogue in
+    let b = subst (λ (x : List ℕ). Cut x (lines_of t.all ++ []) [] t.read.catalogue.reached) (t.read.all_of ∙ sym s.read.all_of) (whole_cut t.read.input t.all t.read.catalogue) in
+    let same = same_cut s.read.input (lines_of s.all ++ []) (lines_of t.all ++ []) [] [] s.read.catalogue.reached t.read.catalogue.reached a b in
     let ls : lines_of s.all ≡ lines_of t.all = sym (append-nil (lines_of s.all)) ∙ same.0 ∙ append-nil (lines_of t.all) in
-    let grids = same_grids s.all t.all s.grid t.grid s.catalogue.ended s.of_grid t.of_grid ls in
+    let grids = same_grids s.all t.all s.grid t.grid s.read.catalogue.ended s.of_grid t.of_grid ls in
     let over = subst (λ (x : GridName). AllZip (IsCounted (geometry_of x)) (entries_of t.all) t.counted) (sym grids) t.counts in
     let counted = counted_once (geometry_of s.grid) (entries_of s.all) s.counted t.counted s.counts (subst (λ (es : List (List Cell × Verdict)). AllZip (IsCounted (geometry_of s.grid)) es t.counted) (sym (same_entries s.all t.all ls)) over) in
     s.text_is ∙ ap tally_text counted ∙ sym t.text_is

@@ -1,5 +1,5 @@
 -- What one step does to a table.
-use Rattle.std.specs.Prelude.{◌≡◌, ℕ, ◌+◌, ◌<◌, ◌^◌, List, [], ◌∷◌, ◌++◌, length, Option, Some, None, Result, Ok, Err, Bool, ⊤}
+use Rattle.std.specs.Prelude.{◌≡◌, ◌⊎◌, ℕ, ◌+◌, ◌<◌, ◌^◌, List, [], ◌∷◌, ◌++◌, length, Option, Some, None, Result, Ok, Err, Bool, ⊤}
 use Rattle.std.specs.List.{AllByRecursion, AllZip}
 use Rattle.heesch_grid.specs.declared.Cell.{Cell}
 use Rattle.heesch_grid.specs.declared.GridName.{GridName}
@@ -11,6 +11,7 @@ use Rattle.heesch_shape.specs.declared.faults.ShapeFault.{ShapeFault}
 use Rattle.heesch_shape.specs.Faults.{IsFault, IsFaultless, number_of}
 use Rattle.heesch_reader.specs.declared.item.Item.{Item}
 use Rattle.heesch_reader.specs.declared.item.Item.TheVariants as items
+use Rattle.heesch_reader.specs.declared.item.Part.{Part}
 use Rattle.heesch_stream.specs.declared.answers.Taken.{Taken}
 use Rattle.heesch_stream.specs.declared.answers.Taken.TheVariants as takens
 use Rattle.heesch_stream.specs.declared.answers.StreamStop.{StreamStop}
@@ -25,14 +26,17 @@ use Rattle.heesch_io.specs.declared.fault.IoStop.TheVariants as stops
 use Rattle.heesch_tabulate.specs.declared.table.Table.{Table}
 use Rattle.heesch_tabulate.specs.Entries.{entries_of, IsEntryAt, IsOfGrid, AreShapes, IsCounted}
 
+-- the stream answered a fault of this line: 6 where it can't stand, 8 where the input is too long from it on
+abbrev pub IsFaultOf : Result Taken StreamStop → (line number : ℕ) → Type 0
+IsFaultOf taken line number = ((part : Part) × (taken ≡ Err (stream_stops.NotText line part)) × (number ≡ 6)) ⊎ ((taken ≡ Err (stream_stops.TooLong line)) × (number ≡ 8))
+
 -- how the input goes on, by what the stream answered
 abbrev pub IsOnward : Result Taken StreamStop → Result Onward IoStop → Type 0
-IsOnward (Ok takens.Piece) result = result ≡ Ok onwards.More
-IsOnward (Ok takens.End) result = result ≡ Ok onwards.End
-IsOnward (Err (stream_stops.NotText line part)) result = result ≡ Ok (onwards.Fault line 6)
-IsOnward (Err (stream_stops.TooLong line)) result = result ≡ Ok (onwards.Fault line 8)
-IsOnward (Err stream_stops.Failed) result = result ≡ Err stops.Failed
-IsOnward (Err stream_stops.NoMemory) result = result ≡ Err stops.NoMemory
+IsOnward taken (Ok onwards.More) = taken ≡ Ok takens.Piece
+IsOnward taken (Ok onwards.End) = taken ≡ Ok takens.End
+IsOnward taken (Ok (onwards.Fault line number)) = IsFaultOf taken line number
+IsOnward taken (Err stops.Failed) = taken ≡ Err stream_stops.Failed
+IsOnward taken (Err stops.NoMemory) = taken ≡ Err stream_stops.NoMemory
 
 -- the grid of the header, if it was read
 abbrev pub grid_in : List Item → Option GridName

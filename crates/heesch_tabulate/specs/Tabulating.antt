@@ -1,7 +1,7 @@
 -- What is answered of the input of a source.
 use Rattle.std.specs.Prelude.{◌≡◌, ◌≤◌, ◌⊎◌, ℕ, List, [], ◌∷◌, ◌++◌, length, Option, Some, Bool, true, ⊤}
 use Rattle.std.specs.List.{AllZip}
-use Rattle.std.specs.Io.KnownBytes.{Consumes, IsAtEnd}
+use Rattle.std.specs.Io.KnownBytes.{IsAtEnd}
 use Rattle.heesch_grid.specs.declared.Cell.{Cell}
 use Rattle.heesch_grid.specs.declared.GridName.{GridName}
 use Rattle.heesch_grid.specs.Names.{geometry_of}
@@ -17,8 +17,7 @@ use Rattle.heesch_reader.specs.Progress.{Lead, may_end}
 use Rattle.heesch_reader.specs.Faults.{begins_next}
 use Rattle.heesch_reader.specs.Items.{lines_of, AreItemsAt}
 use Rattle.heesch_io.specs.Input.{IsAllOf}
-use Rattle.heesch_stream.specs.Input.{IsWholeCatalogue}
-use Rattle.heesch_stream.specs.Taking.{Begins, HasFault, HasTooMany, input_max}
+use Rattle.heesch_stream.specs.Taking.{Begins, IsCatalogue, HasFault, HasTooMany, input_max}
 use Rattle.heesch_table.specs.Texts.{tally_text}
 use Rattle.heesch_tabulate.specs.declared.answers.Tabulated.{Tabulated}
 use Rattle.heesch_tabulate.specs.declared.answers.Tabulated.TheVariants as answers
@@ -26,11 +25,8 @@ use Rattle.heesch_tabulate.specs.Entries.{entries_of, IsEntryAt, IsOfGrid, AreSh
 
 -- the input, no longer than is read, is a whole catalogue, its entries are shapes of the header's grid, and the text is the tally of them all
 pub record IsTallied (first : Option (List ℕ)) (text : List ℕ) : Type 0 where
-  pub input : List ℕ
-  pub all_of : IsAllOf first input
-  pub few : length input ≤ input_max
   pub all : List Item
-  pub catalogue : IsWholeCatalogue input all
+  pub read : IsCatalogue first all
   pub grid : GridName
   pub of_grid : IsOfGrid grid all
   pub shapes : AreShapes (geometry_of grid) (entries_of all)

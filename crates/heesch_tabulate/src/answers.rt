@@ -1,6 +1,6 @@
 //! What tabulating a catalogue answers.
 
-use heesch_io::IoStop;
+use heesch_io::{IoStop, NoMemory};
 use heesch_stream::{StreamStop, Taken};
 
 /// What a catalogue's entries tell.
@@ -20,6 +20,9 @@ pub struct EntryFault {
     pub line: u64,
     pub number: u32,
 }
+
+/// What counting entries answers: that all were counted, or the first whose cells are no shape.
+pub type Counted = Result<Option<EntryFault>, NoMemory>;
 
 /// How the input goes on behind the items that were read.
 #[derive(Clone, Copy, Debug, PartialEq, Eq)]

@@ -7,10 +7,9 @@ ghost use Rattle.heesch_reader.specs.declared.item.Item.{Item};
 ghost use Rattle.heesch_tabulate.specs.Entries.{entry_in, entries_of};
 ghost use Rattle.heesch_tabulate.specs.Steps.{AreWithin, IsHeaded, grid_in, CountsEntries, CountsItem, CountsEntry};
 
-use crate::answers::EntryFault;
+use crate::answers::{Counted, EntryFault};
 use heesch_cert::Verdict;
 use heesch_grid::{Cell, Grid, GridName};
-use heesch_io::NoMemory;
 use heesch_kite::on_grid;
 use heesch_reader::Item;
 use heesch_shape::Shape;
@@ -31,12 +30,7 @@ pub fn grid_behind(grid: Option<GridName>, items: &[Item]) -> Option<GridName>
 }
 
 /// Counts the entries among the items of a catalogue of this grid, up to the first whose cells are no shape.
-pub fn count_entries(
-    grid: GridName,
-    tally: &mut Tally,
-    alloc: Global,
-    items: &[Item],
-) -> Result<Option<EntryFault>, NoMemory>
+pub fn count_entries(grid: GridName, tally: &mut Tally, alloc: Global, items: &[Item]) -> Counted
     requires within { AllByRecursion AreWithin (entries_of items.now) }
     requires few { tally.old.shapes + length (entries_of items.now) < 2 ^ 32 }
     ensures { IfOk result (CountsEntries (geometry_of grid) tally.old tally.new items.now) }
@@ -44,11 +38,7 @@ pub fn count_entries(
     on_grid!(grid, count_entries_of::<_>(tally, alloc, items))
 }
 
-fn count_entries_of<G: Grid>(
-    tally: &mut Tally,
-    alloc: Global,
-    items: &[Item],
-) -> Result<Option<EntryFault>, NoMemory>
+fn count_entries_of<G: Grid>(tally: &mut Tally, alloc: Global, items: &[Item]) -> Counted
     requires within { AllByRecursion AreWithin (entries_of items.now) }
     requires few { tally.old.shapes + length (entries_of items.now) < 2 ^ 32 }
     ensures { IfOk result (CountsEntries G.geometry tally.old tally.new items.now) }
@@ -62,11 +52,7 @@ fn count_entries_of<G: Grid>(
 }
 
 /// Counts an item if it is an entry, unless its cells are no shape.
-fn count_item<G: Grid>(
-    tally: &mut Tally,
-    alloc: Global,
-    item: &Item,
-) -> Result<Option<EntryFault>, NoMemory>
+fn count_item<G: Grid>(tally: &mut Tally, alloc: Global, item: &Item) -> Counted
     requires within { AllByRecursion AreWithin (entry_in item.now) }
     requires few { tally.old.shapes + length (entry_in item.now) < 2 ^ 32 }
     ensures { IfOk result (CountsItem G.geometry tally.old tally.new item.now) }
@@ -91,7 +77,7 @@ fn count_entry<G: Grid>(
     line: u64,
     cells: &[Cell],
     verdict: &Verdict,
-) -> Result<Option<EntryFault>, NoMemory>
+) -> Counted
     requires within { AllByRecursion (IsWithin 100000) cells.now }
     requires few { tally.old.shapes < 2 ^ 32 }
     ensures { IfOk result (CountsEntry G.geometry tally.old tally.new line cells.now verdict.now) }

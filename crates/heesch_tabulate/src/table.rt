@@ -5,7 +5,7 @@ ghost use Rattle.heesch_reader.specs.declared.item.Item.{Item};
 ghost use Rattle.heesch_table.specs.Counts.{counts_of};
 ghost use Rattle.heesch_table.specs.Texts.{tally_text};
 
-use crate::answers::EntryFault;
+use crate::answers::Counted;
 use crate::counting::{count_entries, grid_behind};
 use heesch_grid::GridName;
 use heesch_io::NoMemory;
@@ -34,7 +34,7 @@ impl Table {
     }
 
     /// Counts the entries among the items that come next. Some where the cells of one are no shape.
-    pub fn count(&mut self, alloc: Global, items: &[Item]) -> Result<Option<EntryFault>, NoMemory>
+    pub fn count(&mut self, alloc: Global, items: &[Item]) -> Counted
         requires { (found : List Item) × HasTable found self.old × AreReady found items.now }
         ensures { IfOk result (CountsItems self.old self.new items.now) }
     {

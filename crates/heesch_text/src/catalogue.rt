@@ -6,6 +6,7 @@ ghost use Rattle.heesch_text.specs.Naturals.{HasNaturals};
 ghost use Rattle.heesch_text.specs.Catalogue.{brief_lines, entry_lines, header_text, entry_text, brief_text, coronas_text, end_text};
 
 use crate::evidence::{append_coronas, append_evidence};
+use crate::fields::undone_at_error;
 use crate::lines::{append_end_line, append_header_line, append_shape_line, append_verdict_line};
 use heesch_cert::{Entry, Header, Layers};
 use heesch_io::NoMemory;
@@ -18,12 +19,7 @@ pub fn write_header(header: &Header, out: &mut Vec<u8>) -> Result<(), NoMemory>
     ensures ok { OnOk result (out.new.items ≡ out.old.items ++ header_text header.now) }
     ensures err { OnErr result (out.new.items ≡ out.old.items) }
 {
-    let before = out.len();
-    let written = append_header_line(header, out);
-    if written.is_err() {
-        out.truncate(before);
-    }
-    written
+    undone_at_error(out.len(), append_header_line(header, out), out)
 }
 
 /// Appends the lines of an entry: its shape, its verdict and its evidence. The natural numbers of each line that it wrote
@@ -36,12 +32,7 @@ pub fn write_entry(entry: &Entry, out: &mut Vec<u8>) -> Result<(), NoMemory>
     ensures err { OnErr result (out.new.items ≡ out.old.items) }
     ensures naturals { OnOk result (AllByRecursion HasNaturals (entry_lines entry.now)) }
 {
-    let before = out.len();
-    let written = append_entry(entry, out);
-    if written.is_err() {
-        out.truncate(before);
-    }
-    written
+    undone_at_error(out.len(), append_entry(entry, out), out)
 }
 
 /// Appends the first two lines of an entry: its shape and its verdict. The natural numbers of each line that it wrote fit 32
@@ -53,12 +44,7 @@ pub fn write_brief(entry: &Entry, out: &mut Vec<u8>) -> Result<(), NoMemory>
     ensures err { OnErr result (out.new.items ≡ out.old.items) }
     ensures naturals { OnOk result (AllByRecursion HasNaturals (brief_lines entry.now)) }
 {
-    let before = out.len();
-    let written = append_brief(entry, out);
-    if written.is_err() {
-        out.truncate(before);
-    }
-    written
+    undone_at_error(out.len(), append_brief(entry, out), out)
 }
 
 /// Appends coronas as they stand in an entry: the line `coronas COUNT` and a line for each layer.
@@ -69,12 +55,7 @@ pub fn write_coronas(layers: &Layers, out: &mut Vec<u8>) -> Result<(), NoMemory>
     ensures ok { OnOk result (out.new.items ≡ out.old.items ++ coronas_text layers.now.layers) }
     ensures err { OnErr result (out.new.items ≡ out.old.items) }
 {
-    let before = out.len();
-    let written = append_coronas(layers, out);
-    if written.is_err() {
-        out.truncate(before);
-    }
-    written
+    undone_at_error(out.len(), append_coronas(layers, out), out)
 }
 
 /// Appends the last line of a catalogue, `end COUNT`, with the number of its entries.
@@ -84,12 +65,7 @@ pub fn write_end(count: u32, out: &mut Vec<u8>) -> Result<(), NoMemory>
     ensures ok { OnOk result (out.new.items ≡ out.old.items ++ end_text count) }
     ensures err { OnErr result (out.new.items ≡ out.old.items) }
 {
-    let before = out.len();
-    let written = append_end_line(count, out);
-    if written.is_err() {
-        out.truncate(before);
-    }
-    written
+    undone_at_error(out.len(), append_end_line(count, out), out)
 }
 
 fn append_brief(entry: &Entry, out: &mut Vec<u8>) -> Result<(), NoMemory>

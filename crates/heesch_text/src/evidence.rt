@@ -254,18 +254,10 @@ fn append_triples(triples: &[TripleProof], out: &mut Vec<u8>) -> Result<(), NoMe
     ensures naturals { OnOk result (AllByRecursion HasNaturals (flat_map triple_lines triples.now)) }
 {
     for triple in triples {
-        append_triple_proof(triple, out)?;
+        append_triple_line(&triple.triple, triple.proof.last.is_some(), out)?;
+        append_proof(&triple.proof, out)?;
     }
     Ok(())
-}
-
-fn append_triple_proof(triple: &TripleProof, out: &mut Vec<u8>) -> Result<(), NoMemory>
-    ensures ok { OnOk result (out.new.items ≡ out.old.items ++ text_of (triple_lines triple.now)) }
-    ensures kept { take (length out.old.items) out.new.items ≡ out.old.items }
-    ensures naturals { OnOk result (AllByRecursion HasNaturals (triple_lines triple.now)) }
-{
-    append_triple_line(&triple.triple, triple.proof.last.is_some(), out)?;
-    append_proof(&triple.proof, out)
 }
 
 /// The steps and the last line of a proof.

@@ -1,11 +1,11 @@
 //! The fields of a line, added at the end of a text. Where memory runs out, the text keeps what it had.
-ghost use Rattle.std.specs.Prelude.{◌≡◌, ◌++◌, ◌∷◌, [], ℕ, List, length, take, OnOk, ⊤, codes, decimal};
+ghost use Rattle.std.specs.Prelude.{◌≡◌, ◌++◌, ◌∷◌, [], ℕ, List, length, take, OnOk, OnErr, ⊤, codes, decimal};
 ghost use Rattle.std.specs.List.{AllByRecursion};
 ghost use Rattle.std.specs.Fmt.{signed_decimal};
 ghost use Rattle.heesch_text.specs.Naturals.{IsNatural};
 ghost use Rattle.heesch_text.specs.Fields.{spaced, cell_text, cells_text, triple_text, iso_text, place_text, lit_text};
 
-use heesch_cnf::Lit;
+use heesch_cnf::{Lit, PackedLit};
 use heesch_grid::{Cell, Iso};
 use heesch_io::NoMemory;
 use heesch_lattice::Triple;
@@ -27,6 +27,22 @@ pub fn append_byte(byte: u8, out: &mut Vec<u8>) -> Result<(), NoMemory>
 {
     out.push(byte)?;
     Ok(())
+}
+
+/// Takes back what was written behind the first `before` bytes where memory ran out in it. Answers what was answered there.
+pub fn undone_at_error(
+    before: usize,
+    written: Result<(), NoMemory>,
+    out: &mut Vec<u8>,
+) -> Result<(), NoMemory>
+    ensures same { result ≡ written }
+    ensures ok { OnOk result (out.new.items ≡ out.old.items) }
+    ensures err { OnErr result (out.new.items ≡ take before out.old.items) }
+{
+    if written.is_err() {
+        out.truncate(before);
+    }
+    written
 }
 
 /// A natural number in decimal digits.
@@ -55,16 +71,34 @@ pub fn append_labelled(label: &[u8], number: u32, out: &mut Vec<u8>) -> Result<(
     append_number(number, out)
 }
 
+/// Two integers with a byte between them.
+fn append_pair(first: i32, between: u8, second: i32, out: &mut Vec<u8>) -> Result<(), NoMemory>
+    ensures ok { OnOk result (out.new.items
+        ≡ out.old.items ++ (signed_decimal first ++ (between ∷ []) ++ signed_decimal second)) }
+    ensures kept { take (length out.old.items) out.new.items ≡ out.old.items }
+{
+    append_integer(first, out)?;
+    append_byte(between, out)?;
+    append_integer(second, out)
+}
+
+/// The numbers of an isometry with a byte between them.
+fn append_motion(iso: Iso, between: u8, out: &mut Vec<u8>) -> Result<(), NoMemory>
+    ensures ok { OnOk result (out.new.items
+        ≡ out.old.items ++ (decimal iso.turn ++ (between ∷ []) ++ signed_decimal iso.da ++ (between ∷ []) ++ signed_decimal iso.db)) }
+    ensures kept { take (length out.old.items) out.new.items ≡ out.old.items }
+{
+    append_number(iso.turn, out)?;
+    append_byte(between, out)?;
+    append_pair(iso.da, between, iso.db, out)
+}
+
 /// An isometry as `TURN DA DB`.
 pub fn append_iso(iso: Iso, out: &mut Vec<u8>) -> Result<(), NoMemory>
     ensures ok { OnOk result (out.new.items ≡ out.old.items ++ iso_text iso) }
     ensures kept { take (length out.old.items) out.new.items ≡ out.old.items }
 {
-    append_number(iso.turn, out)?;
-    append_byte(b' ', out)?;
-    append_integer(iso.da, out)?;
-    append_byte(b' ', out)?;
-    append_integer(iso.db, out)
+    append_motion(iso, b' ', out)
 }
 
 /// A word of a list within a line: its text, and that its natural number, if it has one, fits 32 bits.
@@ -97,9 +131,7 @@ impl Word for Cell {
     ghost fits = { λ _. ⊤ };
 
     fn append_word(self, out: &mut Vec<u8>) -> Result<(), NoMemory> {
-        append_integer(self.a, out)?;
-        append_byte(b',', out)?;
-        append_integer(self.b, out)
+        append_pair(self.a, b',', self.b, out)
     }
 }
 
@@ -117,6 +149,17 @@ impl Word for Lit {
     }
 }
 
+/// A packed literal, as the literal is written.
+impl Word for PackedLit {
+    ghost text = { lit_text };
+
+    ghost fits = { λ l. IsNatural l.var };
+
+    fn append_word(self, out: &mut Vec<u8>) -> Result<(), NoMemory> {
+        self.lit().append_word(out)
+    }
+}
+
 /// A place as `TURN,DA,DB`.
 impl Word for Iso {
     ghost text = { place_text };
@@ -124,11 +167,7 @@ impl Word for Iso {
     ghost fits = { λ i. IsNatural i.turn };
 
     fn append_word(self, out: &mut Vec<u8>) -> Result<(), NoMemory> {
-        append_number(self.turn, out)?;
-        append_byte(b',', out)?;
-        append_integer(self.da, out)?;
-        append_byte(b',', out)?;
-        append_integer(self.db, out)
+        append_motion(self, b',', out)
     }
 }
 

@@ -1,4 +1,6 @@
 //! The lines of a catalogue as values.
+ghost use Rattle.std.specs.Prelude.{◌≡◌};
+ghost use Rattle.heesch_text.specs.Names.{outcome_text};
 
 use heesch_cert::{Cells, Cut, Header, Isos, Member, Verdict};
 use heesch_cnf::{Hints, Lits};
@@ -14,6 +16,19 @@ pub enum Outcome {
     Spent,
     /// Before it began, since the formula is too large.
     Size,
+}
+
+impl Outcome {
+    /// The word that names it in a line.
+    pub(crate) fn word(self) -> &'static [u8]
+        ensures { result.now ≡ outcome_text self }
+    {
+        match self {
+            Outcome::Refuted => b"refuted",
+            Outcome::Spent => b"spent",
+            Outcome::Size => b"size",
+        }
+    }
 }
 
 /// How the search for coronas with holes allowed ended.

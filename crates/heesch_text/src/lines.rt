@@ -1,22 +1,35 @@
 //! The lines of a catalogue, each added at the end of a text with its newline.
 ghost use Rattle.std.specs.Prelude.{◌≡◌, ◌++◌, length, take, OnOk, codes, decimal};
+ghost use Rattle.std.specs.List.{AllByRecursion};
 ghost use Rattle.heesch_text.specs.declared.line.Line.TheVariants as lines;
 ghost use Rattle.heesch_cert.specs.declared.verdict.Verdict.TheVariants as verdicts;
-ghost use Rattle.heesch_text.specs.Names.{phase_text, subject_text};
+ghost use Rattle.heesch_text.specs.Names.{version_text, phase_text, subject_text};
 ghost use Rattle.heesch_text.specs.Lines.{line_text, title_text, limits_text, verdict_text};
-ghost use Rattle.heesch_text.specs.Naturals.{VerdictHasNaturals, HasNaturals};
+ghost use Rattle.heesch_text.specs.Fields.{spaced};
+ghost use Rattle.heesch_text.specs.Naturals.{IsNatural, HasNaturals};
 
 use crate::fields::{
-    append_byte, append_bytes, append_cells, append_iso, append_labelled, append_number,
+    Word, append_byte, append_bytes, append_cells, append_iso, append_labelled, append_number,
     append_spaced, append_triple,
 };
 use crate::line::{BareOutcome, Outcome};
-use crate::names::{bare_word, kind_word, outcome_word, phase_word, version_word};
+use crate::names::{kind_word, phase_word};
 use heesch_cert::{Cut, Header, Kind, Limits, Member, Phase, Subject, Verdict};
-use heesch_cnf::Lit;
+use heesch_cnf::{Lit, Version};
 use heesch_grid::{Cell, Iso};
 use heesch_io::NoMemory;
 use heesch_lattice::Triple;
+
+/// The number of a version, between spaces.
+fn append_version(version: Version, out: &mut Vec<u8>) -> Result<(), NoMemory>
+    ensures ok { OnOk result (out.new.items ≡ out.old.items ++ version_text version) }
+    ensures kept { take (length out.old.items) out.new.items ≡ out.old.items }
+{
+    match version {
+        Version::One => append_bytes(b" 1 ", out),
+        Version::Two => append_bytes(b" 2 ", out),
+    }
+}
 
 fn append_subject(subject: Subject, out: &mut Vec<u8>) -> Result<(), NoMemory>
     ensures ok { OnOk result (out.new.items ≡ out.old.items ++ subject_text subject) }
@@ -34,7 +47,7 @@ fn append_title(header: &Header, out: &mut Vec<u8>) -> Result<(), NoMemory>
 {
     let word: &[u8] = if header.brief { b"brief" } else { b"heesch" };
     append_bytes(word, out)?;
-    append_bytes(version_word(header.limits.version), out)?;
+    append_version(header.limits.version, out)?;
     append_bytes(header.grid.word().as_bytes(), out)?;
     append_byte(b' ', out)?;
     append_subject(header.subject, out)
@@ -154,14 +167,52 @@ pub fn append_tile_line(place: Iso, member: &Member, out: &mut Vec<u8>) -> Resul
     append_byte(b'\n', out)
 }
 
+/// A line of a number behind its label.
+fn append_number_line(label: &[u8], number: u32, out: &mut Vec<u8>) -> Result<(), NoMemory>
+    ensures ok { OnOk result (out.new.items ≡ out.old.items ++ ((label.now ++ decimal number) ++ codes "\n")) }
+    ensures kept { take (length out.old.items) out.new.items ≡ out.old.items }
+    ensures natural { IsNatural number }
+{
+    append_labelled(label, number, out)?;
+    append_byte(b'\n', out)
+}
+
+/// A line of words, each behind a space, behind their label.
+fn append_words_line<W: Word>(label: &[u8], words: &[W], out: &mut Vec<u8>) -> Result<(), NoMemory>
+    ensures ok { OnOk result (out.new.items ≡ out.old.items ++ ((label.now ++ spaced W.text words.now) ++ codes "\n")) }
+    ensures kept { take (length out.old.items) out.new.items ≡ out.old.items }
+    ensures fit { OnOk result (AllByRecursion W.fits words.now) }
+{
+    append_bytes(label, out)?;
+    append_spaced(words, out)?;
+    append_byte(b'\n', out)
+}
+
+/// A line of the level of a search and the word for its end, behind their label.
+fn append_outcome_line(
+    label: &[u8],
+    level: u32,
+    word: &[u8],
+    out: &mut Vec<u8>,
+) -> Result<(), NoMemory>
+    ensures ok { OnOk result (out.new.items
+        ≡ out.old.items ++ ((label.now ++ decimal level ++ codes " " ++ word.now) ++ codes "\n")) }
+    ensures kept { take (length out.old.items) out.new.items ≡ out.old.items }
+    ensures natural { IsNatural level }
+{
+    append_labelled(label, level, out)?;
+    append_byte(b' ', out)?;
+    append_bytes(word, out)?;
+    append_byte(b'\n', out)
+}
+
 /// The number of hole-free coronas.
 pub fn append_coronas_line(count: u32, out: &mut Vec<u8>) -> Result<(), NoMemory>
     ensures ok { OnOk result (out.new.items ≡ out.old.items ++ line_text (lines.Coronas count)) }
     ensures kept { take (length out.old.items) out.new.items ≡ out.old.items }
     ensures naturals { HasNaturals (lines.Coronas count) }
 {
-    append_labelled(b"coronas ", count, out)?;
-    append_byte(b'\n', out)
+    append_number_line(b"coronas ", count, out)
 }
 
 /// A layer of coronas.
@@ -169,9 +220,7 @@ pub fn append_layer_line(places: &[Iso], out: &mut Vec<u8>) -> Result<(), NoMemo
     ensures ok { OnOk result (out.new.items ≡ out.old.items ++ line_text (lines.Layer places.now)) }
     ensures kept { take (length out.old.items) out.new.items ≡ out.old.items }
 {
-    append_bytes(b"layer", out)?;
-    append_spaced(places, out)?;
-    append_byte(b'\n', out)
+    append_words_line(b"layer", places, out)
 }
 
 /// How the search for one corona more ended.
@@ -180,10 +229,7 @@ pub fn append_wall_line(level: u32, outcome: Outcome, out: &mut Vec<u8>) -> Resu
     ensures kept { take (length out.old.items) out.new.items ≡ out.old.items }
     ensures naturals { HasNaturals (lines.Wall level outcome) }
 {
-    append_labelled(b"wall ", level, out)?;
-    append_byte(b' ', out)?;
-    append_bytes(outcome_word(outcome), out)?;
-    append_byte(b'\n', out)
+    append_outcome_line(b"wall ", level, outcome.word(), out)
 }
 
 /// How the search with holes allowed ended.
@@ -192,10 +238,13 @@ pub fn append_bare_line(level: u32, outcome: BareOutcome, out: &mut Vec<u8>) -> 
     ensures kept { take (length out.old.items) out.new.items ≡ out.old.items }
     ensures naturals { HasNaturals (lines.Bare level outcome) }
 {
-    append_labelled(b"bare ", level, out)?;
-    append_byte(b' ', out)?;
-    append_bytes(bare_word(outcome), out)?;
-    append_byte(b'\n', out)
+    match outcome {
+        BareOutcome::Same => append_outcome_line(b"bare ", level, b"same", out),
+        BareOutcome::Open => append_outcome_line(b"bare ", level, b"open", out),
+        BareOutcome::Searched { outcome } => {
+            append_outcome_line(b"bare ", level, outcome.word(), out)
+        }
+    }
 }
 
 /// The number of layers that were found with holes allowed.
@@ -204,8 +253,7 @@ pub fn append_open_line(count: u32, out: &mut Vec<u8>) -> Result<(), NoMemory>
     ensures kept { take (length out.old.items) out.new.items ≡ out.old.items }
     ensures naturals { HasNaturals (lines.Open count) }
 {
-    append_labelled(b"open ", count, out)?;
-    append_byte(b'\n', out)
+    append_number_line(b"open ", count, out)
 }
 
 /// A triple, and whether it was refuted.
@@ -228,9 +276,7 @@ pub fn append_learn_line(clause: &[Lit], hints: &[u32], out: &mut Vec<u8>) -> Re
 {
     append_bytes(b"learn", out)?;
     append_spaced(clause, out)?;
-    append_bytes(b" :", out)?;
-    append_spaced(hints, out)?;
-    append_byte(b'\n', out)
+    append_words_line(b" :", hints, out)
 }
 
 /// A cut.
@@ -242,9 +288,7 @@ pub fn append_cut_line(cut: &Cut, out: &mut Vec<u8>) -> Result<(), NoMemory>
     append_labelled(b"cut ", cut.level, out)?;
     append_bytes(b" : ", out)?;
     append_cells(cut.hole.as_slice(), out)?;
-    append_bytes(b" :", out)?;
-    append_spaced(cut.border.as_slice(), out)?;
-    append_byte(b'\n', out)
+    append_words_line(b" :", cut.border.as_slice(), out)
 }
 
 /// The last line of a refutation.
@@ -253,9 +297,7 @@ pub fn append_empty_line(hints: &[u32], out: &mut Vec<u8>) -> Result<(), NoMemor
     ensures kept { take (length out.old.items) out.new.items ≡ out.old.items }
     ensures naturals { OnOk result (HasNaturals (lines.Empty hints.now)) }
 {
-    append_bytes(b"empty", out)?;
-    append_spaced(hints, out)?;
-    append_byte(b'\n', out)
+    append_words_line(b"empty", hints, out)
 }
 
 /// The last line of a search that took all its turns.
@@ -271,6 +313,5 @@ pub fn append_end_line(count: u32, out: &mut Vec<u8>) -> Result<(), NoMemory>
     ensures ok { OnOk result (out.new.items ≡ out.old.items ++ line_text (lines.End count)) }
     ensures kept { take (length out.old.items) out.new.items ≡ out.old.items }
 {
-    append_labelled(b"end ", count, out)?;
-    append_byte(b'\n', out)
+    append_number_line(b"end ", count, out)
 }

@@ -2,7 +2,7 @@
 ghost use Rattle.std.specs.Prelude.{◌≡◌, ◌++◌, length, take, OnOk, OnErr};
 ghost use Rattle.heesch_text.specs.Shapes.{shape_text};
 
-use crate::fields::{append_byte, append_cells};
+use crate::fields::{append_byte, append_cells, undone_at_error};
 use heesch_grid::Cell;
 use heesch_io::NoMemory;
 
@@ -13,12 +13,7 @@ pub fn write_shape(cells: &[Cell], out: &mut Vec<u8>) -> Result<(), NoMemory>
     ensures ok { OnOk result (out.new.items ≡ out.old.items ++ shape_text cells.now) }
     ensures err { OnErr result (out.new.items ≡ out.old.items) }
 {
-    let before = out.len();
-    let written = append_line(cells, out);
-    if written.is_err() {
-        out.truncate(before);
-    }
-    written
+    undone_at_error(out.len(), append_line(cells, out), out)
 }
 
 fn append_line(cells: &[Cell], out: &mut Vec<u8>) -> Result<(), NoMemory>

@@ -1,16 +1,11 @@
 -- From the searches to the answers of the code.
-use Rattle.std.proofs.Common.{◌≡◌, ℕ, ◌*◌, ◌<◌, List, length, false}
+use Rattle.std.proofs.Common.{◌≡◌, ℕ, ◌<◌, List, false}
 use Rattle.heesch_grid.specs.declared.Cell.{Cell}
-use Rattle.heesch_grid.specs.Cells.{cell}
 use Rattle.heesch_grid.specs.Geometry.{Geometry, IsGrid}
 use Rattle.heesch_grid.specs.Lattice.{Triple}
 use Rattle.heesch_tiling.specs.declared.check.Cover.TheVariants.{Exact, Doubled, Missed}
-use Rattle.heesch_tiling.specs.declared.found.Plain.{Plain}
-use Rattle.heesch_tiling.specs.declared.found.Plain.TheVariants.{Translation, HalfTurn}
 use Rattle.heesch_tiling.specs.Counting.{residues, window_size, is_amiss_at, IsFirstNumber, IsFull}
 use Rattle.heesch_tiling.specs.CoverAnswer.{AnswersCounts}
-use Rattle.heesch_tiling.specs.PlainAnswer.{IsFirstHalfTurnAnswer, IsHalfTurnAnswer}
-use Rattle.heesch_tiling.proofs.Searching.{by_half_turn}
 use Rattle.heesch_tiling.proofs.Spots.{first_reduced, none_reduced}
 use Rattle.heesch_tiling.proofs.Verdicts.{exact, first_doubled, none_doubled, first_missed}
 
@@ -31,8 +26,3 @@ module _ (g : Geometry) (law : IsGrid g) (t : Triple) (counts : List ℕ) where
   -- each counts once
   pub answers_exact : IsFull g t counts → AnswersCounts g t counts Exact
   answers_exact full shape places triple form isometries are = exact g law shape form t triple places isometries (none_reduced g law t triple (residues g shape t places) counts are 1 1 full)
-
--- ---- the first tiling by half-turns
-pub half_turn_answer : (g : Geometry) → IsGrid g → (xs : List Cell) (area : ℕ) → g.per * area ≡ length xs * 2 → (p : Plain) → IsFirstHalfTurnAnswer g xs area p → IsHalfTurnAnswer g xs p
-half_turn_answer g law xs area is (Translation t) h = h
-half_turn_answer g law xs area is (HalfTurn t da db) h = by_half_turn g law xs area is t (cell da db) h

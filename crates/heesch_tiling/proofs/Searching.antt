@@ -6,7 +6,7 @@ use Rattle.std.proofs.lemmas.Int.{ints}
 use Rattle.std.proofs.lemmas.Bool.{and_parts, and_from, or_cases, cases_order}
 use Rattle.std.proofs.lemmas.Nat.{div-mul-add}
 use Rattle.std.proofs.lemmas.List.Elements.{All-contains}
-use Rattle.std.proofs.Math.Nat.{mul-le-mul_left, mul-le-mul_right}
+use Rattle.std.proofs.Math.Nat.{mul-le-mul_left, mul-le-mul_right, mul-div_cancel_left}
 use Rattle.heesch_grid.specs.declared.Cell.{Cell}
 use Rattle.heesch_grid.specs.Cells.{cell, cell_before}
 use Rattle.heesch_grid.specs.Geometry.{Geometry, IsGrid}
@@ -15,7 +15,7 @@ use Rattle.heesch_grid.specs.Pairs.{Cell-eta, or-left, or-right}
 use Rattle.heesch_grid.proofs.ListFacts.{member_here, member_cases, no_member}
 use Rattle.heesch_lattice.specs.Listed.{IsTripleOfArea, AreTriples}
 use Rattle.heesch_tiling.specs.Counting.{spot}
-use Rattle.heesch_tiling.specs.Search.{IsShift, IsTurnedShift, CoversTurned, CoversAlone, IsHalfTurn, IsFirstTranslation, IsFirstShift, IsFirstHalfTurn, IsSearch, NoTranslation, NoHalfTurn, NoTilingByTranslation, NoTilingByHalfTurn, IsFirstByTranslation, IsFirstByHalfTurn}
+use Rattle.heesch_tiling.specs.Search.{IsShift, IsTurnedShift, HasShift, CoversTurned, CoversAlone, IsFirstShift, IsSearch, NoTilingByTranslation, NoTilingByHalfTurn, IsFirstByTranslation, IsFirstByHalfTurn}
 use Rattle.heesch_grid.specs.Tiling.{TilesByHalfTurn}
 use Rattle.heesch_tiling.proofs.Spots.{spots_in_order, below_quotient}
 
@@ -109,33 +109,9 @@ sides_small area t h =
     let q : 1 * t.q ≤ t.p * t.q = mul-le-mul_right t.q h.is_triple.p_positive in
     (omega (arith, e, p), omega (arith, e, q))
 
-module _ (g : Geometry) (xs : List Cell) (area : ℕ) where
-  pub first_translation : (t : Triple) (ts : List Triple) → IsSearch area (CoversAlone g xs) (t ∷ ts) → CoversAlone g xs t → IsFirstTranslation g xs area t
-  first_translation t ts s covers = record {
-    holds = record { of_area = of_area area (CoversAlone g xs) t ts s; covers = covers };
-    first = λ u h b. first_left area (CoversAlone g xs) t ts s u h.of_area h.covers b;
-  }
-
-  abbrev pub HasShift : Triple → Type 0
-  HasShift t = (v : Cell) × IsTurnedShift g xs t v
-
-  pub first_half_turn : (t : Triple) (ts : List Triple) (v : Cell) → IsSearch area HasShift (t ∷ ts) → IsFirstShift g xs t v → IsFirstHalfTurn g xs area t v
-  first_half_turn t ts v s f = record {
-    of_area = of_area area HasShift t ts s;
-    shift = f;
-    first = λ u w h b. first_left area HasShift t ts s u h.of_area (w, h.turned) b;
-  }
-
 -- ---- areas
 pub exact_quotient : (p x y : ℕ) → 1 ≤ p → p * x ≡ p * y → x ≡ y
-exact_quotient p x y some e =
-    elim (cases_order x y) [
-      | inl h ↦ h
-      | inr o ↦ elim o [
-        | inl l ↦ let k : p * suc x ≤ p * y = mul-le-mul_left p l in absurd (omega (arith, k, e))
-        | inr l ↦ let k : p * suc y ≤ p * x = mul-le-mul_left p l in absurd (omega (arith, k, e))
-      ]
-    ]
+exact_quotient p x y some e = sym (mul-div_cancel_left x some) ∙ ap (λ n. n / p) e ∙ mul-div_cancel_left y some
 
 module _ (g : Geometry) (law : IsGrid g) (xs : List Cell) (m area : ℕ) (is : g.per * area ≡ length xs * m) where
   to_area : (t : Triple) → IsTripleOfDomain g (length xs) m t → IsTripleOfArea area t
@@ -144,24 +120,19 @@ module _ (g : Geometry) (law : IsGrid g) (xs : List Cell) (m area : ℕ) (is : g
   to_domain : (t : Triple) → IsTripleOfArea area t → IsTripleOfDomain g (length xs) m t
   to_domain t a = record { is_triple = a.is_triple; area = ap (λ n. g.per * n) a.product ∙ is }
 
-module _ (g : Geometry) (law : IsGrid g) (xs : List Cell) (area : ℕ) where
-  pub by_translation : g.per * area ≡ length xs * 1 → (t : Triple) → IsFirstTranslation g xs area t → IsFirstByTranslation g xs t
-  by_translation is t f = record {
-    holds = record { of_domain = to_domain g law xs 1 area is t f.holds.of_area; cover = f.holds.covers };
-    first = λ u h b. f.first u (record { of_area = to_area g law xs 1 area is u h.of_domain; covers = h.cover }) b;
+module _ (g : Geometry) (law : IsGrid g) (xs : List Cell) (area : ℕ) (is : g.per * area ≡ length xs * 1) where
+  pub by_translation : (t : Triple) (ts : List Triple) → IsSearch area (CoversAlone g xs) (t ∷ ts) → CoversAlone g xs t → IsFirstByTranslation g xs t
+  by_translation t ts s covers = record {
+    holds = record { of_domain = to_domain g law xs 1 area is t (of_area area (CoversAlone g xs) t ts s); cover = covers };
+    first = λ u h b. first_left area (CoversAlone g xs) t ts s u (to_area g law xs 1 area is u h.of_domain) h.cover b;
   }
 
-  pub never_by_translation : g.per * area ≡ length xs * 1 → NoTranslation g xs area → NoTilingByTranslation g xs
-  never_by_translation is none u h = none u (record { of_area = to_area g law xs 1 area is u h.of_domain; covers = h.cover })
+  pub never_by_translation : IsSearch area (CoversAlone g xs) [] → NoTilingByTranslation g xs
+  never_by_translation s u h = none_left area (CoversAlone g xs) s u (to_area g law xs 1 area is u h.of_domain) h.cover
 
-  turned : g.per * area ≡ length xs * 2 → (y : Triple × ℤ × ℤ) → TilesByHalfTurn g xs y → IsHalfTurn g xs area y.0 (cell y.1 y.2)
-  turned is y h = record {
-    of_area = to_area g law xs 2 area is y.0 h.of_domain;
-    turned = record { shift = record { a_from = h.da_from; a_below = h.da_below; b_from = h.db_from; b_below = h.db_below }; covers = h.cover };
-  }
-
-  pub never_by_half_turn : g.per * area ≡ length xs * 2 → NoHalfTurn g xs area → NoTilingByHalfTurn g xs
-  never_by_half_turn is none y h = none y.0 (cell y.1 y.2) (turned is y h)
+module _ (g : Geometry) (law : IsGrid g) (xs : List Cell) (area : ℕ) (is : g.per * area ≡ length xs * 2) where
+  turned : (y : Triple × ℤ × ℤ) → TilesByHalfTurn g xs y → IsTurnedShift g xs y.0 (cell y.1 y.2)
+  turned y h = record { shift = record { a_from = h.da_from; a_below = h.da_below; b_from = h.db_from; b_below = h.db_below }; covers = h.cover }
 
   lower : (x y : ℤ) → x <ℤ y → int_lt x y ≡ true
   lower x y l = grind (arith, ints)
@@ -169,18 +140,23 @@ module _ (g : Geometry) (law : IsGrid g) (xs : List Cell) (area : ℕ) where
   same : (x y : ℤ) → x ≡ y → int_eq x y ≡ true
   same x y e = grind (arith, ints)
 
-  pub by_half_turn : g.per * area ≡ length xs * 2 → (t : Triple) (v : Cell) → IsFirstHalfTurn g xs area t v → IsFirstByHalfTurn g xs t v.a v.b
-  by_half_turn is t v f = record {
-    holds = record { of_domain = to_domain g law xs 2 area is t f.of_area; da_from = f.shift.holds.shift.a_from; da_below = f.shift.holds.shift.a_below; db_from = f.shift.holds.shift.b_from; db_below = f.shift.holds.shift.b_below; cover = f.shift.holds.covers };
-    first = λ y h b.
-        let k : IsHalfTurn g xs area y.0 (cell y.1 y.2) = turned is y h in
-        elim b [
-          | inl l ↦ f.first y.0 (cell y.1 y.2) k l
-          | inr r ↦
-              let at_t : IsTurnedShift g xs t (cell y.1 y.2) = subst (λ (u : Triple). IsTurnedShift g xs u (cell y.1 y.2)) r.0 k.turned in
-              f.shift.first (cell y.1 y.2) at_t (elim r.1 [
-                | inl l ↦ or-left (int_lt y.2 v.b) (int_eq y.2 v.b && int_lt y.1 v.a) (lower y.2 v.b l)
-                | inr q ↦ or-right (int_lt y.2 v.b) (int_eq y.2 v.b && int_lt y.1 v.a) (and_from (int_eq y.2 v.b) (int_lt y.1 v.a) (same y.2 v.b q.0) (lower y.1 v.a q.1))
-              ])
-        ];
-  }
+  pub by_half_turn : (t : Triple) (ts : List Triple) (v : Cell) → IsSearch area (HasShift g xs) (t ∷ ts) → IsFirstShift g xs t v → IsFirstByHalfTurn g xs t v.a v.b
+  by_half_turn t ts v s f =
+      let found = f.holds in
+      record {
+        holds = record { of_domain = to_domain g law xs 2 area is t (of_area area (HasShift g xs) t ts s); da_from = found.shift.a_from; da_below = found.shift.a_below; db_from = found.shift.b_from; db_below = found.shift.b_below; cover = found.covers };
+        first = λ y h b.
+            let k = turned y h in
+            elim b [
+              | inl l ↦ first_left area (HasShift g xs) t ts s y.0 (to_area g law xs 2 area is y.0 h.of_domain) (cell y.1 y.2, k) l
+              | inr r ↦
+                  let at_t : IsTurnedShift g xs t (cell y.1 y.2) = subst (λ (u : Triple). IsTurnedShift g xs u (cell y.1 y.2)) r.0 k in
+                  f.first (cell y.1 y.2) at_t (elim r.1 [
+                    | inl l ↦ or-left (int_lt y.2 v.b) (int_eq y.2 v.b && int_lt y.1 v.a) (lower y.2 v.b l)
+                    | inr q ↦ or-right (int_lt y.2 v.b) (int_eq y.2 v.b && int_lt y.1 v.a) (and_from (int_eq y.2 v.b) (int_lt y.1 v.a) (same y.2 v.b q.0) (lower y.1 v.a q.1))
+                  ])
+            ];
+      }
+
+  pub never_by_half_turn : IsSearch area (HasShift g xs) [] → NoTilingByHalfTurn g xs
+  never_by_half_turn s y h = none_left area (HasShift g xs) s y.0 (to_area g law xs 2 area is y.0 h.of_domain) (cell y.1 y.2, turned y h)

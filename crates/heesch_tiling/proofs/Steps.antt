@@ -1,6 +1,5 @@
 -- One step of the loops over tiles, and the bounds of images.
 use Rattle.std.proofs.Common.{◌≡◌, refl, sym, ap, ◌∙◌, ℕ, suc, ◌+◌, ◌*◌, ◌<◌, List, [], ◌∷◌, ◌++◌, map, length, get_or, take, true, arith}
-use Rattle.std.specs.Prelude.{Option, Some, None, IfSome, IfNone}
 use Rattle.std.proofs.lemmas.Int.{ints}
 use Rattle.std.proofs.lemmas.List.{take_more}
 use Rattle.heesch_grid.specs.declared.Cell.{Cell}
@@ -69,14 +68,6 @@ module _ (g : Geometry) (shape : List Cell) (t : Triple) where
 
   pub residues_length : (places : List Iso) → length (residues g shape t places) ≡ length shape * length places
   residues_length places = map_length (residue g t) (tile_cells g shape places) ∙ cells_length places
-
-pub if_some : {X : Type 0} {P Q : X → Type 0} (r : Option X) → ((x : X) → P x → Q x) → IfSome r P → IfSome r Q
-if_some None f h = h
-if_some (Some x) f h = f x h
-
-pub if_none : {X : Type 0} {P Q : Type 0} (r : Option X) → (P → Q) → IfNone r P → IfNone r Q
-if_none None f h = f h
-if_none (Some x) f h = h
 
 pub cells_near : (g : Geometry) (xs : List Cell) → IsPolyform g xs → ((c : Cell) → has xs c ≡ true → IsWithin 100000 c) → (c : Cell) → has xs c ≡ true → IsCell g c × IsWithin 100000 c
 cells_near g xs form near c h = (All-contains (IsCell g) xs c form.is_set.in_grid (has-true xs c h), near c h)

@@ -8,8 +8,8 @@ ghost use Rattle.heesch_grid.specs.Tiling.{IsPeriodicCover, IsPlain, no_move, ha
 ghost use Rattle.heesch_grid.specs.Vectors.{IsWithin};
 ghost use Rattle.heesch_lattice.specs.Reduction.{IsSmallTriple};
 ghost use Rattle.heesch_tiling.specs.Counting.{spot, tile_residues, window_size, IsInRange, AreCounts};
-ghost use Rattle.heesch_tiling.specs.Search.{NoTranslation, IsTurnedShift, NoHalfTurn, IsFirstTranslation, IsFirstShift, IsAreaOf, NoAreaOf, IsFirstByTranslation, NoTilingByTranslation, NoTilingByHalfTurn};
-ghost use Rattle.heesch_tiling.specs.PlainAnswer.{IsFirstHalfTurnAnswer, IsHalfTurnAnswer, answered};
+ghost use Rattle.heesch_tiling.specs.Search.{IsTurnedShift, IsFirstShift, IsAreaOf, NoAreaOf, IsFirstByTranslation, NoTilingByTranslation, NoTilingByHalfTurn};
+ghost use Rattle.heesch_tiling.specs.PlainAnswer.{IsHalfTurnAnswer, answered};
 
 use crate::counts::{is_full, mark_tile};
 use crate::found::Plain;
@@ -85,23 +85,6 @@ fn is_turned_cover<G: Grid>(
     mark_tile::<G>(marks, cells, triple, half_turned::<G>(v)) && is_full::<G>(marks, triple)
 }
 
-/// The first triple of the area by which the cells alone are a cover.
-fn first_translation<G: Grid>(cells: &[Cell], area: u32) -> Option<Triple>
-    requires form { IsPolyform G.geometry cells.now }
-    requires near { (c : Cell) → has cells.now c ≡ true → IsWithin 100000 c }
-    requires some { 1 ≤ area }
-    requires small { area ≤ 64 }
-    ensures found { IfSome result (IsFirstTranslation G.geometry cells.now area) }
-    ensures none { IfNone result (NoTranslation G.geometry cells.now area) }
-{
-    for triple in triples(area) {
-        if is_plain_cover::<G>(cells, triple) {
-            return Some(triple);
-        }
-    }
-    None
-}
-
 /// How many shifts a triple has.
 fn shift_count(triple: Triple) -> u32
     ensures { result ≡ triple.p * triple.q }
@@ -164,28 +147,6 @@ fn first_shift<G: Grid>(cells: &[Cell], triple: Triple) -> Option<Cell>
     first_marked_shift::<G>(base, &mut marks[..count], cells, triple)
 }
 
-/// The first triple of the area, and its first shift, by which the cells and their image under the
-/// half-turn are a cover.
-fn first_half_turn<G: Grid>(cells: &[Cell], area: u32) -> Option<Plain>
-    requires form { IsPolyform G.geometry cells.now }
-    requires near { (c : Cell) → has cells.now c ≡ true → IsWithin 100000 c }
-    requires some { 1 ≤ area }
-    requires small { area ≤ 64 }
-    ensures found { IfSome result (IsFirstHalfTurnAnswer G.geometry cells.now area) }
-    ensures none { IfNone result (NoHalfTurn G.geometry cells.now area) }
-{
-    for triple in triples(area) {
-        if let Some(v) = first_shift::<G>(cells, triple) {
-            return Some(Plain::HalfTurn {
-                triple,
-                da: v.a,
-                db: v.b,
-            });
-        }
-    }
-    None
-}
-
 /// How many units so many cells have, where that is a whole number. Condition: there is a cell. It takes no memory.
 pub fn area_of<G: Grid>(count: u32) -> Option<u32>
     requires some { 1 ≤ count }
@@ -198,30 +159,39 @@ pub fn area_of<G: Grid>(count: u32) -> Option<u32>
     None
 }
 
-/// The first triple by which the cells alone are a cover.
-fn by_translation<G: Grid>(cells: &[Cell]) -> Option<Triple>
-    requires form { IsPolyform G.geometry cells.now }
-    requires few { length cells.now ≤ 32 }
-    requires near { (c : Cell) → has cells.now c ≡ true → IsWithin 100000 c }
-    ensures found { IfSome result (IsFirstByTranslation G.geometry cells.now) }
-    ensures none { IfNone result (NoTilingByTranslation G.geometry cells.now) }
+/// The first triple by which the shape alone is a cover.
+fn by_translation<G: Grid>(shape: &Shape<G>) -> Option<Triple>
+    requires { (c : Cell) → has shape.now c ≡ true → IsWithin 100000 c }
+    ensures found { IfSome result (IsFirstByTranslation G.geometry shape.now) }
+    ensures none { IfNone result (NoTilingByTranslation G.geometry shape.now) }
 {
-    if let Some(area) = area_of::<G>(cells.len() as u32) {
-        return first_translation::<G>(cells, area);
+    let cells = shape.cells();
+    let area = area_of::<G>(cells.len() as u32)?;
+    for triple in triples(area) {
+        if is_plain_cover::<G>(cells, triple) {
+            return Some(triple);
+        }
     }
     None
 }
 
-/// The first tiling by half-turns.
-fn by_half_turn<G: Grid>(cells: &[Cell]) -> Option<Plain>
-    requires form { IsPolyform G.geometry cells.now }
-    requires few { length cells.now ≤ 32 }
-    requires near { (c : Cell) → has cells.now c ≡ true → IsWithin 100000 c }
-    ensures found { IfSome result (IsHalfTurnAnswer G.geometry cells.now) }
-    ensures none { IfNone result (NoTilingByHalfTurn G.geometry cells.now) }
+/// The first triple, and its first shift, by which the shape and its image under the half-turn are a
+/// cover.
+fn by_half_turn<G: Grid>(shape: &Shape<G>) -> Option<Plain>
+    requires { (c : Cell) → has shape.now c ≡ true → IsWithin 100000 c }
+    ensures found { IfSome result (IsHalfTurnAnswer G.geometry shape.now) }
+    ensures none { IfNone result (NoTilingByHalfTurn G.geometry shape.now) }
 {
-    if let Some(area) = area_of::<G>(2 * cells.len() as u32) {
-        return first_half_turn::<G>(cells, area);
+    let cells = shape.cells();
+    let area = area_of::<G>(2 * cells.len() as u32)?;
+    for triple in triples(area) {
+        if let Some(v) = first_shift::<G>(cells, triple) {
+            return Some(Plain::HalfTurn {
+                triple,
+                da: v.a,
+                db: v.b,
+            });
+        }
     }
     None
 }
@@ -236,8 +206,8 @@ pub fn plain<G: Grid>(shape: &Shape<G>) -> Option<Plain>
     requires near { (c : Cell) → has shape.now c ≡ true → IsWithin 100000 c }
     ensures { IsPlain G.geometry shape.now (answered result) }
 {
-    if let Some(triple) = by_translation::<G>(shape.cells()) {
+    if let Some(triple) = by_translation(shape) {
         return Some(Plain::Translation { triple });
     }
-    by_half_turn::<G>(shape.cells())
+    by_half_turn(shape)
 }

@@ -170,18 +170,20 @@ IsInner-push vars clauses values levels reasons made s b inner new reason =
         steps = subst (StepsHold vars clauses) (sym pushed) (StepsHold-push vars clauses steps s inner.valid.steps new);
         few = omega (arith, size, counted, one);
       };
-      room = turned.size ∙ inner.room;
-      level_room = length-set levels s.lit.var s.level ∙ inner.level_room;
-      reason_room = length-set reasons s.lit.var b ∙ inner.reason_room;
-      values_are = λ m le. elim (kinds m s.lit) [
-        | inl other ↦ ap value_in (turned.others m other) ∙ inner.values_are m le ∙ sym (other-pushed steps s m new.was_open other) ∙ back m
-        | inr same ↦ elim same [
-          | inl e ↦ subst (λ x. value_in (get_or all (code_of x) Open) ≡ lit_value after x) (sym e) (ap value_in turned.here ∙ sym (true-pushed steps s new.was_open) ∙ back s.lit)
-          | inr e ↦ subst (λ x. value_in (get_or all (code_of x) Open) ≡ lit_value after x) (sym e) (ap value_in turned.there ∙ sym (Opposite-false (steps ++ s ∷ []) s.lit (true-pushed steps s new.was_open)) ∙ back (opposite s.lit))
-        ]
-      ];
-      open_at_zero = turned.zero ∙ inner.open_at_zero;
-      counted = counted;
+      held = record {
+        room = turned.size ∙ inner.held.room;
+        level_room = length-set levels s.lit.var s.level ∙ inner.held.level_room;
+        reason_room = length-set reasons s.lit.var b ∙ inner.held.reason_room;
+        values_are = λ m le. elim (kinds m s.lit) [
+          | inl other ↦ ap value_in (turned.others m other) ∙ inner.held.values_are m le ∙ sym (other-pushed steps s m new.was_open other) ∙ back m
+          | inr same ↦ elim same [
+            | inl e ↦ subst (λ x. value_in (get_or all (code_of x) Open) ≡ lit_value after x) (sym e) (ap value_in turned.here ∙ sym (true-pushed steps s new.was_open) ∙ back s.lit)
+            | inr e ↦ subst (λ x. value_in (get_or all (code_of x) Open) ≡ lit_value after x) (sym e) (ap value_in turned.there ∙ sym (Opposite-false (steps ++ s ∷ []) s.lit (true-pushed steps s new.was_open)) ∙ back (opposite s.lit))
+          ]
+        ];
+        open_at_zero = turned.zero ∙ inner.held.open_at_zero;
+        counted = counted;
+      };
     }
   where
     steps : List Step
@@ -193,7 +195,7 @@ IsInner-push vars clauses values levels reasons made s b inner new reason =
     pushed : steps_of (set levels s.lit.var s.level) (set reasons s.lit.var b) (made ++ s.lit ∷ []) ≡ steps ++ s ∷ []
     pushed =
         let high = new.high in
-        steps-push levels reasons made s b (ap (λ ls. making ls s.lit.var) (sym (made_by-steps levels reasons made)) ∙ new.was_open) (omega (arith, inner.level_room, high)) (omega (arith, inner.reason_room, high)) reason
+        steps-push levels reasons made s b (ap (λ ls. making ls s.lit.var) (sym (made_by-steps levels reasons made)) ∙ new.was_open) (omega (arith, inner.held.level_room, high)) (omega (arith, inner.held.reason_room, high)) reason
 
     after : ℕ → Option Bool
     after = values_of (steps_of (set levels s.lit.var s.level) (set reasons s.lit.var b) (made ++ s.lit ∷ []))
@@ -202,17 +204,17 @@ IsInner-push vars clauses values levels reasons made s b inner new reason =
     back m = ap (λ ss. lit_value (values_of ss) m) (sym pushed)
 
     turned : IsTurned s.lit Yes No values all
-    turned = Turned s.lit Yes No values vars new.low new.high inner.room
+    turned = Turned s.lit Yes No values vars new.low new.high inner.held.room
 
     counted : 2 * length (made ++ s.lit ∷ []) + count_by is_open all ≡ 2 * vars + 2
     counted =
-        let here = ap weight (open_of (get_or values (code_of s.lit) Open) (inner.values_are s.lit new.high ∙ signed-none s.lit.positive (values_of steps s.lit.var) new.was_open)) in
-        let there = ap weight (open_of (get_or values (code_of (opposite s.lit)) Open) (inner.values_are (opposite s.lit) new.high ∙ signed-none (not s.lit.positive) (values_of steps s.lit.var) new.was_open)) in
+        let here = ap weight (open_of (get_or values (code_of s.lit) Open) (inner.held.values_are s.lit new.high ∙ signed-none s.lit.positive (values_of steps s.lit.var) new.was_open)) in
+        let there = ap weight (open_of (get_or values (code_of (opposite s.lit)) Open) (inner.held.values_are (opposite s.lit) new.high ∙ signed-none (not s.lit.positive) (values_of steps s.lit.var) new.was_open)) in
         let count = turned.count in
-        omega (arith, here, there, count, inner.counted, length-append made (s.lit ∷ []))
+        omega (arith, here, there, count, inner.held.counted, length-append made (s.lit ∷ []))
 
     one : 1 ≤ count_by is_open all
-    one = count-open all (omega (arith, turned.size, inner.room)) (turned.zero ∙ inner.open_at_zero)
+    one = count-open all (omega (arith, turned.size, inner.held.room)) (turned.zero ∙ inner.held.open_at_zero)
 
     size : length (steps_of (set levels s.lit.var s.level) (set reasons s.lit.var b) (made ++ s.lit ∷ [])) ≡ length (made ++ s.lit ∷ [])
     size = length-map (made ++ s.lit ∷ []) (step_of (set levels s.lit.var s.level) (set reasons s.lit.var b))
@@ -227,24 +229,26 @@ IsInner-pop vars clauses values levels reasons made l inner =
         steps = StepsHold-pop vars clauses steps s hold;
         few = let few = inner.valid.few in omega (arith, few, size, length-map made (step_of levels reasons), length-append made (l ∷ []));
       };
-      room = turned.size ∙ inner.room;
-      level_room = inner.level_room;
-      reason_room = inner.reason_room;
-      values_are = λ m le. elim (kinds m l) [
-        | inl other ↦ ap value_in (turned.others m other) ∙ inner.values_are m le ∙ ap (λ ss. lit_value (values_of ss) m) split ∙ other-pushed steps s m holds.was_open other
-        | inr same ↦ elim same [
-          | inl e ↦ subst (λ x. value_in (get_or all (code_of x) Open) ≡ lit_value (values_of steps) x) (sym e) (ap value_in turned.here ∙ sym (signed-none l.positive (values_of steps l.var) holds.was_open))
-          | inr e ↦ subst (λ x. value_in (get_or all (code_of x) Open) ≡ lit_value (values_of steps) x) (sym e) (ap value_in turned.there ∙ sym (signed-none (not l.positive) (values_of steps l.var) holds.was_open))
-        ]
-      ];
-      open_at_zero = turned.zero ∙ inner.open_at_zero;
-      counted =
-          let yes = ap (λ ss. lit_value (values_of ss) l) split ∙ true-pushed steps s holds.was_open in
-          let no = ap (λ ss. lit_value (values_of ss) (opposite l)) split ∙ Opposite-false (steps ++ s ∷ []) l (true-pushed steps s holds.was_open) in
-          let here = shut_weight (get_or values (code_of l) Open) (shut_of (get_or values (code_of l) Open) true (inner.values_are l holds.high ∙ yes)) in
-          let there = shut_weight (get_or values (code_of (opposite l)) Open) (shut_of (get_or values (code_of (opposite l)) Open) false (inner.values_are (opposite l) holds.high ∙ no)) in
-          let count = turned.count in
-          omega (arith, here, there, count, inner.counted, length-append made (l ∷ []));
+      held = record {
+        room = turned.size ∙ inner.held.room;
+        level_room = inner.held.level_room;
+        reason_room = inner.held.reason_room;
+        values_are = λ m le. elim (kinds m l) [
+          | inl other ↦ ap value_in (turned.others m other) ∙ inner.held.values_are m le ∙ ap (λ ss. lit_value (values_of ss) m) split ∙ other-pushed steps s m holds.was_open other
+          | inr same ↦ elim same [
+            | inl e ↦ subst (λ x. value_in (get_or all (code_of x) Open) ≡ lit_value (values_of steps) x) (sym e) (ap value_in turned.here ∙ sym (signed-none l.positive (values_of steps l.var) holds.was_open))
+            | inr e ↦ subst (λ x. value_in (get_or all (code_of x) Open) ≡ lit_value (values_of steps) x) (sym e) (ap value_in turned.there ∙ sym (signed-none (not l.positive) (values_of steps l.var) holds.was_open))
+          ]
+        ];
+        open_at_zero = turned.zero ∙ inner.held.open_at_zero;
+        counted =
+            let yes = ap (λ ss. lit_value (values_of ss) l) split ∙ true-pushed steps s holds.was_open in
+            let no = ap (λ ss. lit_value (values_of ss) (opposite l)) split ∙ Opposite-false (steps ++ s ∷ []) l (true-pushed steps s holds.was_open) in
+            let here = shut_weight (get_or values (code_of l) Open) (shut_of (get_or values (code_of l) Open) true (inner.held.values_are l holds.high ∙ yes)) in
+            let there = shut_weight (get_or values (code_of (opposite l)) Open) (shut_of (get_or values (code_of (opposite l)) Open) false (inner.held.values_are (opposite l) holds.high ∙ no)) in
+            let count = turned.count in
+            omega (arith, here, there, count, inner.held.counted, length-append made (l ∷ []));
+      };
     }
   where
     steps : List Step
@@ -266,7 +270,7 @@ IsInner-pop vars clauses values levels reasons made l inner =
     holds = StepHolds-last vars clauses steps s hold
 
     turned : IsTurned l Open Open values all
-    turned = Turned l Open Open values vars holds.low holds.high inner.room
+    turned = Turned l Open Open values vars holds.low holds.high inner.held.room
 
     size : length (steps_of levels reasons (made ++ l ∷ [])) ≡ length (made ++ l ∷ [])
     size = length-map (made ++ l ∷ []) (step_of levels reasons)
@@ -280,12 +284,7 @@ IsInner-add vars clauses values levels reasons made c inner form = record {
     steps = λ i d lt. StepHolds-add vars clauses c (take i (steps_of levels reasons made)) (get_or (steps_of levels reasons made) i d) (inner.valid.steps i d lt);
     few = inner.valid.few;
   };
-  room = inner.room;
-  level_room = inner.level_room;
-  reason_room = inner.reason_room;
-  values_are = inner.values_are;
-  open_at_zero = inner.open_at_zero;
-  counted = inner.counted;
+  held = inner.held;
 }
 
 open-replicate : (n v : ℕ) → get_or (replicate n Open) v Open ≡ Open
@@ -312,7 +311,7 @@ pub Last-fits : (vars : ℕ) (clauses : List (List Lit)) (values : List Truth) (
 Last-fits vars clauses values levels reasons made l inner =
     let hold = subst (StepsHold vars clauses) (map-append (step_of levels reasons) made (l ∷ [])) inner.valid.steps in
     let holds = StepHolds-last vars clauses (steps_of levels reasons made) (step_of levels reasons l) hold in
-    (Code-fits vars (length values) l holds.high inner.room, Code-fits vars (length values) (opposite l) holds.high inner.room)
+    (Code-fits vars (length values) l holds.high inner.held.room, Code-fits vars (length values) (opposite l) holds.high inner.held.room)
 
 -- what is held of the last literal
 pub Last-held : (vars : ℕ) (clauses : List (List Lit)) (levels reasons : List ℕ) (made list : List Lit) (l : Lit) → StepsHold vars clauses (steps_of levels reasons made) → list ≡ made → 0 < length list → l ≡ get_or list (length list - 1) l →

@@ -1,19 +1,18 @@
 //! Clauses and assignments in flat arrays.
 ghost use Rattle.std.specs.Prelude.{◌≡◌, ◌≢◌, ℕ, ◌+◌, ◌<◌, ◌≤◌, ◌^◌, [], ◌∷◌, ◌++◌, length, Some, None, All, IfOk, IfErr, OnOk, OnErr, option_map, option_and_then, replicate, take, ◌-◌, slice_index_or, true};
 ghost use Rattle.heesch_cnf.specs.Clauses.{IsClause};
-ghost use Rattle.heesch_cnf.specs.Lines.{IsNumber, numbered};
 ghost use Rattle.heesch_cnf.specs.Literals.{opposite, lit_value, is_true_value, is_false_value};
 ghost use Rattle.heesch_cnf.specs.Flat.{code_of};
 ghost use Rattle.heesch_trail.specs.Inner.{value_in, reason_in};
 ghost use Rattle.heesch_trail.specs.declared.truth.Truth.TheVariants.{Open};
 ghost use Rattle.heesch_trail.specs.Readings.{IsReading, IsOther};
-ghost use Rattle.heesch_trail.specs.State.{State, IsTrail, StepHolds, fact_of, values_of, made_by, level_of, up_to, decision};
+ghost use Rattle.heesch_trail.specs.State.{State, IsTrail, StepHolds, fact_of, values_of, made_by, level_of, up_to};
 
 use crate::Step;
 use crate::pair::Pair;
 use crate::scan::Reading;
 use crate::truth::Truth;
-use heesch_cnf::{FlatFormula, Lit, Lits, PackedLit};
+use heesch_cnf::{FlatFormula, Lit, PackedLit};
 use heesch_io::NoMemory;
 use std::alloc::Global;
 use std::marker::Model;
@@ -114,7 +113,7 @@ impl Assigned {
         ensures made { result.now ≡ made_by self.now.steps }
         ensures valid { IsTrail self.now }
     {
-        self.made.as_slice()
+        &self.made
     }
 
     /// The value of a variable, or None where it is open. The cost is one look-up.
@@ -193,15 +192,15 @@ impl Assigned {
 
     /// The clause stands last, and its number, from 1, is answered; the assignments stay. At want of memory nothing has
     /// changed. The cost is the clause's length.
-    pub fn add(&mut self, clause: Lits) -> Result<u32, NoMemory>
-        requires form { IsClause self.old.vars clause }
+    pub fn add(&mut self, clause: &[Lit]) -> Result<u32, NoMemory>
+        requires form { IsClause self.old.vars clause.now }
         requires room { length self.old.clauses < 2 ^ 31 }
         ensures number { IfOk result (λ n. n ≡ length self.old.clauses + 1) }
-        ensures ok { OnOk result (self.new ≡ record self.old { clauses = self.old.clauses ++ clause ∷ [] }) }
+        ensures ok { OnOk result (self.new ≡ record self.old { clauses = self.old.clauses ++ clause.now ∷ [] }) }
         ensures err { OnErr result (self.new ≡ self.old) }
         ensures valid { IsTrail self.new }
     {
-        self.formula.add(clause.as_slice())?;
+        self.formula.add(clause)?;
         Ok(self.formula.len() as u32)
     }
 
@@ -223,7 +222,8 @@ impl Assigned {
         Ok(())
     }
 
-    fn next_level(&self, lit: Lit) -> u32
+    /// The level that begins where this literal, whose variable is open, is decided.
+    pub fn next_level(&self, lit: Lit) -> u32
         requires low { 1 ≤ lit.var }
         requires high { lit.var ≤ self.now.vars }
         requires is_open { values_of self.now.steps lit.var ≡ None }
@@ -231,24 +231,6 @@ impl Assigned {
     {
         let _ = self.formula.vars();
         self.level() + 1
-    }
-
-    /// A new level begins with this literal, whose variable is open, after the earlier assignments. At want of memory
-    /// nothing has changed. The cost is that of one assignment.
-    pub fn decide(&mut self, lit: Lit) -> Result<(), NoMemory>
-        requires low { 1 ≤ lit.var }
-        requires high { lit.var ≤ self.old.vars }
-        requires is_open { values_of self.old.steps lit.var ≡ None }
-        ensures ok { OnOk result (self.new ≡ record self.old { steps = self.old.steps ++ decision lit (level_of self.old.steps + 1) ∷ [] }) }
-        ensures err { OnErr result (self.new ≡ self.old) }
-        ensures valid { IsTrail self.new }
-    {
-        let level = self.next_level(lit);
-        self.assign(Step {
-            lit,
-            level,
-            reason: None,
-        })
     }
 
     /// Which literals of a clause aren't false: none, the only one, or the first two, and whether there are no others.
@@ -326,13 +308,13 @@ impl Assigned {
         self.formula.len()
     }
 
-    /// The clause of a number, which counts from 1. Nothing is copied.
-    pub fn clause(&self, number: u32) -> &[PackedLit]
-        requires { IsNumber self.now.clauses number }
-        ensures clause { result.now ≡ numbered self.now.clauses number }
+    /// The clause of an index, which counts from 0. Nothing is copied.
+    pub fn clause(&self, index: usize) -> &[PackedLit]
+        requires { index < length self.now.clauses }
+        ensures clause { result.now ≡ slice_index_or self.now.clauses index [] }
         ensures valid { IsTrail self.now }
     {
-        self.formula.clause(number as usize - 1)
+        self.formula.clause(index)
     }
 
     /// The last assignment is gone.

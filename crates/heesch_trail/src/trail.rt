@@ -6,6 +6,7 @@ ghost use Rattle.heesch_cnf.specs.Literals.{lit_value, is_true_value, is_false_v
 ghost use Rattle.heesch_trail.specs.Fixpoint.{IsFixpoint};
 ghost use Rattle.heesch_trail.specs.State.{State, IsTrail, fact_of, values_of, made_by, level_of, up_to, Continues, IsPropagated, decision};
 
+use crate::Step;
 use crate::assigned::Assigned;
 use crate::propagation::{drain, guarded, read_fresh};
 use crate::watches::Watches;
@@ -85,7 +86,7 @@ impl Trail {
         ensures clause { result.now ≡ numbered self.now.clauses number }
         ensures valid { IsTrail self.now }
     {
-        self.assigned.clause(number)
+        self.assigned.clause(number as usize - 1)
     }
 
     /// The true literals, in the order in which they were made. The other literals of a reason are false, and their
@@ -166,7 +167,7 @@ impl Trail {
     {
         // Where the clause finds no room after this, its place stays, and nothing is watched there.
         self.watches.add()?;
-        self.assigned.add(clause)
+        self.assigned.add(clause.as_slice())
     }
 
     /// A new level begins with this literal, whose variable is open, after the earlier assignments. At want of memory
@@ -183,7 +184,13 @@ impl Trail {
         if self.marks.push(mark).is_err() {
             return Err(NoMemory);
         }
-        if self.assigned.decide(lit).is_err() {
+        let level = self.assigned.next_level(lit);
+        let step = Step {
+            lit,
+            level,
+            reason: None,
+        };
+        if self.assigned.assign(step).is_err() {
             let _ = self.marks.pop();
             return Err(NoMemory);
         }

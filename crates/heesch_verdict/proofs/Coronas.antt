@@ -1,5 +1,5 @@
 -- The ends of the searches for coronas.
-use Rattle.std.proofs.Common.{◌≡◌, ◌+◌, ◌-◌, ◌≤◌, refl, sym, subst, ℕ, List, [], true, false, Result, arith}
+use Rattle.std.proofs.Common.{◌≡◌, ◌+◌, ◌-◌, ◌≤◌, refl, sym, subst, ◌∙◌, ℕ, List, [], length, true, false, Result, arith}
 use Rattle.std.specs.Prelude.{Option, Some, None, IfOk}
 use Rattle.std.proofs.lemmas.List.Elements.{All-nil}
 use Rattle.std.proofs.lemmas.Result.{IfOk-weaker}
@@ -15,14 +15,20 @@ use Rattle.heesch_cert.specs.declared.entry.Bare.{Bare}
 use Rattle.heesch_cert.specs.declared.entry.Bare.TheVariants.{Absent as NoBare, Same as BareSame, Refuted as BareRefuted, Spent as BareSpent, Size as BareSize, Open as BareOpen}
 use Rattle.heesch_cert.specs.declared.entry.Wall.{Wall}
 use Rattle.heesch_cert.specs.declared.entry.Wall.TheVariants.{Absent as NoWall, Refuted as WallRefuted, Spent as WallSpent, Size as WallSize}
+use Rattle.heesch_cert.specs.declared.entry.Evidence.TheVariants.{Search}
+use Rattle.heesch_cert.specs.declared.entry.TripleProof.{TripleProof}
 use Rattle.heesch_cert.specs.declared.proof.Proof.{Proof}
 use Rattle.heesch_cert.specs.declared.verdict.Verdict.{Verdict}
+use Rattle.heesch_cert.specs.declared.verdict.Verdict.TheVariants.{Tiles, Heesch, Levels, Holes, Turns, Size}
 use Rattle.heesch_cert.specs.Proofs.{IsTooLarge}
-use Rattle.heesch_cert.specs.TrueEntry.{BareShows, IsWallRefuted, FitsVerdict, OpenShows, WallShows, first_number, last_number}
+use Rattle.heesch_cert.specs.TrueEntry.{BareShows, IsWallRefuted, FitsVerdict, FormFits, HasNoPlain, OpenShows, TriplesShow, WallShows, first_number, last_number}
 use Rattle.heesch_levels.specs.Answer.{SpellsCoronas, RefutesLevel, IsSpentLevel}
 use Rattle.heesch_verdict.specs.declared.bare.Opened.{Opened}
 use Rattle.heesch_verdict.specs.declared.walled.Walled.{Walled}
-use Rattle.heesch_verdict.specs.Ends.{EndsOpen, HoledBehind, IsLevelEnd, IsOpenEnd, IsOpened, OpenFits, IsSearched, IsWalled}
+use Rattle.heesch_verdict.specs.Ends.{EndsOpen, HoledBehind, IsLevelEnd, IsOpenEnd, IsOpened, OpenFits, IsWalled}
+use Rattle.heesch_verdict.specs.Earliest.{WritesEarliest}
+use Rattle.heesch_verdict.specs.Judged.{IsJudged}
+use Rattle.heesch_verdict.specs.Shapes.{IsCanonicalShape}
 
 -- no layers are no coronas
 pub no_layers : (g : Geometry) (shape : List Cell) (layers : List (List Iso)) → layers ≡ [] → SpellsCoronas g shape 0 true (record { layers = layers })
@@ -88,14 +94,35 @@ pub opened_result : (g : Geometry) (limits : Limits) (shape : List Cell) (h : �
 opened_result g limits shape h wall holed layers behind is r =
     IfOk-weaker r (IsOpenEnd g limits shape h) (IsOpened g limits shape h wall) (opened_behind g limits shape h (h + 1) wall layers (subst (HoledBehind g shape (h + 1) wall) is behind))
 
--- the verdict of the ends that were found
-pub searched : (g : Geometry) (limits : Limits) (shape : List Cell) (verdict : Verdict) (walled : Walled) (opened : Opened) → IsWalled g limits shape walled → IsOpened g limits shape walled.h walled.wall opened → FitsVerdict limits walled.wall opened.bare opened.wider verdict → first_number verdict ≡ walled.h → BareShows g limits shape (last_number verdict) opened.bare
-    → IsSearched g limits shape (record { verdict = verdict; free = walled.free; wall = walled.wall; bare = opened.bare; wider = opened.wider })
-searched g limits shape verdict walled opened w o fits first last = record {
-  fits = fits;
-  free = subst (λ (n : ℕ). SpellsCoronas g shape n true walled.free) (sym first) w.coronas;
-  wall = subst (λ (n : ℕ). WallShows g limits shape (n + 1) walled.wall) (sym first) w.shows;
-  wider = o.wider;
-  same = o.same;
-  bare = last;
+-- the form of searches, whatever the verdict, and that they write no cover
+module _ (g : Geometry) (limits : Limits) (shape : List Cell) where
+  form_of : (verdict : Verdict) (free : Layers) (wall : Wall) (bare : Bare) (wider : Option Layers) (triples : List TripleProof) → HasNoPlain g limits shape × FitsVerdict limits wall bare wider verdict → FormFits g limits shape verdict (Search free wall bare wider triples) × WritesEarliest g limits shape verdict (Search free wall bare wider triples)
+  form_of (Tiles kind domain classes) free wall bare wider triples f = (f, tt)
+  form_of (Heesch h m) free wall bare wider triples f = (f, tt)
+  form_of (Levels h) free wall bare wider triples f = (f, tt)
+  form_of (Holes h) free wall bare wider triples f = (f, tt)
+  form_of (Turns h phase at) free wall bare wider triples f = (f, tt)
+  form_of (Size h phase at) free wall bare wider triples f = (f, tt)
+
+-- the verdict of the ends that were found, with the triples settled as it asks
+pub coronas_judged : (g : Geometry) (limits : Limits) (shape : List Cell) → IsCanonicalShape g shape → HasNoPlain g limits shape → (walled : Walled) → IsWalled g limits shape walled → (opened : Opened) → IsOpened g limits shape walled.h walled.wall opened
+    → (verdict : Verdict) → FitsVerdict limits walled.wall opened.bare opened.wider verdict → first_number verdict ≡ walled.h → BareShows g limits shape (last_number verdict) opened.bare → (triples : List TripleProof) → TriplesShow g limits shape verdict triples
+    → IsJudged g limits shape (record { verdict = verdict; evidence = Search walled.free walled.wall opened.bare opened.wider triples })
+coronas_judged g limits shape s none walled w opened o verdict fits first last triples settled = record {
+  entry = record {
+    shape = (length shape, s.is_shape.polyform.some, s.is_shape.few, record { cells = shape; polyform = s.is_shape.polyform; size = refl; canonical = s.canonical });
+    form = form.0;
+    cover = tt;
+    classes = tt;
+    free = (w.coronas.count ∙ sym first, (w.coronas.tiles, w.coronas.spelled, w.coronas.free refl));
+    wall = subst (λ (n : ℕ). WallShows g limits shape (n + 1) walled.wall) (sym first) w.shows;
+    wider = o.wider;
+    bare = (o.same, last);
+    triples = settled;
+  };
+  reduced = tt;
+  earliest = form.1;
 }
+  where
+    form : FormFits g limits shape verdict (Search walled.free walled.wall opened.bare opened.wider triples) × WritesEarliest g limits shape verdict (Search walled.free walled.wall opened.bare opened.wider triples)
+    form = form_of g limits shape verdict walled.free walled.wall opened.bare opened.wider triples (none, fits)

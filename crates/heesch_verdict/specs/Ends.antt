@@ -9,11 +9,10 @@ use Rattle.heesch_cert.specs.declared.entry.Wall.TheVariants.{Absent as NoWall, 
 use Rattle.heesch_cert.specs.declared.entry.Bare.{Bare}
 use Rattle.heesch_cert.specs.declared.entry.Bare.TheVariants.{Absent as NoBare, Same as BareSame, Refuted as BareRefuted, Spent as BareSpent, Size as BareSize, Open as BareOpen}
 use Rattle.heesch_cert.specs.Proofs.{HasNoCut}
-use Rattle.heesch_cert.specs.TrueEntry.{IsWallRefuted, IsBelow, FitsVerdict, WallShows, BareShows, SameWhereNoCut, OpenShows, first_number, last_number}
+use Rattle.heesch_cert.specs.TrueEntry.{IsWallRefuted, IsBelow, WallShows, BareShows, SameWhereNoCut, OpenShows}
 use Rattle.heesch_levels.specs.Answer.{SpellsCoronas}
 use Rattle.heesch_verdict.specs.declared.walled.Walled.{Walled}
 use Rattle.heesch_verdict.specs.declared.bare.Opened.{Opened}
-use Rattle.heesch_verdict.specs.declared.searched.Searched.{Searched}
 
 -- as many coronas as the limit where no more were sought, else fewer
 abbrev pub EndsAt : Limits → ℕ → Wall → Type 0
@@ -66,12 +65,3 @@ pub record IsOpened (g : Geometry) (limits : Limits) (shape : List Cell) (h : �
   pub same : SameWhereNoCut wall opened.bare
   pub shows : BareShows g limits shape opened.m opened.bare
   pub wider : OpenShows g shape opened.wider
-
--- the verdict fits the ends of the searches for coronas, each of which is shown
-pub record IsSearched (g : Geometry) (limits : Limits) (shape : List Cell) (searched : Searched) : Type 0 where
-  pub fits : FitsVerdict limits searched.wall searched.bare searched.wider searched.verdict
-  pub free : SpellsCoronas g shape (first_number searched.verdict) true searched.free
-  pub wall : WallShows g limits shape (first_number searched.verdict + 1) searched.wall
-  pub wider : OpenShows g shape searched.wider
-  pub same : SameWhereNoCut searched.wall searched.bare
-  pub bare : BareShows g limits shape (last_number searched.verdict) searched.bare

@@ -4,3 +4,4 @@ pub mod Tilings
 pub mod Domains
 pub mod Ends
 pub mod Alike
+pub mod Judged

@@ -6,16 +6,24 @@ ghost use Rattle.heesch_cert.specs.Reduced.{HasReducedCover};
 ghost use Rattle.heesch_cert.specs.RightVerdict.{HasRightVerdict};
 ghost use Rattle.heesch_cert.specs.TrueEntry.{IsTrueEntry};
 ghost use Rattle.heesch_verdict.specs.Earliest.{HasEarliestCover};
+ghost use Rattle.heesch_verdict.specs.Shapes.{IsCanonicalShape};
 
-use crate::covers::first_cover;
-use crate::entry::{cells_of, corona_entry, periodic_entry, tiled_entry};
-use crate::tiled::plain_tiling;
-use heesch_cert::{Entry, Limits};
+use crate::judged::Judged;
+use crate::subject::Subject;
+use heesch_cert::{Cells, Entry, Limits};
 use heesch_grid::Grid;
-use heesch_io::NoMemory;
+use heesch_io::{NoMemory, Seq};
 use heesch_shape::Shape;
-use heesch_torus::triples_up_to;
 use std::alloc::Global;
+
+/// The cells of a shape.
+fn cells_of<G: Grid>(alloc: Global, shape: &Shape<G>) -> Result<Cells, NoMemory>
+    requires { IsCanonicalListOf G.geometry shape.now shape.now }
+    ensures cells { IfOk result (λ cells. cells ≡ shape.now) }
+    ensures shape { IsCanonicalShape G.geometry shape.now }
+{
+    Ok(Seq::from_vec(shape.cells().to_vec(alloc)?))
+}
 
 /// The entry of a shape: its verdict, and what shows it. Condition: the shape is its own canonical
 /// list, and the limits lie in their ranges.
@@ -53,13 +61,11 @@ pub fn classify<G: Grid>(alloc: Global, shape: &Shape<G>, limits: Limits) -> Res
     ensures earliest { IfOk result (λ e. HasEarliestCover G.geometry limits e) }
 {
     let cells = cells_of(alloc, shape)?;
-    if let Some(tiled) = plain_tiling(alloc, shape, limits)? {
-        return tiled_entry(alloc, shape, limits, cells, tiled);
-    }
-    let count = shape.cells().len() as u32;
-    let triples = triples_up_to::<G>(alloc, count, limits.domain)?;
-    match first_cover(alloc, shape, limits, triples.as_slice())? {
-        Some(tiling) => periodic_entry(alloc, shape, limits, cells, tiling),
-        None => corona_entry(alloc, shape, limits, cells, triples.as_slice()),
-    }
+    let subject = Subject { shape, limits };
+    let Judged { verdict, evidence } = subject.judge(alloc)?;
+    Ok(Entry {
+        cells,
+        verdict,
+        evidence,
+    })
 }

@@ -6,10 +6,10 @@ mod bare;
 mod classifying;
 mod covers;
 mod ends;
-mod entry;
-mod searched;
+mod judged;
 mod settled;
 mod steps;
+mod subject;
 mod tiled;
 mod walled;
 

@@ -1,5 +1,5 @@
 //! The logged searches for covers, whose logs are the evidence of an undecided entry.
-ghost use Rattle.std.specs.Prelude.{◌≤◌, length, IfOk};
+ghost use Rattle.std.specs.Prelude.{length, IfOk};
 ghost use Rattle.heesch_torus.specs.Domain.{HasDomain};
 ghost use Rattle.heesch_cert.specs.Limits.{AreLimits};
 ghost use Rattle.heesch_verdict.specs.Shapes.{IsCanonicalShape};
@@ -7,11 +7,11 @@ ghost use Rattle.heesch_torus.specs.Domains.{AreUpTo};
 ghost use Rattle.heesch_verdict.specs.Domains.{AreDomains, IsSettledFor, IsTripleEnd};
 
 use crate::steps::proof_of;
-use heesch_cert::{Limits, Tiling, TripleProof, Verdict};
+use crate::subject::Subject;
+use heesch_cert::{Tiling, TripleProof, Verdict};
 use heesch_grid::Grid;
 use heesch_io::{NoMemory, Seq};
 use heesch_lattice::Triple;
-use heesch_shape::Shape;
 use heesch_torus::{TorusAnswer, search};
 use std::alloc::Global;
 
@@ -24,70 +24,65 @@ pub enum Settled {
     Triples { triples: Seq<TripleProof> },
 }
 
-/// A cover for the triple, or how the search for one ended stands last.
-fn settle<G: Grid>(
-    alloc: Global,
-    shape: &Shape<G>,
-    triple: Triple,
-    turns: u32,
-    settled: &mut Seq<TripleProof>,
-) -> Result<Option<Tiling>, NoMemory>
-    requires shape { IsCanonicalShape G.geometry shape.now }
-    requires domain { HasDomain G.geometry (length shape.now) triple }
-    requires turns { (1 ≤ turns) × (turns ≤ 1000000) }
-    ensures { IfOk result (IsTripleEnd G.geometry shape.now turns triple settled.old settled.new) }
-{
-    let log = match search(alloc, shape, triple, turns)? {
-        TorusAnswer::Tiles { tiling } => return Ok(Some(tiling)),
-        TorusAnswer::None { log } | TorusAnswer::Spent { log } => log,
-    };
-    settled.push(TripleProof {
-        triple,
-        proof: proof_of(alloc, log)?,
-    })?;
-    Ok(None)
-}
-
-/// The first cover of the domains whose triples these are, or all of them, settled. A triple whose
-/// search spent its turns is passed over.
-fn settle_all<G: Grid>(
-    alloc: Global,
-    shape: &Shape<G>,
-    limits: Limits,
-    triples: &[Triple],
-) -> Result<Settled, NoMemory>
-    requires shape { IsCanonicalShape G.geometry shape.now }
-    requires limits { AreLimits limits }
-    requires triples { AreUpTo G.geometry (length shape.now) limits.domain triples.now }
-    ensures { IfOk result (AreDomains G.geometry limits shape.now triples.now) }
-{
-    let mut settled = Seq::new(alloc);
-    for triple in triples {
-        if let Some(tiling) = settle(alloc, shape, *triple, limits.turns, &mut settled)? {
-            return Ok(Settled::Cover { tiling });
-        }
+impl<'a, G: Grid> Subject<'a, G> {
+    /// A cover for the triple, or how the search for one ended stands last.
+    fn settle(
+        &self,
+        alloc: Global,
+        triple: Triple,
+        settled: &mut Seq<TripleProof>,
+    ) -> Result<Option<Tiling>, NoMemory>
+        requires shape { IsCanonicalShape G.geometry self.now.shape.now }
+        requires limits { AreLimits self.now.limits }
+        requires domain { HasDomain G.geometry (length self.now.shape.now) triple }
+        ensures { IfOk result (IsTripleEnd G.geometry self.now.shape.now self.now.limits.turns triple settled.old settled.new) }
+    {
+        let log = match search(alloc, self.shape, triple, self.limits.turns)? {
+            TorusAnswer::Tiles { tiling } => return Ok(Some(tiling)),
+            TorusAnswer::None { log } | TorusAnswer::Spent { log } => log,
+        };
+        settled.push(TripleProof {
+            triple,
+            proof: proof_of(alloc, log)?,
+        })?;
+        Ok(None)
     }
-    Ok(Settled::Triples { triples: settled })
-}
 
-/// The settled triples, where the verdict is undecided, or the first cover, if a logged search finds
-/// one. For any other verdict no search is made, and no triple is settled.
-pub fn settled_for<G: Grid>(
-    alloc: Global,
-    shape: &Shape<G>,
-    limits: Limits,
-    triples: &[Triple],
-    verdict: Verdict,
-) -> Result<Settled, NoMemory>
-    requires shape { IsCanonicalShape G.geometry shape.now }
-    requires limits { AreLimits limits }
-    requires triples { AreUpTo G.geometry (length shape.now) limits.domain triples.now }
-    ensures { IfOk result (IsSettledFor G.geometry limits shape.now verdict) }
-{
-    match verdict {
-        Verdict::Tiles { .. } | Verdict::Heesch { .. } => Ok(Settled::Triples {
-            triples: Seq::new(alloc),
-        }),
-        _ => settle_all(alloc, shape, limits, triples),
+    /// The first cover of the domains whose triples these are, or all of them, settled. A triple whose
+    /// search spent its turns is passed over.
+    fn settle_all(&self, alloc: Global, triples: &[Triple]) -> Result<Settled, NoMemory>
+        requires shape { IsCanonicalShape G.geometry self.now.shape.now }
+        requires limits { AreLimits self.now.limits }
+        requires triples { AreUpTo G.geometry (length self.now.shape.now) self.now.limits.domain triples.now }
+        ensures { IfOk result (AreDomains G.geometry self.now.limits self.now.shape.now triples.now) }
+    {
+        let mut settled = Seq::new(alloc);
+        for triple in triples {
+            if let Some(tiling) = self.settle(alloc, *triple, &mut settled)? {
+                return Ok(Settled::Cover { tiling });
+            }
+        }
+        Ok(Settled::Triples { triples: settled })
+    }
+
+    /// The settled triples, where the verdict is undecided, or the first cover, if a logged search finds
+    /// one. For any other verdict no search is made, and no triple is settled.
+    pub fn settled_for(
+        &self,
+        alloc: Global,
+        triples: &[Triple],
+        verdict: Verdict,
+    ) -> Result<Settled, NoMemory>
+        requires shape { IsCanonicalShape G.geometry self.now.shape.now }
+        requires limits { AreLimits self.now.limits }
+        requires triples { AreUpTo G.geometry (length self.now.shape.now) self.now.limits.domain triples.now }
+        ensures { IfOk result (IsSettledFor G.geometry self.now.limits self.now.shape.now verdict) }
+    {
+        match verdict {
+            Verdict::Tiles { .. } | Verdict::Heesch { .. } => Ok(Settled::Triples {
+                triples: Seq::new(alloc),
+            }),
+            _ => self.settle_all(alloc, triples),
+        }
     }
 }

@@ -5,10 +5,10 @@ ghost use Rattle.heesch_cert.specs.Limits.{AreLimits};
 ghost use Rattle.heesch_verdict.specs.Shapes.{IsCanonicalShape};
 ghost use Rattle.heesch_verdict.specs.Tilings.{IsPlainEnd};
 
-use heesch_cert::{Isos, Kind, Limits, Tiling};
+use crate::subject::Subject;
+use heesch_cert::{Isos, Kind, Tiling};
 use heesch_grid::{Grid, Iso, Sizes};
 use heesch_io::{NoMemory, Seq};
-use heesch_shape::Shape;
 use heesch_tiling::{Plain, plain};
 use std::alloc::Global;
 
@@ -49,33 +49,31 @@ fn two_places<G: Grid>(alloc: Global, da: i32, db: i32) -> Result<Isos, NoMemory
     Ok(places)
 }
 
-/// The plain tiling of a shape, where there is one and the limit on domains admits it.
-pub fn plain_tiling<G: Grid>(
-    alloc: Global,
-    shape: &Shape<G>,
-    limits: Limits,
-) -> Result<Option<Tiled>, NoMemory>
-    requires limits { AreLimits limits }
-    requires shape { IsCanonicalShape G.geometry shape.now }
-    ensures { IfOk result (IsPlainEnd G.geometry limits shape.now) }
-{
-    let found = plain(shape);
-    match &found {
-        Some(Plain::Translation { triple }) => Ok(Some(Tiled {
-            kind: Kind::Translation,
-            tiling: Tiling {
-                triple: *triple,
-                places: one_place(alloc)?,
-            },
-        })),
-        Some(Plain::HalfTurn { .. }) if limits.domain < 2 => Ok(None),
-        Some(Plain::HalfTurn { triple, da, db }) => Ok(Some(Tiled {
-            kind: Kind::HalfTurn,
-            tiling: Tiling {
-                triple: *triple,
-                places: two_places::<G>(alloc, *da, *db)?,
-            },
-        })),
-        None => Ok(None),
+impl<'a, G: Grid> Subject<'a, G> {
+    /// The plain tiling of the shape, where there is one and the limit on domains admits it.
+    pub fn plain_tiling(&self, alloc: Global) -> Result<Option<Tiled>, NoMemory>
+        requires limits { AreLimits self.now.limits }
+        requires shape { IsCanonicalShape G.geometry self.now.shape.now }
+        ensures { IfOk result (IsPlainEnd G.geometry self.now.limits self.now.shape.now) }
+    {
+        let found = plain(self.shape);
+        match &found {
+            Some(Plain::Translation { triple }) => Ok(Some(Tiled {
+                kind: Kind::Translation,
+                tiling: Tiling {
+                    triple: *triple,
+                    places: one_place(alloc)?,
+                },
+            })),
+            Some(Plain::HalfTurn { .. }) if self.limits.domain < 2 => Ok(None),
+            Some(Plain::HalfTurn { triple, da, db }) => Ok(Some(Tiled {
+                kind: Kind::HalfTurn,
+                tiling: Tiling {
+                    triple: *triple,
+                    places: two_places::<G>(alloc, *da, *db)?,
+                },
+            })),
+            None => Ok(None),
+        }
     }
 }

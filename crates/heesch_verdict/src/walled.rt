@@ -4,11 +4,11 @@ ghost use Rattle.heesch_cert.specs.Limits.{AreLimits};
 ghost use Rattle.heesch_verdict.specs.Shapes.{IsCanonicalShape};
 ghost use Rattle.heesch_verdict.specs.Ends.{IsWalled};
 
-use heesch_cert::{Layers, Limits, Wall};
+use crate::subject::Subject;
+use heesch_cert::{Layers, Wall};
 use heesch_grid::Grid;
 use heesch_io::{NoMemory, Seq};
 use heesch_levels::{WallAnswer, wall};
-use heesch_shape::Shape;
 use std::alloc::Global;
 
 /// The hole-free coronas that were found, h of them, and how the search for one more ended; and h + 1
@@ -21,49 +21,48 @@ pub struct Walled {
     pub holed: Option<Layers>,
 }
 
-/// Hole-free coronas of level 1, 2 and so on up to the limit, until a search doesn't find them.
-pub fn hole_free<G: Grid>(
-    alloc: Global,
-    shape: &Shape<G>,
-    limits: Limits,
-) -> Result<Walled, NoMemory>
-    requires shape { IsCanonicalShape G.geometry shape.now }
-    requires limits { AreLimits limits }
-    ensures { IfOk result (IsWalled G.geometry limits shape.now) }
-{
-    let mut free = Layers {
-        layers: Seq::new(alloc),
-    };
-    for h in 0..limits.levels {
-        let answer = wall(
-            alloc,
-            shape,
-            h + 1,
-            limits.turns,
-            limits.size,
-            limits.version,
-        )?;
-        let (wall, holed) = match answer {
-            WallAnswer::Coronas { layers } => {
-                free = layers;
-                continue;
-            }
-            WallAnswer::Refuted { proof } => (Wall::Refuted { proof }, None),
-            WallAnswer::Holed { proof, layers } => (Wall::Refuted { proof }, Some(layers)),
-            WallAnswer::Spent { proof } => (Wall::Spent { proof }, None),
-            WallAnswer::TooLarge => (Wall::Size, None),
+impl<'a, G: Grid> Subject<'a, G> {
+    /// Hole-free coronas of level 1, 2 and so on up to the limit, until a search doesn't find them.
+    pub fn hole_free(&self, alloc: Global) -> Result<Walled, NoMemory>
+        requires shape { IsCanonicalShape G.geometry self.now.shape.now }
+        requires limits { AreLimits self.now.limits }
+        ensures { IfOk result (IsWalled G.geometry self.now.limits self.now.shape.now) }
+    {
+        let limits = self.limits;
+        let mut free = Layers {
+            layers: Seq::new(alloc),
         };
-        return Ok(Walled {
-            h,
+        for h in 0..limits.levels {
+            let answer = wall(
+                alloc,
+                self.shape,
+                h + 1,
+                limits.turns,
+                limits.size,
+                limits.version,
+            )?;
+            let (wall, holed) = match answer {
+                WallAnswer::Coronas { layers } => {
+                    free = layers;
+                    continue;
+                }
+                WallAnswer::Refuted { proof } => (Wall::Refuted { proof }, None),
+                WallAnswer::Holed { proof, layers } => (Wall::Refuted { proof }, Some(layers)),
+                WallAnswer::Spent { proof } => (Wall::Spent { proof }, None),
+                WallAnswer::TooLarge => (Wall::Size, None),
+            };
+            return Ok(Walled {
+                h,
+                free,
+                wall,
+                holed,
+            });
+        }
+        Ok(Walled {
+            h: limits.levels,
             free,
-            wall,
-            holed,
-        });
+            wall: Wall::Absent,
+            holed: None,
+        })
     }
-    Ok(Walled {
-        h: limits.levels,
-        free,
-        wall: Wall::Absent,
-        holed: None,
-    })
 }

@@ -77,21 +77,10 @@ one_choice words first first' options options' long have have' =
 -- the words of the grids differ
 same_grid : (x y : GridName) → grid_word x ≡ grid_word y → x ≡ y
 same_grid Square Square is = refl
-same_grid Square Hex is = absurd (grind arith)
-same_grid Square Iamond is = absurd (grind arith)
-same_grid Square Kite is = absurd (grind arith)
-same_grid Hex Square is = absurd (grind arith)
 same_grid Hex Hex is = refl
-same_grid Hex Iamond is = absurd (grind arith)
-same_grid Hex Kite is = absurd (grind arith)
-same_grid Iamond Square is = absurd (grind arith)
-same_grid Iamond Hex is = absurd (grind arith)
 same_grid Iamond Iamond is = refl
-same_grid Iamond Kite is = absurd (grind arith)
-same_grid Kite Square is = absurd (grind arith)
-same_grid Kite Hex is = absurd (grind arith)
-same_grid Kite Iamond is = absurd (grind arith)
 same_grid Kite Kite is = refl
+same_grid x y is = absurd (grind arith)
 
 one_size : (version version' : Version) (grid grid' : GridName) (n n' : ℕ)
     → n ≤ most_cells version grid → n' ≤ most_cells version' grid' → decimal n ≡ decimal n' → n ≡ n'

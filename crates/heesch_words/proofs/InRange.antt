@@ -1,15 +1,16 @@
 -- The ranges of the options' numbers.
 use Rattle.std.proofs.Common.{◌≤◌, ◌<◌, ◌^◌, ℕ, arith}
+use Rattle.heesch_words.specs.declared.options.TheConstants.{MOST_WORKERS, MOST_TURNS, MOST_LEVELS, MOST_DOMAIN, MOST_SIZE, MOST_VERSION}
 use Rattle.heesch_words.specs.Options.{Name, Workers, Turns, Levels, Domain, Size, Version, IsNumberInRange}
 
 -- the greatest number of an option
 abbrev pub most : Name → ℕ
-most Workers = 64
-most Turns = 1000000
-most Levels = 6
-most Domain = 12
-most Size = 60000000
-most Version = 2
+most Workers = MOST_WORKERS
+most Turns = MOST_TURNS
+most Levels = MOST_LEVELS
+most Domain = MOST_DOMAIN
+most Size = MOST_SIZE
+most Version = MOST_VERSION
 
 -- a number in its range is 1 to the greatest
 pub bounds_of : (name : Name) (n : ℕ) → IsNumberInRange name n → (1 ≤ n) × (n ≤ most name)

@@ -46,7 +46,7 @@ brief_after name n settings old is =
     omega arith
 
 -- the number after an option's word was read where none was held
-pub number_read : {R E : Type 0} (key : Name) (r : Result R E) (words_of : R → List (List ℕ)) (name : List ℕ) (words : List (List ℕ)) (old : Options) (place : Option ℕ)
+number_read : {R E : Type 0} (key : Name) (r : Result R E) (words_of : R → List (List ℕ)) (name : List ℕ) (words : List (List ℕ)) (old : Options) (place : Option ℕ)
     → name ≡ name_word key
     → IfOk r (λ others. (n : ℕ) × (words ≡ decimal n ∷ words_of others) × (1 ≤ n) × (n ≤ most key) × (held key old ≡ None) × (place ≡ Some n))
     → IfOk r (λ others. (setting : Setting) × BeginWith setting (name ∷ words) (words_of others) × AddsSetting setting old (with_number key place old))
@@ -61,7 +61,7 @@ number_read key (Ok others) words_of name words old place named (n, spelled, lea
 number_read key (Err e) words_of name words old place named told = tt
 
 -- no number was read after an option's word, or one was held
-pub number_refused : {R E : Type 0} (key : Name) (r : Result R E) (name : List ℕ) (words : List (List ℕ)) (old : Options)
+number_refused : {R E : Type 0} (key : Name) (r : Result R E) (name : List ℕ) (words : List (List ℕ)) (old : Options)
     → name ≡ name_word key
     → OnErr r ((n : ℕ) (others : List (List ℕ)) → words ≡ decimal n ∷ others → 1 ≤ n → n ≤ most key → held key old ≢ None)
     → OnErr r ((setting : Setting) (others : List (List ℕ)) → BeginWith setting (name ∷ words) others → CannotAdd setting old)
@@ -83,6 +83,20 @@ number_refused key (Err e) name words old named told = go
         let spelled : name ∷ words ≡ codes "--brief" ∷ others = begin.spelled in
         let word : name_word key ≡ codes "--brief" = cc in
         not_brief key word
+
+-- what the reading of the number after an option's word answered
+pub number_taken : {R E : Type 0} (key : Name) (r : Result R E) (words_of : R → List (List ℕ)) (name : List ℕ) (words : List (List ℕ)) (old : Options) (place : Option ℕ)
+    → name ≡ name_word key
+    → IfOk r (λ others. (n : ℕ) × (words ≡ decimal n ∷ words_of others) × (1 ≤ n) × (n ≤ most key) × (held key old ≡ None) × (place ≡ Some n))
+    → OnErr r ((n : ℕ) (others : List (List ℕ)) → words ≡ decimal n ∷ others → 1 ≤ n → n ≤ most key → held key old ≢ None)
+    → record {
+      ok : IfOk r (λ others. (setting : Setting) × BeginWith setting (name ∷ words) (words_of others) × AddsSetting setting old (with_number key place old));
+      usage : OnErr r ((setting : Setting) (others : List (List ℕ)) → BeginWith setting (name ∷ words) others → CannotAdd setting old);
+    }
+number_taken key r words_of name words old place named read refused = record {
+  ok = number_read key r words_of name words old place named read;
+  usage = number_refused key r name words old named refused;
+}
 
 -- `--brief` was read where it was not held
 pub brief_read : {R E : Type 0} (r : Result R E) (words_of : R → List (List ℕ)) (name : List ℕ) (words : List (List ℕ)) (old : Options) (place : Bool)

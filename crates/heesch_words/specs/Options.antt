@@ -91,22 +91,23 @@ pub record AreOptions (words : List (List ℕ)) (options : Options) : Type 0 whe
   pub in_range : AllByRecursion IsInRange settings
   pub held : AreHeld settings options
 
--- no option is given beside `--workers`
-pub record HasWorkersAlone (options : Options) : Type 0 where
+-- no option is given beside `--workers`, `--size` and `--version`
+pub record HasNoOthers (options : Options) : Type 0 where
   pub turns : options.turns ≡ None
   pub levels : options.levels ≡ None
   pub domain : options.domain ≡ None
+  pub brief : options.brief ≡ false
+
+-- no option is given beside `--workers`
+pub record HasWorkersAlone (options : Options) : Type 0 where
+  pub others : HasNoOthers options
   pub size : options.size ≡ None
   pub version : options.version ≡ None
-  pub brief : options.brief ≡ false
 
 -- no option is given beside `--size` and `--version`
 pub record HasSizeAndVersionAlone (options : Options) : Type 0 where
+  pub others : HasNoOthers options
   pub workers : options.workers ≡ None
-  pub turns : options.turns ≡ None
-  pub levels : options.levels ≡ None
-  pub domain : options.domain ≡ None
-  pub brief : options.brief ≡ false
 
 -- the number of workers, by default 1
 abbrev pub workers_of : Options → ℕ

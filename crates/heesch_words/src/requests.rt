@@ -1,4 +1,4 @@
-ghost use Rattle.std.specs.Prelude.{◌∷◌, ℕ, Bool, false, map, string_bytes, codes, IfOk, OnErr, ◌≢◌, []};
+ghost use Rattle.std.specs.Prelude.{◌≡◌, ◌∷◌, ℕ, Bool, false, if◌then◌else◌, map, string_bytes, codes, IfOk, OnErr, ◌≢◌, []};
 ghost use Rattle.heesch_cert.specs.declared.header.Subject.{Subject};
 ghost use Rattle.heesch_cert.specs.declared.limits.Limits.{Limits};
 ghost use Rattle.heesch_grid.specs.declared.GridName.{GridName};
@@ -143,41 +143,33 @@ pub fn parse(words: &[String]) -> Result<Request, Usage>
         return Err(Usage);
     };
     match form.as_str() {
-        "list" => list(rest),
-        "plain" => plain(rest),
+        "list" => listing(rest, false),
+        "plain" => listing(rest, true),
         "classify" => classify(rest),
         "check" => check(rest),
-        "table" => table(rest),
+        "table" => alone(rest, Request::Table),
         "sample" => sample(rest),
-        "formula" => formula(rest),
-        "answer" => answer(rest),
+        "formula" => exchange(rest, false),
+        "answer" => exchange(rest, true),
         "share" => share(rest),
-        "join" => join(rest),
+        "join" => alone(rest, Request::Join),
         "outer" => outer(rest),
         _ => Err(Usage),
     }
 }
 
-/// The request whose words are `list` and these.
-fn list(words: &[String]) -> Result<Request, Usage>
-    ensures ok { IfOk result
-        (λ request. Asks (codes "list" ∷ map string_bytes words.now) request) }
+/// The request whose words are `list`, or `plain` for plain tilings, and these.
+fn listing(words: &[String], plain: bool) -> Result<Request, Usage>
+    ensures ok { IfOk result (λ request. Asks
+        ((if plain then codes "plain" else codes "list") ∷ map string_bytes words.now) request) }
     ensures usage { OnErr result ((grid : GridName) (n workers : ℕ)
         → ¬ HasListForm (map string_bytes words.now) grid n workers) }
 {
     let ListForm { grid, n, workers } = list_form(words)?;
+    if plain {
+        return Ok(Request::Plain { grid, n, workers });
+    }
     Ok(Request::List { grid, n, workers })
-}
-
-/// The request whose words are `plain` and these.
-fn plain(words: &[String]) -> Result<Request, Usage>
-    ensures ok { IfOk result
-        (λ request. Asks (codes "plain" ∷ map string_bytes words.now) request) }
-    ensures usage { OnErr result ((grid : GridName) (n workers : ℕ)
-        → ¬ HasListForm (map string_bytes words.now) grid n workers) }
-{
-    let ListForm { grid, n, workers } = list_form(words)?;
-    Ok(Request::Plain { grid, n, workers })
 }
 
 /// The request whose words are `classify` and these.
@@ -188,19 +180,13 @@ fn classify(words: &[String]) -> Result<Request, Usage>
         ((grid : GridName) (subject : Subject) (limits : Limits) (workers : ℕ) (brief : Bool)
         → ¬ HasClassifyForm (map string_bytes words.now) grid subject limits workers brief) }
 {
-    let ClassifyForm {
-        grid,
-        subject,
-        limits,
-        workers,
-        brief,
-    } = classify_form(words)?;
+    let form = classify_form(words)?;
     Ok(Request::Classify {
-        grid,
-        subject,
-        limits,
-        workers,
-        brief,
+        grid: form.grid,
+        subject: form.subject,
+        limits: form.limits,
+        workers: form.workers,
+        brief: form.brief,
     })
 }
 
@@ -216,14 +202,13 @@ fn check(words: &[String]) -> Result<Request, Usage>
     Ok(Request::Check { workers })
 }
 
-/// The request whose words are `table` and these.
-fn table(words: &[String]) -> Result<Request, Usage>
-    ensures ok { IfOk result
-        (λ request. Asks (codes "table" ∷ map string_bytes words.now) request) }
+/// The request of a first word that these follow, where it stands alone.
+fn alone(words: &[String], request: Request) -> Result<Request, Usage>
+    ensures ok { IfOk result (λ asked. (asked ≡ request) × (map string_bytes words.now ≡ [])) }
     ensures usage { OnErr result (map string_bytes words.now ≢ []) }
 {
     if words.is_empty() {
-        Ok(Request::Table)
+        Ok(request)
     } else {
         Err(Usage)
     }
@@ -259,10 +244,10 @@ fn sample(words: &[String]) -> Result<Request, Usage>
     })
 }
 
-/// The request whose words are `formula` and these.
-fn formula(words: &[String]) -> Result<Request, Usage>
-    ensures ok { IfOk result
-        (λ request. Asks (codes "formula" ∷ map string_bytes words.now) request) }
+/// The request whose words are `formula`, or `answer` for the coronas of a model, and these.
+fn exchange(words: &[String], answers: bool) -> Result<Request, Usage>
+    ensures ok { IfOk result (λ request. Asks
+        ((if answers then codes "answer" else codes "formula") ∷ map string_bytes words.now) request) }
     ensures usage { OnErr result ((grid : GridName) (level size : ℕ) (version : FormulaVersion)
         → ¬ HasFormulaForm (map string_bytes words.now) grid level size version) }
 {
@@ -272,28 +257,15 @@ fn formula(words: &[String]) -> Result<Request, Usage>
         size,
         version,
     } = formula_form(words)?;
+    if answers {
+        return Ok(Request::Answer {
+            grid,
+            level,
+            size,
+            version,
+        });
+    }
     Ok(Request::Formula {
-        grid,
-        level,
-        size,
-        version,
-    })
-}
-
-/// The request whose words are `answer` and these.
-fn answer(words: &[String]) -> Result<Request, Usage>
-    ensures ok { IfOk result
-        (λ request. Asks (codes "answer" ∷ map string_bytes words.now) request) }
-    ensures usage { OnErr result ((grid : GridName) (level size : ℕ) (version : FormulaVersion)
-        → ¬ HasFormulaForm (map string_bytes words.now) grid level size version) }
-{
-    let FormulaForm {
-        grid,
-        level,
-        size,
-        version,
-    } = formula_form(words)?;
-    Ok(Request::Answer {
         grid,
         level,
         size,
@@ -325,19 +297,6 @@ fn share(words: &[String]) -> Result<Request, Usage>
         limits,
         workers: options.workers(),
     })
-}
-
-/// The request whose words are `join` and these.
-fn join(words: &[String]) -> Result<Request, Usage>
-    ensures ok { IfOk result
-        (λ request. Asks (codes "join" ∷ map string_bytes words.now) request) }
-    ensures usage { OnErr result (map string_bytes words.now ≢ []) }
-{
-    if words.is_empty() {
-        Ok(Request::Join)
-    } else {
-        Err(Usage)
-    }
 }
 
 /// The request whose words are `outer` and these.

@@ -1,7 +1,9 @@
 //! Limits and polyforms that several modules try.
 use heesch_cert::Limits;
 use heesch_grid::{Cell, Iso};
+use heesch_io::Seq;
 use heesch_made::{LIMITS, cells, isos};
+use std::alloc::{AllocError, Global};
 
 /// The limits under which nothing but one corona is sought.
 pub(crate) const LEAST: Limits = Limits {
@@ -21,3 +23,8 @@ pub(crate) const AROUND: [Iso; 12] = isos![
     0, 0, -1; 0, 1, -1; 1, 0, -1; 1, 1, -1; 1, 2, -1; 0, -1, 0;
     0, 1, 0; 1, 0, 0; 1, 1, 0; 0, -1, 1; 0, 0, 1; 1, 0, 1
 ];
+
+/// A copy of the items.
+pub(crate) fn seq<T: Copy>(alloc: Global, items: &[T]) -> Result<Seq<T>, AllocError> {
+    Ok(Seq::from_vec(Vec::from_slice(alloc, items)?))
+}

@@ -5,11 +5,17 @@ pub returns-in-Size-clause-ends : goal.returns-in-Size-clause-ends
 returns-in-Size-clause-ends g c =
     let held = g.W.Sink.held in
     let written = c.write_catalogue_of_size-written in
-    size_ends c.args.header.now c.args.workers c.in-Size.n (g.R.Source.left c.args.source.now) (held c.args.sink.now) (held written.new.sink)
+    size_ends c.args.header.now c.args.crew.now.workers c.in-Size.n (g.R.Source.left c.args.source.now) (held c.args.sink.now) (held written.new.sink)
     written.result c.of_writing.result c.in-Size.is written.ensures.ok written.ensures.err c.of_writing.ensures
 
 pub returns-in-Given-clause-ends : goal.returns-in-Given-clause-ends
 returns-in-Given-clause-ends g c =
     let held = g.W.Sink.held in
-    given_ends c.args.header.now c.args.workers (g.R.Source.left c.args.source.now) (held c.args.sink.now) (held c.write_given_text.new.sink)
-    c.write_given_text.result c.in-Given.is c.write_given_text.ensures.ends
+    given_ends c.args.header.now c.args.crew.now.workers (g.R.Source.left c.args.source.now) (held c.args.sink.now) (held c.write_given_text.new.sink)
+    c.write_given_text.result c.in-Given.is c.write_given_text.ensures.given.ends
+
+pub returns-in-Given-clause-ended : goal.returns-in-Given-clause-ended
+returns-in-Given-clause-ended g c = λ done reads. c.write_given_text.ensures.given.ended done
+
+pub returns-in-Given-clause-consumed : goal.returns-in-Given-clause-consumed
+returns-in-Given-clause-consumed g c = c.write_given_text.ensures.given.consumed

@@ -8,7 +8,7 @@ returns-in-Classify-clause-ends g c =
     let held = g.W.Sink.held in
     let asked = c.in-Classify in
     asked_ends c.args.request (ClassifyRequest asked.grid asked.subject asked.limits asked.workers asked.brief) (g.R.Source.left c.args.source.now)
-    (held c.args.sink.now) (held c.write_asked_catalogue.new.sink) c.write_asked_catalogue.result asked.is c.write_asked_catalogue.ensures.ends
+    (held c.args.sink.now) (held c.write_asked_catalogue.new.sink) c.write_asked_catalogue.result asked.is (rw c.new-crew.ensures at c.write_asked_catalogue.ensures.ends)
 
 pub returns-in-Share-clause-ends : goal.returns-in-Share-clause-ends
 returns-in-Share-clause-ends g c =
@@ -23,7 +23,7 @@ returns-in-Outer-clause-ends g c =
     let held = g.W.Sink.held in
     let asked = c.in-Outer in
     asked_ends c.args.request (OuterRequest asked.grid asked.subject asked.limits asked.workers) (g.R.Source.left c.args.source.now)
-    (held c.args.sink.now) (held c.write_outer_numbers.new.sink) c.write_outer_numbers.result asked.is c.write_outer_numbers.ensures.ends
+    (held c.args.sink.now) (held c.write_outer_numbers.new.sink) c.write_outer_numbers.result asked.is (rw c.new-crew-in-Outer.ensures at c.write_outer_numbers.ensures.ends)
 
 pub returns-in_default-clause-ends : goal.returns-in_default-clause-ends
 returns-in_default-clause-ends g c =

@@ -2,21 +2,17 @@ use Rattle.std.proofs.Common.{◌∙◌}
 use Rattle.heesch_grid.specs.Names.{geometry_of}
 use Rattle.heesch_catalogue.proofs.CatalogueTexts.{begun_of_size, whole_of_size}
 use Rattle.heesch_catalogue.proofs.GridLaws.{laws_of}
-use Rattle.heesch_catalogue.proofs.LimitTests.{limits_pass}
 use Rattle.heesch_catalogue.proofs.RoundTexts.{begins_as, writes_as}
 use Rattle.heesch_catalogue.proofs.catalogues.write_catalogue_of_size.Goals as goal
-
-pub write_texts_of_size-requires-clause-accepted : goal.write_texts_of_size-requires-clause-accepted
-write_texts_of_size-requires-clause-accepted g c κs within = rw c.texts_of-texts.ensures (limits_pass c.args.header.now.limits c.requires.limits)
 
 pub returns-clause-ok : goal.returns-clause-ok
 returns-clause-ok g c =
     writes_as c.write_texts_of_size.result (g.W.Sink.held c.args.sink.now) (g.W.Sink.held c.write_texts_of_size.new.sink)
     (whole_of_size (geometry_of c.args.header.now.grid) (laws_of c.args.header.now.grid) c.args.header.now c.requires.limits c.deref.result.now (c.deref.ensures.value ∙ c.in_ok-head.ensures) c.args.n)
-    (rw c.texts_of-texts.ensures at c.write_texts_of_size.ensures.ok)
+    (rw c.texts_of-texts.ensures.1 at c.write_texts_of_size.ensures.ok)
 
 pub returns-clause-err : goal.returns-clause-err
 returns-clause-err g c =
     begins_as c.write_texts_of_size.result (g.W.Sink.held c.args.sink.now) (g.W.Sink.held c.write_texts_of_size.new.sink)
     (begun_of_size (geometry_of c.args.header.now.grid) (laws_of c.args.header.now.grid) c.args.header.now c.requires.limits c.deref.result.now (c.deref.ensures.value ∙ c.in_ok-head.ensures) c.args.n)
-    (rw c.texts_of-texts.ensures at c.write_texts_of_size.ensures.err)
+    (rw c.texts_of-texts.ensures.1 at c.write_texts_of_size.ensures.err)

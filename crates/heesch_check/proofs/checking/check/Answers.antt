@@ -50,7 +50,7 @@ check_named-requires-clause-opened g c κs within =
 pub returns-clause-ok : goal.returns-clause-ok
 returns-clause-ok g c =
     let first = g.R.Source.left c.args.source.now in
-    c.check_named.ensures.ok first (c.in_ok-reading-2.ensures.ok.goes_on first [] (c.in_ok-reading.ensures.ok first (c.new-stream.ensures first)))
+    c.check_named.ensures.in_time.answers first (c.in_ok-reading-2.ensures.ok.goes_on first [] (c.in_ok-reading.ensures.ok first (c.new-stream.ensures first)))
 
 pub returns-in_default-clause-no_further : goal.returns-in_default-clause-no_further
 returns-in_default-clause-no_further g c =
@@ -66,7 +66,7 @@ pub returns-clause-no_further : goal.returns-clause-no_further
 returns-clause-no_further g c =
     let first = g.R.Source.left c.args.source.now in
     let h = c.in_ok-reading.ensures.ok first (c.new-stream.ensures first) in
-    c.check_named.ensures.no_further first (c.in_ok-reading-2.ensures.ok.goes_on first [] h)
+    c.check_named.ensures.in_time.no_further first (c.in_ok-reading-2.ensures.ok.goes_on first [] h)
     (start_no_further first (g.R.Source.left c.read_first.new.source) (g.R.Source.left c.gather.new.source) c.in-Some.header c.read_first.new.items c.if-header.false (rw c.as_slice.ensures at c.in-Some.ensures.some)
     (c.gather.ensures.no_further first [] h) (c.read_first.ensures.no_further first (c.new-stream.ensures first)))
 

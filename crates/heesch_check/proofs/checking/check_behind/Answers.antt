@@ -1,10 +1,38 @@
-use Rattle.std.proofs.Common.{List, ap, arith, rules, subst}
+use Rattle.std.proofs.Common.{ℕ, List, Option, ap, arith, rules, subst}
+use Rattle.std.proofs.lemmas.Result.{err_from_is_err_and}
 use Rattle.heesch_cert.specs.declared.header.Header.{Header}
 use Rattle.heesch_reader.specs.declared.item.Item.{Item}
-use Rattle.heesch_check.specs.Reading.{JudgesRound}
+use Rattle.heesch_io.specs.Input.{ReadsNoFurther}
+use Rattle.heesch_check.specs.Reading.{DecideNothing, IsPending, IsReading, JudgesRound}
 use Rattle.heesch_check.proofs.Leading.{bounded}
 use Rattle.heesch_check.proofs.Behind.{pending_answers, pending_fits, pending_gathered, pending_goes_on, pending_more, pending_no_further, pending_smaller, start_pending, start_some}
+use Rattle.heesch_check.proofs.checking.check_behind.Given as given
 use Rattle.heesch_check.proofs.checking.check_behind.Goals as goal
+use Rattle.heesch_check.proofs.checking.check_behind.Goals.{After-round_from, In_ok-answer, In_ok-round}
+
+-- no piece is read beyond a round, however it ends
+read_in_time : (g : given.Over) (c : After-round_from g) (first : Option (List ℕ)) → IsReading first (g.R.Source.left c.args.source.now) c.args.items c.args.stream.now c.args.reading → ReadsNoFurther DecideNothing first (g.R.Source.left c.args.source.now) → ReadsNoFurther DecideNothing first (g.R.Source.left c.round_from.new.source)
+read_in_time g c first h none =
+    pending_no_further first (g.R.Source.left c.rounds.source) (g.R.Source.left c.round_from.new.source) c.args.judge.header c.rounds.at_hand c.rounds.stream c.rounds.judge.entries c.round_size-lacking.result c.rounds.came_to c.requires.full c.round_size-lacking.ensures.most (c.rounds.invariant.pending first h) c.round_from.ensures.no_further (c.rounds.invariant.no_further first h none)
+
+-- a round that was gathered is pending
+gathered : (g : given.Over) (c : In_ok-round g) (first : Option (List ℕ)) → IsReading first (g.R.Source.left c.args.source.now) c.args.items c.args.stream.now c.args.reading
+    → IsPending c.args.judge.header first (g.R.Source.left c.round_from.new.source) c.in_ok-round.round.items c.round_from.new.stream c.rounds.judge.entries c.in_ok-round.round.reading
+gathered g c first h =
+    let left = g.R.Source.left in
+    let after = c.round_from.new in
+    let round = c.in_ok-round.round in
+    pending_gathered first (left c.rounds.source) (left after.source) c.args.judge.header c.rounds.at_hand round.items c.rounds.judge.entries c.round_size-lacking.result c.rounds.stream after.stream c.rounds.came_to round.reading (c.rounds.invariant.pending first h) c.in_ok-round.ensures.gathers
+
+-- and then it was judged
+judged : (g : given.Over) (c : In_ok-answer g) → JudgesRound c.args.judge.header c.rounds.judge.entries c.judge_audited_round.new.self.entries c.in_ok-round.round.items c.in_ok-round.round.reading c.in_ok-answer.answer
+judged g c =
+    let judge = c.rounds.judge in
+    let entries = c.judge_audited_round.new.self.entries in
+    let round = c.in_ok-round.round in
+    let same = ap (λ w. w.header) c.rounds.invariant.kept in
+    subst (λ (x : Header). JudgesRound x judge.entries entries round.items round.reading c.in_ok-answer.answer) same
+    (subst (λ (x : List Item). JudgesRound judge.header judge.entries entries x round.reading c.in_ok-answer.answer) c.as_slice.ensures c.in_ok-answer.ensures.judges)
 
 pub behind_header-at_hand-requires : goal.behind_header-at_hand-requires
 behind_header-at_hand-requires g c = start_some c.args.judge.header c.args.items c.requires.begins
@@ -23,72 +51,49 @@ round_from-requires-clause-may g c κs within =
     let p = c.rounds.invariant.pending first c.requires.underway.1 in
     (first, p.found, p.reads)
 
-pub returns-in_err-round-clause-no_further : goal.returns-in_err-round-clause-no_further
-returns-in_err-round-clause-no_further g c first h none =
-    pending_no_further first (g.R.Source.left c.rounds.source) (g.R.Source.left c.round_from.new.source) c.args.judge.header c.rounds.at_hand c.rounds.stream c.rounds.judge.entries c.round_size-lacking.result c.rounds.came_to c.requires.full c.round_size-lacking.ensures.most (c.rounds.invariant.pending first h) c.round_from.ensures.no_further (c.rounds.invariant.no_further first h none)
+pub returns-in_err-round-clause-in_time : goal.returns-in_err-round-clause-in_time
+returns-in_err-round-clause-in_time g c =
+    let exit = err_from_is_err_and c.from_residual.result c.from_residual.ensures.1 in
+    record { answers = λ first h. rw exit.1 tt; no_further = read_in_time g (goal.at.returns-in_err-round-clause-in_time g c).After-round_from }
 
 pub judge_audited_round-requires-clause-fit : goal.judge_audited_round-requires-clause-fit
 judge_audited_round-requires-clause-fit g c κs within =
-    let first = c.requires.underway.0 in
-    let h = c.requires.underway.1 in
     let left = g.R.Source.left in
-    let judge = c.rounds.judge in
-    let header = c.args.judge.header in
     let after = c.round_from.new in
     let round = c.in_ok-round.round in
-    rw c.as_slice.ensures (pending_fits first (left after.source) header round.items after.stream judge.entries round.reading (pending_gathered first (left c.rounds.source) (left after.source) header c.rounds.at_hand round.items judge.entries c.round_size-lacking.result c.rounds.stream after.stream c.rounds.came_to round.reading (c.rounds.invariant.pending first h) c.in_ok-round.ensures.gathers))
+    let p = c.rounds.invariant.pending c.requires.underway.0 c.requires.underway.1 in
+    rw c.as_slice.ensures (pending_fits c.requires.underway.0 (left after.source) c.args.judge.header round.items after.stream c.rounds.judge.entries round.reading (pending_gathered c.requires.underway.0 (left c.rounds.source) (left after.source) c.args.judge.header c.rounds.at_hand round.items c.rounds.judge.entries c.round_size-lacking.result c.rounds.stream after.stream c.rounds.came_to round.reading p c.in_ok-round.ensures.gathers))
 
-pub returns-in_err-answer-clause-no_further : goal.returns-in_err-answer-clause-no_further
-returns-in_err-answer-clause-no_further g c first h none =
-    pending_no_further first (g.R.Source.left c.rounds.source) (g.R.Source.left c.round_from.new.source) c.args.judge.header c.rounds.at_hand c.rounds.stream c.rounds.judge.entries c.round_size-lacking.result c.rounds.came_to c.requires.full c.round_size-lacking.ensures.most (c.rounds.invariant.pending first h) c.round_from.ensures.no_further (c.rounds.invariant.no_further first h none)
+pub returns-in_err-answer-clause-in_time : goal.returns-in_err-answer-clause-in_time
+returns-in_err-answer-clause-in_time g c =
+    let exit = err_from_is_err_and c.from_residual-in_err-answer.result c.from_residual-in_err-answer.ensures.1 in
+    record { answers = λ first h. rw exit.1 tt; no_further = read_in_time g (goal.at.returns-in_err-answer-clause-in_time g c).After-round_from }
 
-pub returns-in-Some-clause-ok : goal.returns-in-Some-clause-ok
-returns-in-Some-clause-ok g c first h =
-    let left = g.R.Source.left in
-    let judge = c.rounds.judge in
-    let header = c.args.judge.header in
-    let after = c.round_from.new in
+pub returns-in-Some-clause-in_time : goal.returns-in-Some-clause-in_time
+returns-in-Some-clause-in_time g c =
+    let a = goal.at.returns-in-Some-clause-in_time g c in
     let round = c.in_ok-round.round in
-    let same = ap (λ w. w.header) c.rounds.invariant.kept in
-    let judges = subst (λ (x : Header). JudgesRound x judge.entries c.judge_audited_round.new.self.entries round.items round.reading c.in_ok-answer.answer) same
-    (subst (λ (x : List Item). JudgesRound judge.header judge.entries c.judge_audited_round.new.self.entries x round.reading c.in_ok-answer.answer) c.as_slice.ensures c.in_ok-answer.ensures.judges) in
-    let bound = bounded header c.args.judge.shapes c.requires.shapes in
-    pending_answers first (left after.source) header round.items judge.entries c.judge_audited_round.new.self.entries after.stream round.reading c.in_ok-answer.answer c.in-Some.answer bound c.requires.full (pending_gathered first (left c.rounds.source) (left after.source) header c.rounds.at_hand round.items judge.entries c.round_size-lacking.result c.rounds.stream after.stream c.rounds.came_to round.reading (c.rounds.invariant.pending first h) c.in_ok-round.ensures.gathers) judges c.in-Some.is
-
-pub returns-in-Some-clause-no_further : goal.returns-in-Some-clause-no_further
-returns-in-Some-clause-no_further g c first h none =
-    pending_no_further first (g.R.Source.left c.rounds.source) (g.R.Source.left c.round_from.new.source) c.args.judge.header c.rounds.at_hand c.rounds.stream c.rounds.judge.entries c.round_size-lacking.result c.rounds.came_to c.requires.full c.round_size-lacking.ensures.most (c.rounds.invariant.pending first h) c.round_from.ensures.no_further (c.rounds.invariant.no_further first h none)
+    record {
+      answers = λ first h. pending_answers first (g.R.Source.left c.round_from.new.source) c.args.judge.header round.items c.rounds.judge.entries c.judge_audited_round.new.self.entries c.round_from.new.stream round.reading c.in_ok-answer.answer c.in-Some.answer (bounded c.args.judge.header c.args.judge.shapes c.requires.shapes) c.requires.full (gathered g a.In_ok-round first h) (judged g a.In_ok-answer) c.in-Some.is;
+      no_further = read_in_time g a.After-round_from;
+    }
 
 pub rounds-smaller : goal.rounds-smaller
 rounds-smaller g c =
-    let first = c.requires.underway.0 in
-    let h = c.requires.underway.1 in
     let left = g.R.Source.left in
-    let judge = c.rounds.judge in
-    let header = c.args.judge.header in
-    let after = c.round_from.new in
+    let (first, h) = c.requires.underway in
     let round = c.in_ok-round.round in
-    let same = ap (λ w. w.header) c.rounds.invariant.kept in
-    let judges = subst (λ (x : Header). JudgesRound x judge.entries c.judge_audited_round.new.self.entries round.items round.reading c.in_ok-answer.answer) same
-    (subst (λ (x : List Item). JudgesRound judge.header judge.entries c.judge_audited_round.new.self.entries x round.reading c.in_ok-answer.answer) c.as_slice.ensures c.in_ok-answer.ensures.judges) in
-    let bound = bounded header c.args.judge.shapes c.requires.shapes in
-    let more = pending_more header round.items judge.entries c.judge_audited_round.new.self.entries round.reading c.in_ok-answer.answer judges c.in_default.is in
-    pending_smaller first (left c.rounds.source) (left after.source) header c.rounds.at_hand round.items c.new-at_hand.result judge.entries c.round_size-lacking.result c.rounds.stream after.stream c.rounds.came_to round.reading c.new-at_hand.ensures c.round_size-lacking.ensures.some more (c.rounds.invariant.pending first h) c.in_ok-round.ensures.gathers
+    let more = pending_more c.args.judge.header round.items c.rounds.judge.entries c.judge_audited_round.new.self.entries round.reading c.in_ok-answer.answer (judged g (goal.at.rounds-smaller g c).In_ok-answer) c.in_default.is in
+    pending_smaller first (left c.rounds.source) (left c.round_from.new.source) c.args.judge.header c.rounds.at_hand round.items c.new-at_hand.result c.rounds.judge.entries c.round_size-lacking.result c.rounds.stream c.round_from.new.stream c.rounds.came_to round.reading c.new-at_hand.ensures c.round_size-lacking.ensures.some more (c.rounds.invariant.pending first h) c.in_ok-round.ensures.gathers
 
 pub rounds-preserved : goal.rounds-preserved
-rounds-preserved g c = record {
-  kept = search rules;
-  pending = λ first h.
-      let left = g.R.Source.left in
-      let judge = c.rounds.judge in
-      let header = c.args.judge.header in
-      let after = c.round_from.new in
-      let round = c.in_ok-round.round in
-      let same = ap (λ w. w.header) c.rounds.invariant.kept in
-      let judges = subst (λ (x : Header). JudgesRound x judge.entries c.judge_audited_round.new.self.entries round.items round.reading c.in_ok-answer.answer) same
-      (subst (λ (x : List Item). JudgesRound judge.header judge.entries c.judge_audited_round.new.self.entries x round.reading c.in_ok-answer.answer) c.as_slice.ensures c.in_ok-answer.ensures.judges) in
-      let bound = bounded header c.args.judge.shapes c.requires.shapes in
-      pending_goes_on first (left after.source) header round.items c.new-at_hand.result judge.entries c.judge_audited_round.new.self.entries after.stream round.reading c.in_ok-answer.answer bound c.requires.full c.new-at_hand.ensures (pending_gathered first (left c.rounds.source) (left after.source) header c.rounds.at_hand round.items judge.entries c.round_size-lacking.result c.rounds.stream after.stream c.rounds.came_to round.reading (c.rounds.invariant.pending first h) c.in_ok-round.ensures.gathers) judges c.in_default.is;
-  no_further = λ first h none. pending_no_further first (g.R.Source.left c.rounds.source) (g.R.Source.left c.round_from.new.source) c.args.judge.header c.rounds.at_hand c.rounds.stream c.rounds.judge.entries c.round_size-lacking.result c.rounds.came_to c.requires.full c.round_size-lacking.ensures.most (c.rounds.invariant.pending first h) c.round_from.ensures.no_further (c.rounds.invariant.no_further first h none);
-  later = omega (arith, c.rounds.invariant.later, c.round_from.ensures.later);
-}
+rounds-preserved g c =
+    let a = goal.at.rounds-preserved g c in
+    let round = c.in_ok-round.round in
+    record {
+      kept = search rules;
+      pending = λ first h.
+          pending_goes_on first (g.R.Source.left c.round_from.new.source) c.args.judge.header round.items c.new-at_hand.result c.rounds.judge.entries c.judge_audited_round.new.self.entries c.round_from.new.stream round.reading c.in_ok-answer.answer (bounded c.args.judge.header c.args.judge.shapes c.requires.shapes) c.requires.full c.new-at_hand.ensures (gathered g a.In_ok-round first h) (judged g a.In_ok-answer) c.in_default.is;
+      no_further = read_in_time g a.After-round_from;
+      later = omega (arith, c.rounds.invariant.later, c.round_from.ensures.later);
+    }

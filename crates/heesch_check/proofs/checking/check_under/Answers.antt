@@ -1,7 +1,7 @@
+use Rattle.std.proofs.lemmas.Result.{err_from_is_err_and}
 use Rattle.heesch_check.proofs.checking.check_under.Goals as goal
 
-pub returns-clause-no_further : goal.returns-clause-no_further
-returns-clause-no_further g c first h none = c.check_behind.ensures.no_further first h none
-
-pub returns-in_err-judge-clause-no_further : goal.returns-in_err-judge-clause-no_further
-returns-in_err-judge-clause-no_further g c first h none = none
+pub returns-in_err-judge-clause-in_time : goal.returns-in_err-judge-clause-in_time
+returns-in_err-judge-clause-in_time g c =
+    let exit = err_from_is_err_and c.from_residual.result c.from_residual.ensures.1 in
+    record { answers = λ first h. rw exit.1 tt; no_further = λ first h none. none }

@@ -4,7 +4,7 @@ use Rattle.std.specs.Fork.{slice_chunk}
 use Rattle.std.specs.List.{list_all}
 use Rattle.std.specs.Slice.Iter.{chunk_count}
 use Rattle.std.proofs.lemmas.Result.{IfOk-weaker}
-use Rattle.heesch_torus.proofs.Outcomes.{if_both}
+use Rattle.heesch_check.proofs.Audits.{if_both}
 use Rattle.heesch_check.proofs.Portions.{chunks, audits_from}
 use Rattle.heesch_check.proofs.rounds.audits.Goals as goal
 

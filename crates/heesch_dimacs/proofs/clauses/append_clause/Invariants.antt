@@ -1,7 +1,7 @@
 use Rattle.std.proofs.Common.{◌≡◌, ◌++◌, take}
+use Rattle.std.specs.Prelude.{codes}
 use Rattle.std.specs.List.{flat_map}
-use Rattle.heesch_dimacs.specs.Formulas.{lit_word}
 use Rattle.heesch_dimacs.proofs.clauses.append_clause.Given as goal
 
-abbrev pub invariant-loop-lit : goal.invariant-loop-lit
-invariant-loop-lit l = l.out.items ≡ l.fn.out.items ++ flat_map lit_word (take l.lit-index l.clause)
+abbrev pub invariant-loop-literal : goal.invariant-loop-literal
+invariant-loop-literal g l = l.out.items ≡ l.fn.out.items ++ flat_map (λ literal. g.W.Word.text literal ++ codes " ") (take l.literal-index l.clause)

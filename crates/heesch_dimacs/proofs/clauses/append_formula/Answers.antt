@@ -1,4 +1,4 @@
-use Rattle.heesch_dimacs.proofs.Kept.{kept_through}
+use Rattle.heesch_text.proofs.Kept.{kept_through}
 use Rattle.heesch_dimacs.proofs.clauses.append_formula.Goals as goal
 
 pub returns-in_err-append_clause-clause-kept : goal.returns-in_err-append_clause-clause-kept

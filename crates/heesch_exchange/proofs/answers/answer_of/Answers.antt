@@ -1,49 +1,45 @@
-use Rattle.std.proofs.Common.{◌≡◌, ◌∙◌, ℕ, List, ◌++◌, Err, ap, sym, subst, inl, inr}
+use Rattle.std.proofs.Common.{◌≡◌, ◌∙◌, ℕ, List, ◌++◌, ap, sym, subst, inl, inr}
 use Rattle.heesch_cnf.specs.Clauses.{assignment_of}
 use Rattle.heesch_dimacs.specs.Models.{IsModel}
 use Rattle.heesch_text.specs.Catalogue.{coronas_text}
 use Rattle.heesch_exchange.specs.Answers.{IsAnswerStop, IsModelStop, false_text}
-use Rattle.heesch_exchange.specs.Shapes.{encode_stop}
-use Rattle.heesch_exchange.proofs.ShapeLines.{self_canonical}
 use Rattle.heesch_exchange.proofs.Told.{as_error, encoded_as, answer_stop, model_stop, is_answer, spelled_of, tells_coronas}
 use Rattle.heesch_exchange.proofs.answers.answer_of.Goals as goal
 use Rattle.heesch_exchange.proofs.answers.answer_of.Goals.{in-Some-first_false+in_ok-append_false-in-Some-first_false, in-None+in_ok-layers-in-None+in_ok-write_coronas-in-None}
 
-pub encode_flat-requires-clause-canonical : goal.encode_flat-requires-clause-canonical
-encode_flat-requires-clause-canonical g c = self_canonical g.G.Grid.geometry g.met.G.Grid.laws c.in-Some.line.now c.in_ok-shape.shape c.in_ok-shape.ensures.ok
-
 pub returns-in_err-encoded-clause-stop : goal.returns-in_err-encoded-clause-stop
 returns-in_err-encoded-clause-stop g c =
-    let a = c.args in
+    let a = c.args.asked in
+    let input = c.args.input.now in
     let geometry = g.G.Grid.geometry in
     let stop = c.in_err-encoded.field-0.0 in
-    as_error c.from_residual-in_err-encoded.result (encode_stop stop) (IsAnswerStop a.version geometry a.level a.size a.input.now) c.from_residual-in_err-encoded.ensures.1
-    (answer_stop a.version geometry a.level a.size c.in-Some.line.now c.in_ok-shape.shape c.in_ok-shape.ensures.ok a.input.now c.in-Some.model.now (record { whole = c.in-Some.ensures.1; text = c.in-Some.ensures.0 }) stop (λ e. c.in_err-encoded.ensures.too_large (ap Err e)))
+    as_error c.from_residual.result stop (IsAnswerStop a.version geometry a.level a.size input) c.from_residual.ensures.1
+    (answer_stop a.version geometry a.level a.size c.in-Some.line.now input c.in-Some.model.now (record { whole = c.in-Some.ensures.1; text = c.in-Some.ensures.0 }) stop c.in_err-encoded.ensures.stop)
 
 pub returns-in_err-values-clause-stop : goal.returns-in_err-values-clause-stop
 returns-in_err-values-clause-stop g c =
-    let a = c.args in
+    let a = c.args.asked in
+    let input = c.args.input.now in
     let geometry = g.G.Grid.geometry in
-    let e = c.in_ok-encoded.ensures in
-    let encoded = c.in_ok-encoded.encoded in
-    let whole = encoded_as a.version geometry a.level a.size c.in-Some.line.now c.in_ok-shape.shape c.in_ok-shape.ensures.ok encoded.universe.vars encoded.formula.vars encoded.formula.clauses e.formula e.fits in
+    let e = c.in_ok-encoded.encoded in
+    let whole = encoded_as a.version geometry a.level a.size c.in-Some.line.now e.universe e.formula.vars e.formula.clauses c.in_ok-encoded.ensures.ok in
     let stop = c.in_err-values.field-0.0 in
-    let stops : IsModelStop encoded.formula.vars c.in-Some.model.now stop = subst (λ (n : ℕ). IsModelStop n c.in-Some.model.now stop) c.vars.ensures.vars c.in_err-values.ensures.stop in
-    as_error c.from_residual-in_err-values.result stop (IsAnswerStop a.version geometry a.level a.size a.input.now) c.from_residual-in_err-values.ensures.1
-    (model_stop a.version geometry a.level a.size a.input.now c.in-Some.line.now c.in-Some.model.now (record { whole = c.in-Some.ensures.1; text = c.in-Some.ensures.0 }) whole stop stops)
+    let stops : IsModelStop e.formula.vars c.in-Some.model.now stop = subst (λ (n : ℕ). IsModelStop n c.in-Some.model.now stop) c.vars.ensures.vars c.in_err-values.ensures.stop in
+    as_error c.from_residual-in_err-values.result stop (IsAnswerStop a.version geometry a.level a.size input) c.from_residual-in_err-values.ensures.1
+    (model_stop a.version geometry a.level a.size input c.in-Some.line.now c.in-Some.model.now (record { whole = c.in-Some.ensures.1; text = c.in-Some.ensures.0 }) whole stop stops)
 
 pub returns-clause-ok : goal.returns-clause-ok
 returns-clause-ok g c =
-    let a = c.args in
+    let a = c.args.asked in
     let geometry = g.G.Grid.geometry in
-    let e = c.in_ok-encoded.ensures in
-    let encoded = c.in_ok-encoded.encoded in
-    let whole = encoded_as a.version geometry a.level a.size c.in-Some.line.now c.in_ok-shape.shape c.in_ok-shape.ensures.ok encoded.universe.vars encoded.formula.vars encoded.formula.clauses e.formula e.fits in
+    let encodes = c.in_ok-encoded.ensures.ok in
+    let e = c.in_ok-encoded.encoded in
+    let whole = encoded_as a.version geometry a.level a.size c.in-Some.line.now e.universe e.formula.vars e.formula.clauses encodes in
     let values = c.as_slice.result.now in
-    let same : c.vars.result ≡ encoded.formula.vars = c.vars.ensures.vars in
-    let model : IsModel encoded.formula.vars c.in-Some.model.now values =
+    let same : c.vars.result ≡ e.formula.vars = c.vars.ensures.vars in
+    let model : IsModel e.formula.vars c.in-Some.model.now values =
     subst (λ (n : ℕ). IsModel n c.in-Some.model.now values) same (subst (IsModel c.vars.result c.in-Some.model.now) (sym c.as_slice.ensures) c.in_ok-values.ensures.ok) in
-    is_answer a.version geometry a.level a.size a.input.now c.in-Some.line.now c.in-Some.model.now (record { whole = c.in-Some.ensures.1; text = c.in-Some.ensures.0 }) whole values model c.match-first_false.text.items
+    is_answer a.version geometry a.level a.size c.args.input.now c.in-Some.line.now c.in-Some.model.now (record { whole = c.in-Some.ensures.1; text = c.in-Some.ensures.0 }) whole values model c.match-first_false.text.items
     (elim c.match-first_false.branch [
       | in-Some-first_false+in_ok-append_false-in-Some-first_false w ↦
           let number = w.in-Some-first_false.number in
@@ -59,7 +55,7 @@ returns-clause-ok g c =
           w.in_ok-write_coronas-in-None.ensures.ok ∙ ap (λ (xs : List ℕ). xs ++ coronas_text layers) c.new-text.ensures.items in
           let is : c.match-first_false.text.items ≡ coronas_text layers = cc in
           let same_values : w.as_slice-in-None.result.now ≡ values = w.as_slice-in-None.ensures ∙ sym c.as_slice.ensures in
-          let spelled = spelled_of geometry encoded.universe c.in_ok-shape.shape a.level values w.as_slice-in-None.result.now layers e.shape e.level same_values w.in_ok-layers-in-None.ensures in
-          inl (tells_coronas geometry c.in_ok-shape.shape a.level encoded.universe.vars (assignment_of values) encoded.formula.clauses layers c.match-first_false.text.items
-          w.in-None.ensures spelled (e.models (assignment_of values) w.in-None.ensures) is)
+          let spelled = spelled_of geometry e.universe a.level values w.as_slice-in-None.result.now layers encodes.level_is same_values w.in_ok-layers-in-None.ensures in
+          inl (tells_coronas geometry e.universe.shape a.level e.universe.vars (assignment_of values) e.formula.clauses layers c.match-first_false.text.items
+          w.in-None.ensures spelled (encodes.models (assignment_of values) w.in-None.ensures) is)
     ])

@@ -1,45 +1,39 @@
-use Rattle.std.proofs.Common.{◌∙◌, ℕ, List, ◌++◌, Err, ap, refl, inr}
+use Rattle.std.proofs.Common.{◌∙◌, ℕ, List, ◌++◌, ap, refl, inr}
 use Rattle.heesch_dimacs.specs.Formulas.{clause_text}
 use Rattle.heesch_exchange.specs.Formulas.{IsFormulaStop}
-use Rattle.heesch_exchange.specs.Shapes.{encode_stop}
-use Rattle.heesch_exchange.proofs.ShapeLines.{self_canonical}
 use Rattle.heesch_exchange.proofs.Told.{not_empty, empty_is, as_error, formula_stop, encoded_as, second_line, is_formula}
 use Rattle.heesch_exchange.proofs.formulas.formula_of.Goals as goal
 
-pub encode_flat-requires-clause-canonical : goal.encode_flat-requires-clause-canonical
-encode_flat-requires-clause-canonical g c = self_canonical g.G.Grid.geometry g.met.G.Grid.laws c.first_line.result.0.now c.in_ok-shape.shape c.in_ok-shape.ensures.ok
-
 pub returns-in_err-encoded-clause-stop : goal.returns-in_err-encoded-clause-stop
 returns-in_err-encoded-clause-stop g c =
-    let a = c.args in
-    let geometry = g.G.Grid.geometry in
+    let a = c.args.asked in
+    let input = c.args.input.now in
+    let some = not_empty input c.is_empty.result c.is_empty.ensures c.if-is_empty.false in
     let stop = c.in_err-encoded.field-0.0 in
-    let some = not_empty a.input.now c.is_empty.result c.is_empty.ensures c.if-is_empty.false in
-    as_error c.from_residual-in_err-encoded.result (encode_stop stop) (IsFormulaStop a.version geometry a.level a.size a.input.now) c.from_residual-in_err-encoded.ensures.1
-    (formula_stop a.version geometry a.level a.size c.first_line.result.0.now c.in_ok-shape.shape c.in_ok-shape.ensures.ok a.input.now c.first_line.result.1.now some c.first_line.ensures stop (λ e. c.in_err-encoded.ensures.too_large (ap Err e)))
+    as_error c.from_residual.result stop (IsFormulaStop a.version g.G.Grid.geometry a.level a.size input) c.from_residual.ensures.1
+    (formula_stop a.version g.G.Grid.geometry a.level a.size c.first_line.result.0.now input c.first_line.result.1.now some c.first_line.ensures stop c.in_err-encoded.ensures.stop)
 
 pub returns-then-not-is_empty-clause-stop : goal.returns-then-not-is_empty-clause-stop
 returns-then-not-is_empty-clause-stop g c =
-    let a = c.args in
-    let e = c.in_ok-encoded.ensures in
-    let encoded = encoded_as a.version g.G.Grid.geometry a.level a.size c.first_line.result.0.now c.in_ok-shape.shape c.in_ok-shape.ensures.ok
-    c.in_ok-encoded.encoded.universe.vars c.in_ok-encoded.encoded.formula.vars c.in_ok-encoded.encoded.formula.clauses e.formula e.fits in
+    let a = c.args.asked in
+    let e = c.in_ok-encoded.encoded in
+    let encoded = encoded_as a.version g.G.Grid.geometry a.level a.size c.first_line.result.0.now e.universe e.formula.vars e.formula.clauses c.in_ok-encoded.ensures.ok in
     let more = not_empty c.first_line.result.1.now c.is_empty-2.result c.is_empty-2.ensures c.if-not-is_empty.true in
     inr (inr (
-      second_line a.version g.G.Grid.geometry a.level a.size a.input.now c.first_line.result.0.now c.first_line.result.1.now c.first_line.ensures encoded more,
+      second_line a.version g.G.Grid.geometry a.level a.size c.args.input.now c.first_line.result.0.now c.first_line.result.1.now c.first_line.ensures encoded more,
       refl,
       refl,
     ))
 
 pub returns-clause-ok : goal.returns-clause-ok
 returns-clause-ok g c =
-    let a = c.args in
-    let e = c.in_ok-encoded.ensures in
-    let encoded = encoded_as a.version g.G.Grid.geometry a.level a.size c.first_line.result.0.now c.in_ok-shape.shape c.in_ok-shape.ensures.ok
-    c.in_ok-encoded.encoded.universe.vars c.in_ok-encoded.encoded.formula.vars c.in_ok-encoded.encoded.formula.clauses e.formula e.fits in
-    let some = not_empty a.input.now c.is_empty.result c.is_empty.ensures c.if-is_empty.false in
+    let a = c.args.asked in
+    let input = c.args.input.now in
+    let e = c.in_ok-encoded.encoded in
+    let encoded = encoded_as a.version g.G.Grid.geometry a.level a.size c.first_line.result.0.now e.universe e.formula.vars e.formula.clauses c.in_ok-encoded.ensures.ok in
+    let some = not_empty input c.is_empty.result c.is_empty.ensures c.if-is_empty.false in
     let none = empty_is c.first_line.result.1.now c.is_empty-2.result c.is_empty-2.ensures c.if-not-is_empty.false in
     let written = c.in_ok-write_flat_cnf.ensures.ok in
     let from_nothing = c.new-text.ensures.items in
-    is_formula a.version g.G.Grid.geometry a.level a.size a.input.now c.first_line.result.0.now c.first_line.result.1.now c.first_line.ensures encoded some none c.write_flat_cnf.new.out.items
-    (written ∙ ap (λ (xs : List ℕ). xs ++ clause_text c.in_ok-encoded.encoded.formula.vars c.in_ok-encoded.encoded.formula.clauses) from_nothing) e.satisfiable
+    is_formula a.version g.G.Grid.geometry a.level a.size input c.first_line.result.0.now c.first_line.result.1.now c.first_line.ensures encoded some none c.write_flat_cnf.new.out.items
+    (written ∙ ap (λ (xs : List ℕ). xs ++ clause_text e.formula.vars e.formula.clauses) from_nothing) c.in_ok-encoded.ensures.ok.satisfiable

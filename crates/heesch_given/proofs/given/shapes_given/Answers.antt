@@ -1,5 +1,5 @@
 use Rattle.std.proofs.Common.{◌≡◌, ◌≤◌, ◌<◌, ◌+◌, ◌-◌, min, length, Err, rules, arith}
-use Rattle.heesch_given.specs.declared.stop.GivenStop.TheVariants.{Failed}
+use Rattle.heesch_line.specs.declared.stops.InputStop.TheVariants.{Failed}
 use Rattle.heesch_given.specs.Given.{GivesFault}
 use Rattle.heesch_given.proofs.Going.{going_on, piece_stops, piece_not_failed, end_given, end_stopped, end_not_failed, goes_beyond, beyond_not_failed, no_further}
 use Rattle.heesch_given.proofs.given.shapes_given.Goals as goal

@@ -12,17 +12,12 @@ same_test r m n z w e f g = e ∙ ap (λ m. divides (unsigned_abs m) z) f ∙ ap
 
 pub returns-then-is_multiple : goal.returns-then-is_multiple
 returns-then-is_multiple c =
-    let n = unsigned_abs c.args.n in
-    let x = c.args.c.a -ℤ c.args.o.a in
     let y = c.args.c.b -ℤ c.args.o.b in
-    let first = same_test _ (read c.args.n) c.args.n (read (read c.args.c.a -ℤ read c.args.o.a)) x c.is_multiple.ensures (omega (arith, ints)) (omega (arith, ints)) in
+    let first = same_test _ (read c.args.n) c.args.n (read (read c.args.c.a -ℤ read c.args.o.a)) (c.args.c.a -ℤ c.args.o.a) c.is_multiple.ensures (omega (arith, ints)) (omega (arith, ints)) in
     let second = same_test _ (read c.args.n) c.args.n (read (read c.args.c.b -ℤ read c.args.o.b)) y c.is_multiple-then-is_multiple.ensures (omega (arith, ints)) (omega (arith, ints)) in
-    second ∙ sym (ap (λ b. b && divides n y) (sym first ∙ c.if-is_multiple.true))
+    second ∙ sym (ap (λ b. b && divides (unsigned_abs c.args.n) y) (sym first ∙ c.if-is_multiple.true))
 
 pub returns-else-is_multiple : goal.returns-else-is_multiple
 returns-else-is_multiple c =
-    let n = unsigned_abs c.args.n in
-    let x = c.args.c.a -ℤ c.args.o.a in
-    let y = c.args.c.b -ℤ c.args.o.b in
-    let first = same_test _ (read c.args.n) c.args.n (read (read c.args.c.a -ℤ read c.args.o.a)) x c.is_multiple.ensures (omega (arith, ints)) (omega (arith, ints)) in
-    c.if-is_multiple.false ∙ sym (ap (λ b. b && divides n y) (sym first ∙ c.if-is_multiple.false))
+    let first = same_test _ (read c.args.n) c.args.n (read (read c.args.c.a -ℤ read c.args.o.a)) (c.args.c.a -ℤ c.args.o.a) c.is_multiple.ensures (omega (arith, ints)) (omega (arith, ints)) in
+    c.if-is_multiple.false ∙ sym (ap (λ b. b && divides (unsigned_abs c.args.n) (c.args.c.b -ℤ c.args.o.b)) (sym first ∙ c.if-is_multiple.false))

@@ -12,7 +12,7 @@ use Rattle.heesch_listing.proofs.growing.all_shapes.Goals as goal
 
 pub loop-size-init : goal.loop-size-init
 loop-size-init g c =
-    let one = c.in_ok-shapes.ensures.one in
+    let one = c.in_ok-shapes.ensures.len in
     let geometry = g.G.Grid.geometry in
     let laws = (g.met.G.Grid g.world.𝓛 g.world.𝓜 g.world.𝓡 ((λ s x. x), (λ x. x), (λ x. x), λ x. x)).laws in
     record {

@@ -1,4 +1,4 @@
-use Rattle.std.proofs.Common.{◌∙◌, ◌+◌, ap, sym, subst, length, arith}
+use Rattle.std.proofs.Common.{◌≡◌, ◌∙◌, ◌+◌, ap, sym, subst, length, arith}
 use Rattle.std.specs.Prelude.{IfOk}
 use Rattle.std.proofs.lemmas.Result.{IfOk-weaker}
 use Rattle.heesch_cert.specs.Proofs.{IsTooLarge}
@@ -10,7 +10,7 @@ use Rattle.heesch_outer.specs.declared.answer.OuterAnswer.TheVariants.{Same}
 use Rattle.heesch_outer.specs.Answer.{IsOuterAnswer, IsSearched}
 use Rattle.heesch_outer.specs.Found.{IsNearAnswer}
 use Rattle.heesch_outer.specs.Statements.{TellsNumber}
-use Rattle.heesch_outer.proofs.OuterAnswers.{answer_beyond, answer_searched, fits_in, level_in, near_in, number_in}
+use Rattle.heesch_outer.proofs.OuterAnswers.{answer_beyond, answer_searched, count_in, fits_in, level_in, near_in, number_in}
 use Rattle.heesch_outer.proofs.answering.outer.Goals as goal
 
 pub returns-in-Same-clause-number : goal.returns-in-Same-clause-number
@@ -33,13 +33,13 @@ search_outer-requires g c =
     let is = s.is ∙ ap (λ w. Search s.free w s.bare s.wider s.triples) c.in-Refuted.is in
     let level = level_in geometry a.limits a.entry.now c.requires.entry s.free proof s.bare s.wider s.triples is in
     let most = c.requires.limits.levels_range.1 in
-    let count = c.len.ensures in
+    let count : c.first_number.result ≡ length s.free.layers = c.first_number.ensures ∙ sym (count_in geometry a.limits a.entry.now c.requires.entry s.free proof s.bare s.wider s.triples is) in
     let shape = c.shape_of-shape.ensures.same ∙ c.as_slice.ensures in
     record {
       limits = c.requires.limits;
       level = omega (arith, level, most, count);
       canonical = c.shape_of-shape.ensures.canonical;
-      fits = subst (λ cells. ¬ IsTooLarge a.limits.version geometry cells (c.len.result + 1) a.limits.size) (sym shape)
+      fits = subst (λ cells. ¬ IsTooLarge a.limits.version geometry cells (c.first_number.result + 1) a.limits.size) (sym shape)
           (subst (λ n. ¬ IsTooLarge a.limits.version geometry a.entry.now.cells (n + 1) a.limits.size) (sym count) (fits_in geometry a.limits a.entry.now c.requires.entry s.free proof s.bare s.wider s.triples is g.met.G.Grid.laws));
     }
 
@@ -51,11 +51,12 @@ returns g c =
     let geometry = g.G.Grid.geometry in
     let law = g.met.G.Grid.laws in
     let is = s.is ∙ ap (λ w. Search s.free w s.bare s.wider s.triples) c.in-Refuted.is in
+    let count : c.first_number.result ≡ length s.free.layers = c.first_number.ensures ∙ sym (count_in geometry a.limits a.entry.now c.requires.entry s.free proof s.bare s.wider s.triples is) in
     let shape = c.shape_of-shape.ensures.same ∙ c.as_slice.ensures in
     let both = answer_searched geometry a.limits a.entry.now c.requires.entry s.free proof s.bare s.wider s.triples is c.in_default-bare.not-Same in
     let found : IfOk c.search_outer.result (IsSearched geometry a.limits a.entry.now.cells (length s.free.layers)) =
-    subst (λ n. IfOk c.search_outer.result (IsSearched geometry a.limits a.entry.now.cells n)) c.len.ensures
-    (subst (λ cells. IfOk c.search_outer.result (IsSearched geometry a.limits cells c.len.result)) shape c.search_outer.ensures) in
+    subst (λ n. IfOk c.search_outer.result (IsSearched geometry a.limits a.entry.now.cells n)) count
+    (subst (λ cells. IfOk c.search_outer.result (IsSearched geometry a.limits cells c.first_number.result)) shape c.search_outer.ensures) in
     record {
       answer = IfOk-weaker c.search_outer.result (IsSearched geometry a.limits a.entry.now.cells (length s.free.layers)) (IsOuterAnswer geometry a.limits a.entry.now) (λ answer x. (both answer).1 x) found;
       near = IfOk-weaker c.search_outer.result (IsSearched geometry a.limits a.entry.now.cells (length s.free.layers)) IsNearAnswer

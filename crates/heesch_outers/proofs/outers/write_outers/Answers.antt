@@ -1,5 +1,4 @@
 use Rattle.heesch_grid.specs.Geometry.{IsGrid}
-use Rattle.heesch_catalogue.proofs.LimitTests.{limits_pass}
 use Rattle.heesch_catalogue.proofs.RoundTexts.{begins_as, writes_as}
 use Rattle.heesch_outers.proofs.OuterTexts.{begun_is_outers, whole_is_outers}
 use Rattle.heesch_outers.proofs.outers.write_outers.Given as given
@@ -7,9 +6,6 @@ use Rattle.heesch_outers.proofs.outers.write_outers.Goals as goal
 
 laws : (g : given.Over) → IsGrid g.G.Grid.geometry
 laws g = (g.met.G.Grid g.world.𝓛 g.world.𝓜 g.world.𝓡 ((λ s x. x), (λ x. x), (λ x. x), λ x. x)).laws
-
-pub write_texts-requires-clause-accepted : goal.write_texts-requires-clause-accepted
-write_texts-requires-clause-accepted g c κs within = limits_pass c.args.limits c.requires.limits
 
 pub returns-clause-ok : goal.returns-clause-ok
 returns-clause-ok g c =

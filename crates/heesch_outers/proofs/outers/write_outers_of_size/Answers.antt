@@ -1,12 +1,8 @@
 use Rattle.heesch_grid.specs.Names.{geometry_of}
 use Rattle.heesch_catalogue.proofs.GridLaws.{laws_of}
-use Rattle.heesch_catalogue.proofs.LimitTests.{limits_pass}
 use Rattle.heesch_catalogue.proofs.RoundTexts.{begins_as, writes_as}
 use Rattle.heesch_outers.proofs.OuterTexts.{begun_of_size, whole_of_size}
 use Rattle.heesch_outers.proofs.outers.write_outers_of_size.Goals as goal
-
-pub write_texts_of_size-requires-clause-accepted : goal.write_texts_of_size-requires-clause-accepted
-write_texts_of_size-requires-clause-accepted g c κs within = limits_pass c.args.limits c.requires.limits
 
 pub returns-clause-ok : goal.returns-clause-ok
 returns-clause-ok g c =

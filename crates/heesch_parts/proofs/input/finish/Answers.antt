@@ -1,5 +1,6 @@
 use Rattle.std.proofs.Common.{rules}
-use Rattle.heesch_parts.specs.Inputs.{stop_of, IsWholeInputStop}
+use Rattle.heesch_line.specs.Stops.{stop_of}
+use Rattle.heesch_parts.specs.Inputs.{IsWholeInputStop}
 use Rattle.heesch_parts.proofs.Going.{ends_joined, ends_stopped}
 use Rattle.heesch_parts.proofs.input.finish.Goals as goal
 

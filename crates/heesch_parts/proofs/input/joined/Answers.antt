@@ -1,5 +1,6 @@
 use Rattle.std.proofs.Common.{◌≡◌, ℕ, ◌≤◌, ◌<◌, ◌+◌, ◌-◌, min, length, rules, arith}
-use Rattle.heesch_parts.specs.Inputs.{GivesFault, stop_of}
+use Rattle.heesch_line.specs.Stops.{stop_of}
+use Rattle.heesch_parts.specs.Inputs.{GivesFault}
 use Rattle.heesch_parts.proofs.Going.{going_on, piece_stops, at_end, goes_beyond, no_further, no_further_kept}
 use Rattle.heesch_parts.proofs.input.joined.Goals as goal
 

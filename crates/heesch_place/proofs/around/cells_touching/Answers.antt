@@ -1,10 +1,8 @@
 use Rattle.std.proofs.Common.{[], sym, ◌∙◌, subst, arith}
-use Rattle.std.proofs.lemmas.List.Filters.{dedup_is}
-use Rattle.heesch_grid.specs.Cells.{same_cell}
+use Rattle.heesch_grid.specs.Cells.{cell_before}
 use Rattle.heesch_grid.specs.Geometry.{Touching}
 use Rattle.heesch_place.specs.Found.{Adds, FromOne, TouchesSome}
-use Rattle.heesch_place.proofs.Gathering.{from_none, from_more, from_all, any_default}
-use Rattle.heesch_place.proofs.Sorting.{listed_cells}
+use Rattle.heesch_place.proofs.Gathering.{from_none, from_more, from_all, any_default, lists_added}
 use Rattle.heesch_place.proofs.around.cells_touching.Goals as goal
 
 pub loop-tile-init : goal.loop-tile-init
@@ -26,4 +24,4 @@ returns g c =
     let tiles = c.args.tiles.now in
     let l = c.loop-tile in
     let made = from_all R tiles l.tile-index [] l.all.items (omega (arith, c.loop-tile-test.false, l.auto.tile-index-end)) l.invariant in
-    listed_cells (TouchesSome g.G.Grid.geometry tiles) l.all.items c.sort_unstable.new.self.items c.dedup.new.self.items made c.sort_unstable.ensures.permutation c.sort_unstable.ensures.sorted (dedup_is same_cell c.sort_unstable.new.self.items c.dedup.new.self.items c.dedup.ensures.filtered)
+    lists_added cell_before (TouchesSome g.G.Grid.geometry tiles) l.all.items c.listed_cells.result.items made c.listed_cells.ensures

@@ -1,14 +1,12 @@
 use Rattle.std.proofs.Common.{◌≡◌, [], get_or, pos, sym, subst, ap, ◌∙◌, arith}
 use Rattle.std.proofs.lemmas.Int.{ints}
-use Rattle.std.proofs.lemmas.List.Filters.{dedup_is}
 use Rattle.heesch_grid.specs.declared.Cell.{Cell}
-use Rattle.heesch_grid.specs.Cells.{cell, same_cell, has}
+use Rattle.heesch_grid.specs.Cells.{cell, cell_before, has}
 use Rattle.heesch_grid.specs.Vectors.{IsWithin}
 use Rattle.heesch_grid.proofs.Images.{read, turn_within}
 use Rattle.heesch_shape.proofs.Loops.{has_at}
 use Rattle.heesch_place.specs.Found.{Adds, FromOne, LeadsTo, LeadsOnto}
-use Rattle.heesch_place.proofs.Gathering.{from_none, from_more, from_all}
-use Rattle.heesch_place.proofs.Sorting.{listed_cells}
+use Rattle.heesch_place.proofs.Gathering.{from_none, from_more, from_all, lists_added}
 use Rattle.heesch_place.proofs.onto.units_onto.Goals as goal
 
 pub loop-c-init : goal.loop-c-init
@@ -49,4 +47,4 @@ returns g c =
     let R = λ (d : Cell). FromOne (LeadsTo (pos geometry.unit) (geometry.turn c.args.k d)) c.args.targets.now in
     let l = c.loop-c in
     let made = subst (λ zs. Adds (FromOne R zs) [] l.all.items) c.cells-cells.ensures.cells (from_all R c.cells-cells.result.now l.c-index [] l.all.items (omega (arith, c.loop-c-test.false, l.auto.c-index-end)) l.invariant) in
-    listed_cells (LeadsOnto geometry c.args.k c.args.shape.now c.args.targets.now) l.all.items c.sort_unstable.new.self.items c.dedup.new.self.items made c.sort_unstable.ensures.permutation c.sort_unstable.ensures.sorted (dedup_is same_cell c.sort_unstable.new.self.items c.dedup.new.self.items c.dedup.ensures.filtered)
+    lists_added cell_before (LeadsOnto geometry c.args.k c.args.shape.now c.args.targets.now) l.all.items c.listed_cells.result.items made c.listed_cells.ensures

@@ -7,12 +7,6 @@ use Rattle.heesch_place.specs.Steps.{IsFirstOf}
 use Rattle.heesch_place.proofs.Moves.{must_move, must_be_units, gives_tile}
 use Rattle.heesch_place.proofs.turned.leading.Goals as goal
 
-pub is_moved-requires-clause-near : goal.is_moved-requires-clause-near
-is_moved-requires-clause-near g c =
-    let from : IsWithin 2000000 c.first_of.result = search rules in
-    let to : IsWithin 1000000 c.first_of-2.result = search rules in
-    c.difference-step.ensures.within 2000000 1000000 from to
-
 pub returns-then-not-is_moved-clause-none : goal.returns-then-not-is_moved-clause-none
 returns-then-not-is_moved-clause-none g c by turn l =
     let s = c.difference-step.result in
@@ -39,11 +33,10 @@ returns-clause-some g c =
     let met = g.met.G.Grid in
     let geometry = g.G.Grid.geometry in
     let s = c.difference-step.result in
-    let items = c.turned-turned.result.items in
     let units = c.in-Some.units in
     let from : IsWithin 2000000 c.first_of.result = search rules in
     let to : IsWithin 1000000 c.first_of-2.result = search rules in
     let near = c.in-Some.ensures.near 3000000 (c.difference-step.ensures.within 2000000 1000000 from to) in
     let unit : read c.UNIT.result ≡ pos geometry.unit = omega (arith, ints, c.UNIT.ensures, met.sizes.unit_is, met.laws.unit_range.1) in
     let moved = sym c.cells-cells.ensures.cells ∙ c.is_moved.ensures.yes c.if-not-is_moved.false ∙ ap (map (plus s)) c.as_slice-2.ensures.value in
-    gives_tile geometry (read c.UNIT.result) (record { turn = c.args.k; da = read units.a; db = read units.b }) units s c.args.shape.now items c.args.tile.now unit (omega (arith, ints, near.a_low, near.a_high)) (omega (arith, ints, near.b_low, near.b_high)) c.in-Some.ensures.some c.turned-turned.ensures.list moved
+    gives_tile geometry (read c.UNIT.result) (record { turn = c.args.k; da = read units.a; db = read units.b }) units s c.args.shape.now c.turned-turned.result.items c.args.tile.now unit (omega (arith, ints, near.a_low, near.a_high)) (omega (arith, ints, near.b_low, near.b_high)) c.in-Some.ensures.some c.turned-turned.ensures.list moved

@@ -5,4 +5,4 @@ use Rattle.heesch_rup.proofs.newness.all_new.Goals as goal
 
 pub returns : goal.returns
 returns g c =
-    subst (λ (x : Clauses). IfOk c.all_new_flat.result (λ yes. IsTrue yes ↔ LinesAreNew x.clauses c.args.log.now.lines)) c.in_ok-flat.ensures c.all_new_flat.ensures
+    subst (λ (x : Clauses). IfOk c.all_new_steps.result (λ yes. IsTrue yes ↔ LinesAreNew x.clauses c.args.log.now.lines)) c.in_ok-flat.ensures c.all_new_steps.ensures

@@ -2,7 +2,6 @@ use Rattle.std.proofs.Common.{◌+◌, ◌++◌, ◌∙◌, ap, arith, length, m
 use Rattle.heesch_cert.specs.declared.entry.Entry.{Entry}
 use Rattle.std.proofs.lemmas.List.{take_all}
 use Rattle.heesch_catalogue.proofs.EntryLists.{entries_both}
-use Rattle.heesch_catalogue.proofs.LimitTests.{limits_pass}
 use Rattle.heesch_sample.specs.Samples.{AreCountsOf, HaveCounts}
 use Rattle.heesch_sample.proofs.Tallies.{entries_between, none_counted, round_counted, round_length}
 use Rattle.heesch_sample.proofs.samples.tally_of.Goals as goal
@@ -13,9 +12,6 @@ loop-from-init g c = record {
   counted = none_counted g.G.Grid.geometry c.args.limits c.new-tally.result c.new-tally.ensures;
   shapes = cc;
 }
-
-pub items_between-requires-clause-accepted : goal.items_between-requires-clause-accepted
-items_between-requires-clause-accepted g c κs within = limits_pass c.args.limits c.requires.limits
 
 pub add_entries-requires-clause-of_shapes : goal.add_entries-requires-clause-of_shapes
 add_entries-requires-clause-of_shapes g c =

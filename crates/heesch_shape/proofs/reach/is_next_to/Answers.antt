@@ -12,19 +12,17 @@ zero_cell = cell (pos 0) (pos 0)
 
 pub returns-then-are_adjacent-clause-yes : goal.returns-then-are_adjacent-clause-yes
 returns-then-are_adjacent-clause-yes g c =
-    let met = g.met.G.Grid in
     let xs = c.args.inside.now in
     let x = get_or xs c.loop-c.c-index zero_cell in
     let x_in = has_at xs c.loop-c.c-index zero_cell c.loop-c-test.true in
-    λ _. record { from = x; is_in = x_in; adjacent = (adjacent_exact g.G.Grid.geometry met.laws x c.args.d (c.requires.cells x x_in)).0 (sym c.are_adjacent.ensures ∙ c.if-are_adjacent.true) }
+    λ _. record { from = x; is_in = x_in; adjacent = (adjacent_exact g.G.Grid.geometry g.met.G.Grid.laws x c.args.d (c.requires.cells x x_in)).0 (sym c.are_adjacent.ensures ∙ c.if-are_adjacent.true) }
 
 pub loop-c-preserved : goal.loop-c-preserved
 loop-c-preserved g c =
-    let met = g.met.G.Grid in
     let xs = c.args.inside.now in
     let x = get_or xs c.loop-c.c-index zero_cell in
     let x_in = has_at xs c.loop-c.c-index zero_cell c.loop-c-test.true in
-    none_more g.G.Grid.geometry xs c.loop-c.c-index zero_cell c.args.d c.loop-c-test.true c.loop-c.invariant (λ a. true≢false (sym ((adjacent_exact g.G.Grid.geometry met.laws x c.args.d (c.requires.cells x x_in)).1 a) ∙ sym c.are_adjacent.ensures ∙ c.if-are_adjacent.false))
+    none_more g.G.Grid.geometry xs c.loop-c.c-index zero_cell c.args.d c.loop-c-test.true c.loop-c.invariant (λ a. true≢false (sym ((adjacent_exact g.G.Grid.geometry g.met.G.Grid.laws x c.args.d (c.requires.cells x x_in)).1 a) ∙ sym c.are_adjacent.ensures ∙ c.if-are_adjacent.false))
 
 pub are_adjacent-requires-clause-cell : goal.are_adjacent-requires-clause-cell
 are_adjacent-requires-clause-cell g c =

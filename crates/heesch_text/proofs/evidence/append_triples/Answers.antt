@@ -6,8 +6,12 @@ use Rattle.heesch_text.proofs.Items.{all_flat_map, all_of_all}
 use Rattle.heesch_text.proofs.Kept.{kept_through}
 use Rattle.heesch_text.proofs.evidence.append_triples.Goals as goal
 
-pub returns-in_err-append_triple_proof-clause-kept : goal.returns-in_err-append_triple_proof-clause-kept
-returns-in_err-append_triple_proof-clause-kept c = kept_through _ _ _ _ c.loop-triple.invariant.written c.append_triple_proof.ensures.kept
+pub returns-in_err-append_triple_line-clause-kept : goal.returns-in_err-append_triple_line-clause-kept
+returns-in_err-append_triple_line-clause-kept c = kept_through _ _ _ _ c.loop-triple.invariant.written c.append_triple_line.ensures.kept
+
+pub returns-in_err-append_proof-clause-kept : goal.returns-in_err-append_proof-clause-kept
+returns-in_err-append_proof-clause-kept c =
+    kept_through _ _ _ _ c.loop-triple.invariant.written (kept_through _ _ _ _ c.in_ok-append_triple_line.ensures.ok c.append_proof.ensures.kept)
 
 pub returns-clause-naturals : goal.returns-clause-naturals
 returns-clause-naturals c =

@@ -1,11 +1,21 @@
-use Rattle.heesch_verdict.proofs.Entries.{right_of}
+use Rattle.heesch_cert.proofs.EntryRight.{true_entries_are_right}
+use Rattle.heesch_verdict.proofs.Entries.{true_entry, earliest_cover}
 use Rattle.heesch_verdict.proofs.classifying.classify.Goals as goal
 
-pub returns-in-Some-clause-right : goal.returns-in-Some-clause-right
-returns-in-Some-clause-right g c = right_of g.G.Grid.geometry g.met.G.Grid.laws c.args.limits c.requires.limits c.tiled_entry.result c.tiled_entry.ensures.entry
-
-pub returns-in-Some-2-clause-right : goal.returns-in-Some-2-clause-right
-returns-in-Some-2-clause-right g c = right_of g.G.Grid.geometry g.met.G.Grid.laws c.args.limits c.requires.limits c.periodic_entry.result c.periodic_entry.ensures.entry
-
-pub returns-clause-right : goal.returns-clause-right
-returns-clause-right g c = right_of g.G.Grid.geometry g.met.G.Grid.laws c.args.limits c.requires.limits c.corona_entry.result c.corona_entry.ensures.entry
+pub returns : goal.returns
+returns g c =
+    let geometry = g.G.Grid.geometry in
+    let limits = c.args.limits in
+    let shape = c.args.shape.now in
+    let cells = c.in_ok-cells.cells in
+    let is = c.in_ok-cells.ensures.cells in
+    let judged = c.in_ok-verdict.field-0 in
+    let j = c.in_ok-verdict.ensures in
+    let entry = true_entry geometry limits shape cells is judged j in
+    record {
+      cells = is;
+      entry = entry;
+      right = true_entries_are_right geometry limits _ g.met.G.Grid.laws c.requires.limits entry;
+      reduced = j.reduced;
+      earliest = earliest_cover geometry limits shape cells is judged j;
+    }

@@ -33,10 +33,8 @@ returns g c =
     let geometry = g.G.Grid.geometry in
     let shape = c.args.shape.now in
     let self = c.args.self.now in
-    let proof = c.args.proof.now in
     let e = c.in-Some.encoded in
-    let log = c.in-Some-2.log in
     let at : IsFormulaAt self.limits.version geometry shape self.level self.limits.size e.universe e.formula = search rules in
-    let is = subst (λ (o : Option Log). MatchOption o (¬ All (IsLawfulStep geometry shape e.universe.level e.universe.vars) proof.steps) (IsLogOf geometry shape e.universe.level e.universe.vars proof)) c.in-Some-2.is c.in_ok-log.ensures in
-    let both = ends_coronas self.limits geometry g.met.G.Grid.laws shape c.requires.shape.is_shape.polyform self.level e.universe e.formula at proof log is c.args.end in
+    let is = subst (λ (o : Option Log). MatchOption o (¬ All (IsLawfulStep geometry shape e.universe.level e.universe.vars) c.args.proof.now.steps) (IsLogOf geometry shape e.universe.level e.universe.vars c.args.proof.now)) c.in-Some-2.is c.in_ok-log.ensures in
+    let both = ends_coronas self.limits geometry g.met.G.Grid.laws shape c.requires.shape.is_shape.polyform self.level e.universe e.formula at c.args.proof.now c.in-Some-2.log is c.args.end in
     IfOk-weaker c.is_ended.result _ _ (λ yes h. through h both) c.is_ended.ensures

@@ -1,8 +1,7 @@
-use Rattle.heesch_catalogue.proofs.LimitTests.{limits_by_test}
 use Rattle.heesch_outers.proofs.answers.OuterTextShapeText.item.Goals as goal
 
 pub classify-requires-clause-limits : goal.classify-requires-clause-limits
-classify-requires-clause-limits g c = limits_by_test c.args.self.now.limits c.requires
+classify-requires-clause-limits g c = c.args.self.now.valid
 
 pub outer-requires-clause-limits : goal.outer-requires-clause-limits
-outer-requires-clause-limits g c = limits_by_test c.args.self.now.limits c.requires
+outer-requires-clause-limits g c = c.args.self.now.valid

@@ -1,5 +1,5 @@
 use Rattle.std.proofs.Common.{◌≡◌, Err, arith, rules}
-use Rattle.heesch_parts.specs.declared.join_stop.JoinStop.TheVariants as stops
+use Rattle.heesch_line.specs.declared.stops.LineStop.TheVariants as stops
 use Rattle.heesch_parts.specs.Joining.{kept_of}
 use Rattle.heesch_parts.proofs.Feeding.{held_until}
 use Rattle.heesch_parts.proofs.scan.Scan.advance.Goals as goal

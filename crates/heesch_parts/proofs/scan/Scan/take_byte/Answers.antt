@@ -1,5 +1,5 @@
 use Rattle.std.proofs.Common.{◌≡◌, [], ◌∷◌, Err, refl, rules}
-use Rattle.heesch_parts.specs.declared.join_stop.JoinStop.TheVariants as stops
+use Rattle.heesch_line.specs.declared.stops.LineStop.TheVariants as stops
 use Rattle.heesch_parts.specs.Joining.{kept_of}
 use Rattle.heesch_parts.proofs.Feeding.{byte_fed, refused_before}
 use Rattle.heesch_parts.proofs.scan.Scan.take_byte.Goals as goal

@@ -5,6 +5,7 @@ use Rattle.heesch_cnf.specs.Flat.{code_of}
 use Rattle.heesch_rup.proofs.Rarest.{codes-lt, slot_of-lt}
 use Rattle.heesch_rup.proofs.Chains.{lists_last, lists_earlier}
 use Rattle.heesch_rup.proofs.occurrences.Occurrences.list_next.Goals as goal
+use Rattle.heesch_rup.proofs.occurrences.Occurrences.list_next.Goals.{After-slot_of-slot}
 
 pub slot_of-slot-requires : goal.slot_of-slot-requires
 slot_of-slot-requires c =
@@ -14,19 +15,21 @@ slot_of-slot-requires c =
     subst (λ (ls : List Lit). All (λ l. code_of l < n) ls) (sym c.clause_at.ensures)
     (codes-lt c.args.formula.now.vars n (get_or clauses c.len-place.result []) (c.requires.form c.len-place.result [] (omega arith)) room)
 
+-- the slot is that of the next clause, and there is one
+slot_is : (c : After-slot_of-slot) → c.slot_of-slot.result ≡ slot_of c.args.self.now.counts.items (get_or (c.args.formula.now.clauses ++ c.args.added.now.clauses) c.len-place.result [])
+slot_is c = c.slot_of-slot.ensures ∙ (ap (λ (cs : List ℕ). slot_of cs c.clause_at.result.now) c.as_slice.ensures.value ∙ ap (slot_of c.args.self.now.counts.items) c.clause_at.ensures)
+
+slot_fits : (c : After-slot_of-slot) → c.slot_of-slot.result < vec_len c.args.self.now.last
+slot_fits c =
+    let next = get_or (c.args.formula.now.clauses ++ c.args.added.now.clauses) c.len-place.result [] in
+    let fits = slot_of-lt c.args.self.now.counts.items c.args.formula.now.vars (vec_len c.args.self.now.last) next (c.requires.form c.len-place.result [] (omega arith)) c.requires.room in
+    omega (arith, slot_is c, fits)
+
 pub index-requires : goal.index-requires
-index-requires c =
-    let clauses = c.args.formula.now.clauses ++ c.args.added.now.clauses in
-    let same = c.slot_of-slot.ensures ∙ (ap (λ (cs : List ℕ). slot_of cs c.clause_at.result.now) c.as_slice.ensures.value ∙ ap (slot_of c.args.self.now.counts.items) c.clause_at.ensures) in
-    let fits = slot_of-lt c.args.self.now.counts.items c.args.formula.now.vars (vec_len c.args.self.now.last) (get_or clauses c.len-place.result []) (c.requires.form c.len-place.result [] (omega arith)) c.requires.room in
-    omega (arith, same)
+index-requires c = slot_fits (goal.at.index-requires c).After-slot_of-slot
 
 pub index_mut-requires : goal.index_mut-requires
-index_mut-requires c =
-    let clauses = c.args.formula.now.clauses ++ c.args.added.now.clauses in
-    let same = c.slot_of-slot.ensures ∙ (ap (λ (cs : List ℕ). slot_of cs c.clause_at.result.now) c.as_slice.ensures.value ∙ ap (slot_of c.args.self.now.counts.items) c.clause_at.ensures) in
-    let fits = slot_of-lt c.args.self.now.counts.items c.args.formula.now.vars (vec_len c.args.self.now.last) (get_or clauses c.len-place.result []) (c.requires.form c.len-place.result [] (omega arith)) c.requires.room in
-    omega (arith, same)
+index_mut-requires c = slot_fits (goal.at.index_mut-requires c).After-slot_of-slot
 
 pub returns-clause-lists : goal.returns-clause-lists
 returns-clause-lists c =
@@ -36,9 +39,9 @@ returns-clause-lists c =
     let earlier = c.args.self.now.earlier.items in
     let n = c.len-place.result in
     let slot = c.slot_of-slot.result in
-    let same = c.slot_of-slot.ensures ∙ (ap (λ (cs : List ℕ). slot_of cs c.clause_at.result.now) c.as_slice.ensures.value ∙ ap (slot_of c.args.self.now.counts.items) c.clause_at.ensures) in
-    let room = slot_of-lt c.args.self.now.counts.items c.args.formula.now.vars (vec_len c.args.self.now.last) (get_or clauses n []) (c.requires.form n [] (omega arith)) c.requires.room in
-    let fits : slot < length last = omega (arith, same) in
+    let a = (goal.at.returns-clause-lists c).After-slot_of-slot in
+    let same = slot_is a in
+    let fits : slot < length last = omega (arith, slot_fits a) in
     let n_is : n ≡ length earlier = omega arith in
     let longer = ap length c.in_ok-push.ensures.items in
     let m_is : length c.push.new.self.items ≡ n + 1 = omega (arith, longer, length-append earlier (c.index.result.now ∷ []), n_is) in

@@ -34,7 +34,7 @@ returns-clause-ok c =
     let made : c.push.new.self.items ≡ t.made.items ++ s.lit ∷ [] = search rules in
     let steps = ap (steps_of (set t.levels.items s.lit.var s.level) (set t.reasons.items s.lit.var b)) made
     ∙ steps-push t.levels.items t.reasons.items t.made.items s b (ap (λ ls. making ls s.lit.var) (sym (made_by-steps t.levels.items t.reasons.items t.made.items)) ∙ holds.was_open)
-    (omega (arith, inner.level_room, high)) (omega (arith, inner.reason_room, high)) c.reason_number.ensures in
+    (omega (arith, inner.held.level_room, high)) (omega (arith, inner.held.reason_room, high)) c.reason_number.ensures in
     ap (λ (ss : List Step). the_state t.formula.vars t.formula.clauses ss) steps
     ∙ ap (λ (st : State). the_state st.vars st.clauses (st.steps ++ s ∷ [])) c.self.view_is
   where

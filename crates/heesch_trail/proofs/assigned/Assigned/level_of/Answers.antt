@@ -10,5 +10,5 @@ returns-in-None c = sym (ap (option_map (λ (x : Step). x.level)) (fact-read c.s
 
 pub returns-in-Some : goal.returns-in-Some
 returns-in-Some c =
-    ap Some (c.index.ensures ∙ get_or_default c.self.inside.levels.items c.args.var c.index.result.now 0 (omega (arith, c.self.invariant.level_room, ap (λ (s : State). s.vars) c.self.view_is, c.requires)))
+    ap Some (c.index.ensures ∙ get_or_default c.self.inside.levels.items c.args.var c.index.result.now 0 (omega (arith, c.self.invariant.held.level_room, ap (λ (s : State). s.vars) c.self.view_is, c.requires)))
     ∙ sym (ap (option_map (λ (x : Step). x.level)) (fact-read c.self.inside.levels.items c.self.inside.reasons.items c.self.inside.made.items c.args.self.now.steps (ap (λ (s : State). s.steps) c.self.view_is) c.args.var _ (sym c.in-Some.is ∙ c.value.ensures)))

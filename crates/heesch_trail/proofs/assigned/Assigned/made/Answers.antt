@@ -6,4 +6,4 @@ use Rattle.heesch_trail.proofs.assigned.Assigned.made.Goals as goal
 pub returns-clause-made : goal.returns-clause-made
 returns-clause-made c =
     let t = c.self.inside in
-    c.as_slice.ensures.value ∙ sym (made_by-steps t.levels.items t.reasons.items t.made.items) ∙ ap (λ (s : State). made_by s.steps) c.self.view_is
+    c.deref.ensures.value ∙ sym (made_by-steps t.levels.items t.reasons.items t.made.items) ∙ ap (λ (s : State). made_by s.steps) c.self.view_is

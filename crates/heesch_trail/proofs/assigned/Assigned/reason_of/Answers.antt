@@ -11,5 +11,5 @@ returns-in-None c = sym (ap (option_and_then (λ (x : Step). x.reason)) (fact-re
 
 pub returns-in-Some : goal.returns-in-Some
 returns-in-Some c =
-    c.reason_of_number.ensures ∙ ap reason_in (c.index.ensures ∙ get_or_default c.self.inside.reasons.items c.args.var c.index.result.now 0 (omega (arith, c.self.invariant.reason_room, ap (λ (s : State). s.vars) c.self.view_is, c.requires)))
+    c.reason_of_number.ensures ∙ ap reason_in (c.index.ensures ∙ get_or_default c.self.inside.reasons.items c.args.var c.index.result.now 0 (omega (arith, c.self.invariant.held.reason_room, ap (λ (s : State). s.vars) c.self.view_is, c.requires)))
     ∙ sym (ap (option_and_then (λ (x : Step). x.reason)) (fact-read c.self.inside.levels.items c.self.inside.reasons.items c.self.inside.made.items c.args.self.now.steps (ap (λ (s : State). s.steps) c.self.view_is) c.args.var _ (sym c.in-Some.is ∙ c.value.ensures)))

@@ -11,5 +11,5 @@ returns c =
     let t = c.self.inside in
     let l : Lit = record { var = c.args.var; positive = true } in
     let vars = ap (λ (s : State). s.vars) c.self.view_is in
-    c.value.ensures ∙ ap value_in (c.index.ensures ∙ get_or_default t.values.items (2 * c.args.var + 1) c.index.result.now Open (omega (arith, c.self.invariant.room, vars, c.requires)))
-    ∙ c.self.invariant.values_are l (omega (arith, vars, c.requires)) ∙ ap (λ (s : State). values_of s.steps c.args.var) c.self.view_is
+    c.value.ensures ∙ ap value_in (c.index.ensures ∙ get_or_default t.values.items (2 * c.args.var + 1) c.index.result.now Open (omega (arith, c.self.invariant.held.room, vars, c.requires)))
+    ∙ c.self.invariant.held.values_are l (omega (arith, vars, c.requires)) ∙ ap (λ (s : State). values_of s.steps c.args.var) c.self.view_is

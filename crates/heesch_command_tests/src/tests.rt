@@ -1,0 +1,5 @@
+//! A module for each crate that is tried.
+mod catalogue;
+mod check;
+mod outers;
+mod sample;

@@ -1,0 +1,49 @@
+//! What an outer text has, how many calls it takes, and what stands written where one fails.
+use heesch_cert::Limits;
+use heesch_cnf::Version;
+use heesch_grid::GridName;
+use heesch_io::{IoStop, MemorySink};
+use heesch_made::LIMITS;
+use heesch_outers::write_outers_of_size;
+use heesch_pool::{Crew, Open};
+use std::test::Fail;
+
+/// Limits under which the triangle's Heesch number stays open.
+const NARROW: Limits = Limits {
+    levels: 1,
+    domain: 1,
+    version: Version::Two,
+    ..LIMITS
+};
+
+const RECORD: &[u8] = b"shape 1,1
+verdict undecided levels 1
+coronas 1
+layer 0,0,-1 0,1,-1 1,0,-1 1,1,-1 1,2,-1 0,-1,0 0,1,0 1,0,0 1,1,0 0,-1,1 0,0,1 1,0,1
+hh undecided
+";
+
+#[test]
+fn an_outer_text_has_no_header(rt: HostRuntime) -> Result<(), Fail> {
+    let alloc = rt.alloc();
+    let mut sink = MemorySink::new(alloc, 1000, 1000, Vec::new(alloc))?;
+    let crew = Crew::new(&rt, alloc, 2, &Open);
+    let written = write_outers_of_size(&crew, GridName::Iamond, 1, NARROW, &mut sink);
+    assert_eq!(rt; written, Ok(()));
+    assert_eq!(rt; sink.calls, 2);
+    let mut text = RECORD.to_vec(alloc)?;
+    text.extend_from_slice(b"end 1\n")?;
+    assert_eq!(rt; sink.held.as_slice(), text.as_slice());
+    Ok(())
+}
+
+#[test]
+fn a_sink_that_fails_holds_the_records_before(rt: HostRuntime) -> Result<(), Fail> {
+    let alloc = rt.alloc();
+    let mut sink = MemorySink::new(alloc, 1000, 1000, [2].to_vec(alloc)?)?;
+    let crew = Crew::new(&rt, alloc, 1, &Open);
+    let written = write_outers_of_size(&crew, GridName::Iamond, 1, NARROW, &mut sink);
+    assert_eq!(rt; written, Err(IoStop::Failed));
+    assert_eq!(rt; sink.held.as_slice(), RECORD);
+    Ok(())
+}

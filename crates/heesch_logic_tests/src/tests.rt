@@ -1,0 +1,9 @@
+//! A module for each crate that is tried.
+mod claims;
+mod effort;
+mod exact;
+mod io;
+mod made;
+mod rup;
+mod solver;
+mod trail;

@@ -1,0 +1,85 @@
+//! `heesch classify GRID given`: shapes from input.
+use super::running::{first_other, room, run_over};
+use heesch_app::Status;
+use heesch_io::MemorySource;
+use std::test::Fail;
+
+#[test]
+fn given_shapes_are_classified_in_their_order(rt: HostRuntime) -> Result<(), Fail> {
+    let rows = [
+        (
+            "classify square given",
+            "0,0 1,0 2,0 0,1 2,1 0,2 1,2",
+            Status::Done,
+            "heesch 2 square given turns 20000 levels 3 domain 4 size 60000000\nshape 0,0 1,0 2,0 0,1 2,1 0,2 1,2\nverdict heesch 0 nontiler 1\ncoronas 0\nwall 1 refuted\nempty 9\nbare 1 same\nend 1\n",
+        ),
+        (
+            "classify square given --brief",
+            "0,0 1,0 2,0 0,1 2,1 0,2 1,2\n",
+            Status::Done,
+            "brief 2 square given turns 20000 levels 3 domain 4 size 60000000\nshape 0,0 1,0 2,0 0,1 2,1 0,2 1,2\nverdict heesch 0 nontiler 1\nend 1\n",
+        ),
+        (
+            "classify hex given",
+            "1,0 2,0 0,1 2,1 0,2 1,2\n",
+            Status::Done,
+            "heesch 2 hex given turns 20000 levels 3 domain 4 size 60000000\nshape 1,0 2,0 0,1 2,1 0,2 1,2\nverdict heesch 0 nontiler 1\ncoronas 0\nwall 1 refuted\nempty 7\nbare 1 same\nend 1\n",
+        ),
+        (
+            "classify square given",
+            "5,5 5,6 6,6 7,6 7,5\n",
+            Status::Done,
+            "heesch 2 square given turns 20000 levels 3 domain 4 size 60000000\nshape 0,0 1,0 2,0 0,1 2,1\nverdict tiles halfturn domain 2 classes 1\nlattice 10 1 3\ntile 0 0 0 class 1 by 0 0 0\ntile 2 5 0 class 1 by 2 5 0\nend 1\n",
+        ),
+        (
+            "classify square given",
+            "",
+            Status::Done,
+            "heesch 2 square given turns 20000 levels 3 domain 4 size 60000000\nend 0\n",
+        ),
+    ];
+    assert_eq!(rt; first_other(&rt, rt.alloc(), &rows)?, None);
+    Ok(())
+}
+
+/// 33 cells in a row.
+const MANY_CELLS: &str =
+    "0,0 1,0 2,0 3,0 4,0 5,0 6,0 7,0 8,0 9,0 10,0 11,0 12,0 13,0 14,0 15,0 16,0 17,0 18,0 19,0 20,0 21,0 22,0 23,0 24,0 25,0 26,0 27,0 28,0 29,0 30,0 31,0 32,0";
+
+#[test]
+fn the_first_fault_is_told(rt: HostRuntime) -> Result<(), Fail> {
+    let alloc = rt.alloc();
+    let many_lines = "0,0\n".repeat(alloc, 10_001)?;
+    for (grid, input, told) in [
+        ("square", "0,0 1,0\n0,0 1,0 0,0\n", "bad input 2 4\n"),
+        ("square", "0,0 2,0\n", "bad input 1 5\n"),
+        ("square", MANY_CELLS, "bad input 1 2\n"),
+        ("square", &many_lines, "bad input 10001 7\n"),
+        ("square", "0,0\n\n", "bad input 2 1\n"),
+        ("square", "0,0 \n", "bad input 1 6\n"),
+        ("square", "0,0\n0,0 5,5\nxx\n", "bad input 2 5\n"),
+        ("iamond", "2,1\n", "bad input 1 3\n"),
+    ] {
+        let line = format!(in alloc; "classify {grid} given")?;
+        let rows = [(line.as_str(), input, Status::BadInput, told)];
+        assert!(rt; first_other(&rt, alloc, &rows)?.is_none(), "{told}");
+    }
+    Ok(())
+}
+
+#[test]
+fn a_source_that_fails_writes_nothing(rt: HostRuntime) -> Result<(), Fail> {
+    let alloc = rt.alloc();
+    let bytes = "0,0 1,0\n".as_bytes().to_vec(alloc)?;
+    let source = MemorySource::new(bytes, 5, [2].to_vec(alloc)?);
+    let (status, sink) = run_over(
+        &rt,
+        alloc,
+        "classify square given",
+        source,
+        room(alloc, 100)?,
+    )?;
+    assert_eq!(rt; status, Status::ReadFault);
+    assert_eq!(rt; sink.calls, 0);
+    Ok(())
+}

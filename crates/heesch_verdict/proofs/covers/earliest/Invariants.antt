@@ -1,6 +1,0 @@
-use Rattle.std.proofs.Common.{take, All}
-use Rattle.heesch_verdict.specs.Earliest.{IsPassedOver}
-use Rattle.heesch_verdict.proofs.covers.earliest.Given as goal
-
-abbrev pub invariant-loop-triple : goal.invariant-loop-triple
-invariant-loop-triple g l = All (IsPassedOver g.G.Grid.geometry l.shape l.turns) (take l.triple-index l.left)
