@@ -1,3 +1,4 @@
+//! The statuses in which a run ends, with their numbers.
 ghost use Rattle.std.specs.Prelude.{◌≡◌};
 ghost use Rattle.heesch_app.specs.Endings.{written_status};
 ghost use Rattle.heesch_app.specs.Statuses.{status_number};

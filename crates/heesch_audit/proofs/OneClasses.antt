@@ -1,6 +1,7 @@
 -- The classes of a cover are determined: their numbers by their first tiles, and each symmetry by its turn.
 use Rattle.std.proofs.Common.{◌≡◌, refl, sym, ap, subst, ◌∙◌, ℕ, zero, suc, ◌+◌, ◌<◌, ◌≤◌, List, [], ◌∷◌, ◌++◌, length, max, take, get_or, Some, None, inl, inr, arith, not-suc-le-zero, le_of_suc-le-suc}
 use Rattle.std.specs.List.{slice_get}
+use Rattle.std.specs.Prelude.{◌↔◌}
 use Rattle.std.proofs.lemmas.Bool.{cases_lt}
 use Rattle.std.proofs.lemmas.List.{take_more}
 use Rattle.std.proofs.lemmas.List.Sums.{fold-append}
@@ -214,3 +215,10 @@ module _ (g : Geometry) (law : IsGrid g) (shape : List Cell) (some : 0 < length 
     one_classes =
         let members : xs ≡ ys = same_by_elements xs ys (p.one_each ∙ sym q.one_each) same_member in
         (p.count_is ∙ (ap greatest_class members ∙ sym q.count_is), members)
+
+  -- as many members as those of one division are those of another exactly where they are the same
+  pub same_classes : (xs ys : List Member) (count other : ℕ) → count ≡ other → AreClasses g shape t places count xs → (xs ≡ ys) ↔ AreClasses g shape t places other ys
+  same_classes xs ys count other e p = (
+    (λ same. subst (λ (ms : List Member). AreClasses g shape t places other ms) same (subst (λ (n : ℕ). AreClasses g shape t places n xs) e p)),
+    (λ q. (one_classes xs ys count other p q).1),
+  )

@@ -14,11 +14,10 @@ use Rattle.heesch_cert.specs.declared.entry.TripleProof.{TripleProof}
 use Rattle.heesch_cert.specs.declared.entry.Evidence.{Evidence}
 use Rattle.heesch_cert.specs.declared.entry.Evidence.TheVariants.{Cover, Search}
 use Rattle.heesch_cert.specs.declared.entry.Entry.{Entry}
-use Rattle.heesch_cert.specs.Limits.{AreLimits}
 use Rattle.heesch_cert.specs.Parts.{IsLeastFailing}
 use Rattle.heesch_cert.specs.Proofs.{SettlesTriple}
 use Rattle.heesch_cert.specs.TrueEntry.{IsTrueEntry, TriplesHold}
-use Rattle.heesch_audit.specs.Portions.{triples_of, AreProved, AreTriplesAsked, AreTriplesFor, HoldsBesideProofs, PartsHold, PortionHolds}
+use Rattle.heesch_audit.specs.Portions.{triples_of, AreProved, AreTriplesAsked, AreTriplesFor, PartsHold, PortionHolds}
 use Rattle.heesch_audit.specs.Shapes.{AreCanonical}
 use Rattle.heesch_audit.proofs.Listed.{have_domains}
 use Rattle.heesch_audit.proofs.Parts.{parts_hold, true_where}

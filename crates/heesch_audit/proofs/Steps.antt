@@ -1,9 +1,8 @@
 -- Places that lie a step apart.
 use Rattle.std.proofs.Common.{◌≡◌, refl, sym, ◌∙◌, ap, subst, ℕ, ◌+◌, ◌*◌, ◌/◌, ◌%◌, ◌<◌, ◌≤◌, List, length, get_or, arith, inl, inr}
 use Rattle.std.specs.Prelude.{Some, slice_get}
-use Rattle.std.proofs.Math.Nat.{mod-eq_of_lt, mul-add, mul-pos, mul-div_cancel_left, mul-le-mul_left, mul-mod_right, mul-one}
+use Rattle.std.proofs.Math.Nat.{mod-eq_of_lt, mul-add, mul-le-mul_left, mul-one}
 use Rattle.std.proofs.lemmas.Bool.{cases_lt}
-use Rattle.std.proofs.lemmas.Nat.{le-div}
 use Rattle.std.proofs.lemmas.Option.{slice_get_read}
 
 -- a place of the same remainder, from one on and less than a step above it, is that place

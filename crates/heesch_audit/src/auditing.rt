@@ -29,11 +29,7 @@ pub enum EntryAnswer {
 
 impl<'a, G: Grid> Audited<'a, G> {
     /// The least of the parts 2 to 8 that fails, where the shape is that of the entry.
-    pub(crate) fn failing_part<R: Threads + Sync>(
-        &self,
-        rt: &R,
-        alloc: Global,
-    ) -> Result<Option<u32>, NoMemory>
+    pub(crate) fn failing_part<R: Threads + Sync>(&self, rt: &R) -> Result<Option<u32>, NoMemory>
         requires shape { IsCanonicalShape G.geometry self.now.shape.now }
         requires same { self.now.shape.now ≡ self.now.entry.now.cells }
         requires canonical { AreCanonical G.geometry self.now.entry.now.cells }
@@ -44,16 +40,16 @@ impl<'a, G: Grid> Audited<'a, G> {
         if !self.form_fits() {
             return Ok(Some(2));
         }
-        if !self.cover_holds(alloc)? {
+        if !self.cover_holds()? {
             return Ok(Some(3));
         }
-        if !self.classes_hold(alloc)? {
+        if !self.classes_hold()? {
             return Ok(Some(4));
         }
-        if !self.free_holds(alloc)? {
+        if !self.free_holds()? {
             return Ok(Some(5));
         }
-        self.failing_search(rt, alloc)
+        self.failing_search(rt)
     }
 }
 
@@ -83,14 +79,15 @@ pub fn audit<G: Grid, R: Threads + Sync>(
         return Ok(EntryAnswer::Invalid { part: 1 });
     };
     let audited = Audited {
+        alloc,
         shape: &shape,
         entry,
         limits,
     };
-    if let Some(part) = audited.failing_part(rt, alloc)? {
+    if let Some(part) = audited.failing_part(rt)? {
         return Ok(EntryAnswer::Invalid { part });
     }
-    if !audited.triples_hold(rt, alloc)? {
+    if !audited.triples_hold(rt)? {
         return Ok(EntryAnswer::Invalid { part: 9 });
     }
     Ok(EntryAnswer::Valid)

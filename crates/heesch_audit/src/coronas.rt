@@ -8,7 +8,6 @@ ghost use Rattle.heesch_audit.specs.Spelling.{SpellCoronas};
 
 use crate::audited::Audited;
 use crate::spelling::are_spelled;
-use crate::walls::first_number;
 use heesch_cert::{Evidence, Layers};
 use heesch_corona::{CoronaAnswer, check_coronas};
 use heesch_grid::Grid;
@@ -62,7 +61,7 @@ pub(crate) fn is_open<G: Grid>(
 impl<'a, G: Grid> Audited<'a, G> {
     /// Part 5: whether the layers of the evidence, where it is of searches, are hole-free coronas, as many as the
     /// verdict says. The form being right, there are at most six.
-    pub(crate) fn free_holds(&self, alloc: Global) -> Result<bool, NoMemory>
+    pub(crate) fn free_holds(&self) -> Result<bool, NoMemory>
         requires shape { IsCanonicalShape G.geometry self.now.shape.now }
         requires bounds { HasFewLayers self.now.entry.now.verdict self.now.entry.now.evidence }
         requires near { IsNearEvidence self.now.entry.now.evidence }
@@ -71,10 +70,10 @@ impl<'a, G: Grid> Audited<'a, G> {
         match &self.entry.evidence {
             Evidence::Cover { .. } => Ok(true),
             Evidence::Search { free, .. } => {
-                if free.layers.len() != first_number(self.entry.verdict) as usize {
+                if free.layers.len() != self.entry.verdict.first_number() as usize {
                     return Ok(false);
                 }
-                spell_coronas(alloc, self.shape, free, true)
+                spell_coronas(self.alloc, self.shape, free, true)
             }
         }
     }

@@ -88,21 +88,21 @@ fn are_classes<G: Grid>(
 impl<'a, G: Grid> Audited<'a, G> {
     /// Part 3: whether the evidence, where it is a cover, is a periodic one. The form being right, it has at most 12
     /// places.
-    pub(crate) fn cover_holds(&self, alloc: Global) -> Result<bool, NoMemory>
+    pub(crate) fn cover_holds(&self) -> Result<bool, NoMemory>
         requires shape { IsCanonicalShape G.geometry self.now.shape.now }
         requires bounds { HasFewPlaces self.now.entry.now.evidence }
         requires near { IsNearEvidence self.now.entry.now.evidence }
         ensures { IfOk result (λ yes. IsTrue yes ↔ CoverHolds G.geometry self.now.shape.now self.now.entry.now.evidence) }
     {
         match &self.entry.evidence {
-            Evidence::Cover { tiling, .. } => is_cover(alloc, self.shape, tiling),
+            Evidence::Cover { tiling, .. } => is_cover(self.alloc, self.shape, tiling),
             Evidence::Search { .. } => Ok(true),
         }
     }
 
     /// Part 4: whether the classes of the evidence, where it is a cover, are those of the cover, as many as the verdict
     /// says.
-    pub(crate) fn classes_hold(&self, alloc: Global) -> Result<bool, NoMemory>
+    pub(crate) fn classes_hold(&self) -> Result<bool, NoMemory>
         requires shape { IsCanonicalShape G.geometry self.now.shape.now }
         requires bounds { HasFewPlaces self.now.entry.now.evidence }
         requires cover { CoverHolds G.geometry self.now.shape.now self.now.entry.now.evidence }
@@ -115,6 +115,6 @@ impl<'a, G: Grid> Audited<'a, G> {
         let Verdict::Tiles { classes: count, .. } = self.entry.verdict else {
             return Ok(false);
         };
-        are_classes(alloc, self.shape, tiling, classes, count)
+        are_classes(self.alloc, self.shape, tiling, classes, count)
     }
 }

@@ -1,89 +1,9 @@
 //! How a verdict that isn't a tiling fits the ends of its searches.
-ghost use Rattle.std.specs.Prelude.{◌≡◌, ◌+◌, ◌≤◌, ◌↔◌, ◌⊎◌, None, Some, IsTrue, length};
+ghost use Rattle.std.specs.Prelude.{◌≡◌, ◌+◌, ◌≤◌, ◌↔◌, None, Some, IsTrue, length};
 ghost use Rattle.heesch_cert.specs.declared.entry.Layers.{Layers as Found};
-ghost use Rattle.heesch_cert.specs.TrueEntry.{IsBelow, IsWallRefuted, IsWallSpent, IsBareRefuted, IsBareSpent, FitsVerdict};
+ghost use Rattle.heesch_cert.specs.TrueEntry.{IsBelow, IsWallRefuted, FitsVerdict};
 
 use heesch_cert::{Bare, Layers, Limits, Phase, Verdict, Wall};
-
-/// Whether no search was made for one corona more.
-fn is_no_wall(wall: &Wall) -> bool
-    ensures { IsTrue result ↔ (wall.now ≡ Wall.Absent) }
-{
-    matches!(wall, Wall::Absent)
-}
-
-/// Whether that search was refuted.
-fn is_wall_refuted(wall: &Wall) -> bool
-    ensures { IsTrue result ↔ IsWallRefuted wall.now }
-{
-    matches!(wall, Wall::Refuted { .. })
-}
-
-/// Whether it took all its turns.
-fn is_wall_spent(wall: &Wall) -> bool
-    ensures { IsTrue result ↔ IsWallSpent wall.now }
-{
-    matches!(wall, Wall::Spent { .. })
-}
-
-/// Whether its formula was too large.
-fn is_wall_size(wall: &Wall) -> bool
-    ensures { IsTrue result ↔ (wall.now ≡ Wall.Size) }
-{
-    matches!(wall, Wall::Size)
-}
-
-/// Whether no search was made with holes allowed.
-fn is_no_bare(bare: &Bare) -> bool
-    ensures { IsTrue result ↔ (bare.now ≡ Bare.Absent) }
-{
-    matches!(bare, Bare::Absent)
-}
-
-/// Whether the refutation serves for both.
-pub(crate) fn is_same(bare: &Bare) -> bool
-    ensures { IsTrue result ↔ (bare.now ≡ Bare.Same) }
-{
-    matches!(bare, Bare::Same)
-}
-
-/// Whether the search with holes allowed was refuted.
-fn is_bare_refuted(bare: &Bare) -> bool
-    ensures { IsTrue result ↔ IsBareRefuted bare.now }
-{
-    matches!(bare, Bare::Refuted { .. })
-}
-
-/// Whether it took all its turns.
-fn is_bare_spent(bare: &Bare) -> bool
-    ensures { IsTrue result ↔ IsBareSpent bare.now }
-{
-    matches!(bare, Bare::Spent { .. })
-}
-
-/// Whether its formula was too large.
-fn is_bare_size(bare: &Bare) -> bool
-    ensures { IsTrue result ↔ (bare.now ≡ Bare.Size) }
-{
-    matches!(bare, Bare::Size)
-}
-
-/// Whether it found as many coronas as the limit.
-fn is_open(bare: &Bare) -> bool
-    ensures { IsTrue result ↔ (bare.now ≡ Bare.Open) }
-{
-    matches!(bare, Bare::Open)
-}
-
-/// Whether there are no wider layers.
-fn is_not_wider(wider: &Option<Layers>) -> bool
-    ensures { IsTrue result ↔ (wider.now ≡ None) }
-{
-    match wider {
-        None => true,
-        Some(_) => false,
-    }
-}
 
 /// Whether there are wider layers, so many of them.
 fn has_layers(wider: &Option<Layers>, count: u32) -> bool
@@ -124,7 +44,7 @@ fn is_below(h: u32, m: u32, wider: &Option<Layers>) -> bool
 fn fits_free(wall_fits: bool, bare: &Bare, wider: &Option<Layers>) -> bool
     ensures { IsTrue result ↔ (IsTrue wall_fits × (bare.now ≡ Bare.Absent) × (wider.now ≡ None)) }
 {
-    wall_fits && is_no_bare(bare) && is_not_wider(wider)
+    wall_fits && matches!(bare, Bare::Absent) && wider.is_none()
 }
 
 /// Whether the ends fit Heesch number h and m as the least number of coronas that there aren't.
@@ -138,13 +58,14 @@ fn fits_heesch(
 ) -> bool
     ensures { IsTrue result ↔ FitsVerdict limits wall.now bare.now wider.now (Verdict.Heesch h m) }
 {
-    if !is_level(limits, h, m) || !is_wall_refuted(wall) {
+    if !is_level(limits, h, m) || !matches!(wall, Wall::Refuted { .. }) {
         return false;
     }
-    if is_same(bare) {
-        return m - h == 1 && is_not_wider(wider);
+    match bare {
+        Bare::Same => m - h == 1 && wider.is_none(),
+        Bare::Refuted { .. } => is_below(h, m, wider),
+        _ => false,
     }
-    is_bare_refuted(bare) && is_below(h, m, wider)
 }
 
 /// Whether the ends fit a search with holes allowed that met a limit at level m.
@@ -158,14 +79,20 @@ fn fits_bare(
 ) -> bool
     ensures { IsTrue result ↔ ((h + 1 ≤ m) × (m ≤ limits.levels) × IsWallRefuted wall.now × IsTrue bare_fits × IsBelow h m wider.now) }
 {
-    is_level(limits, h, m) && is_wall_refuted(wall) && bare_fits && is_below(h, m, wider)
+    is_level(limits, h, m)
+        && matches!(wall, Wall::Refuted { .. })
+        && bare_fits
+        && is_below(h, m, wider)
 }
 
 /// Whether the ends fit as many coronas with holes as the limit.
 fn fits_holes(limits: Limits, wall: &Wall, bare: &Bare, wider: &Option<Layers>, h: u32) -> bool
     ensures { IsTrue result ↔ FitsVerdict limits wall.now bare.now wider.now (Verdict.Holes h) }
 {
-    h < limits.levels && is_wall_refuted(wall) && is_open(bare) && has_layers(wider, limits.levels)
+    h < limits.levels
+        && matches!(wall, Wall::Refuted { .. })
+        && matches!(bare, Bare::Open)
+        && has_layers(wider, limits.levels)
 }
 
 /// Whether the numbers of the verdict, and how its searches ended, fit one another.
@@ -181,15 +108,26 @@ pub(crate) fn fits_verdict(
     match verdict {
         Verdict::Tiles { .. } => false,
         Verdict::Heesch { h, m } => fits_heesch(limits, wall, bare, wider, h, m),
-        Verdict::Levels { h } => { h == limits.levels && fits_free(is_no_wall(wall), bare, wider) }
+        Verdict::Levels { h } => {
+            h == limits.levels && fits_free(matches!(wall, Wall::Absent), bare, wider)
+        }
         Verdict::Holes { h } => fits_holes(limits, wall, bare, wider, h),
         Verdict::Turns { h, phase, at } => match phase {
-            Phase::Free => is_next(limits, h, at) && fits_free(is_wall_spent(wall), bare, wider),
-            Phase::Bare => fits_bare(limits, wall, is_bare_spent(bare), wider, h, at),
+            Phase::Free => is_next(limits, h, at)
+                && fits_free(matches!(wall, Wall::Spent { .. }), bare, wider),
+            Phase::Bare => fits_bare(
+                limits,
+                wall,
+                matches!(bare, Bare::Spent { .. }),
+                wider,
+                h,
+                at,
+            ),
         },
         Verdict::Size { h, phase, at } => match phase {
-            Phase::Free => is_next(limits, h, at) && fits_free(is_wall_size(wall), bare, wider),
-            Phase::Bare => fits_bare(limits, wall, is_bare_size(bare), wider, h, at),
+            Phase::Free => is_next(limits, h, at)
+                && fits_free(matches!(wall, Wall::Size), bare, wider),
+            Phase::Bare => fits_bare(limits, wall, matches!(bare, Bare::Size), wider, h, at),
         },
     }
 }

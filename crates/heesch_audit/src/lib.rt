@@ -23,4 +23,3 @@ pub use auditing::{EntryAnswer, audit};
 pub use near::is_near;
 pub use proof_end::ProofEnd;
 pub use split::{most_portions, portion_holds};
-pub use walls::first_number;

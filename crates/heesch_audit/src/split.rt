@@ -25,12 +25,7 @@ pub fn most_portions(entry: &Entry) -> usize
 impl<'a, G: Grid> Audited<'a, G> {
     /// Whether the parts 2 to 8 of the entry hold, where this is the first portion and the shape that of the entry; no
     /// other portion asks for them.
-    fn are_parts_due<R: Threads + Sync>(
-        &self,
-        rt: &R,
-        alloc: Global,
-        portion: u32,
-    ) -> Result<bool, NoMemory>
+    fn are_parts_due<R: Threads + Sync>(&self, rt: &R, portion: u32) -> Result<bool, NoMemory>
         requires shape { IsCanonicalShape G.geometry self.now.shape.now }
         requires same { self.now.shape.now ≡ self.now.entry.now.cells }
         requires canonical { AreCanonical G.geometry self.now.entry.now.cells }
@@ -41,7 +36,7 @@ impl<'a, G: Grid> Audited<'a, G> {
         if portion > 0 {
             return Ok(true);
         }
-        let failing = self.failing_part(rt, alloc)?;
+        let failing = self.failing_part(rt)?;
         Ok(failing.is_none())
     }
 }
@@ -83,15 +78,16 @@ pub fn portion_holds<G: Grid, R: Threads + Sync>(
         return Ok(false);
     };
     let audited = Audited {
+        alloc,
         shape: &shape,
         entry,
         limits,
     };
-    if !audited.are_asked(alloc)? {
+    if !audited.are_asked()? {
         return Ok(false);
     }
-    if !audited.are_parts_due(rt, alloc, portion)? {
+    if !audited.are_parts_due(rt, portion)? {
         return Ok(false);
     }
-    audited.are_proved(rt, alloc, written, portion, portions)
+    audited.are_proved(rt, written, portion, portions)
 }

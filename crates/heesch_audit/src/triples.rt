@@ -15,7 +15,6 @@ use heesch_grid::Grid;
 use heesch_io::NoMemory;
 use heesch_lattice::Triple;
 use heesch_torus::{torus_formula, triples_up_to};
-use std::alloc::Global;
 use std::thread::Threads;
 
 /// Whether the verdict leaves open whether the shape tiles.
@@ -59,28 +58,29 @@ pub(crate) fn triples_of(evidence: &Evidence) -> &[TripleProof]
 impl<'a, G: Grid> Audited<'a, G> {
     /// Whether the proof has no cut, and refutes the torus formula of its triple or is spent for the limit on turns over
     /// it.
-    fn is_settled<R: Threads + Sync>(
-        &self,
-        rt: &R,
-        alloc: Global,
-        written: &TripleProof,
-    ) -> Result<bool, NoMemory>
+    fn is_settled<R: Threads + Sync>(&self, rt: &R, written: &TripleProof) -> Result<bool, NoMemory>
         requires shape { IsCanonicalShape G.geometry self.now.shape.now }
         requires domain { HasDomain G.geometry (length self.now.shape.now) written.now.triple }
         ensures { IfOk result (λ yes. IsTrue yes ↔ SettlesTriple G.geometry self.now.shape.now self.now.limits.turns written.now.triple written.now.proof) }
     {
-        let Some(log) = learnt_log(alloc, &written.proof) else {
+        let Some(log) = learnt_log(self.alloc, &written.proof) else {
             return Ok(false);
         };
-        let formula = torus_formula(alloc, self.shape, written.triple)?;
-        is_ended(rt, alloc, &formula, &log, end_of(&log), self.limits.turns)
+        let formula = torus_formula(self.alloc, self.shape, written.triple)?;
+        is_ended(
+            rt,
+            self.alloc,
+            &formula,
+            &log,
+            end_of(&log),
+            self.limits.turns,
+        )
     }
 
     /// Whether the proof of each so many-th of these triples, from the portion's first on, settles it.
     pub(crate) fn are_proved<R: Threads + Sync>(
         &self,
         rt: &R,
-        alloc: Global,
         written: &[TripleProof],
         portion: u32,
         portions: u32,
@@ -92,7 +92,7 @@ impl<'a, G: Grid> Audited<'a, G> {
     {
         let mut at = portion as usize;
         while at < written.len() {
-            if !self.is_settled(rt, alloc, &written[at])? {
+            if !self.is_settled(rt, &written[at])? {
                 return Ok(false);
             }
             at += portions as usize;
@@ -102,7 +102,7 @@ impl<'a, G: Grid> Audited<'a, G> {
 
     /// Whether for an undecided verdict all triples of the domains from 2 to the limit are written, in order, and for
     /// any other none.
-    pub(crate) fn are_asked(&self, alloc: Global) -> Result<bool, NoMemory>
+    pub(crate) fn are_asked(&self) -> Result<bool, NoMemory>
         requires shape { IsCanonicalShape G.geometry self.now.shape.now }
         requires limits { AreLimits self.now.limits }
         ensures { IfOk result (λ yes. IsTrue yes ↔ AreTriplesAsked G.geometry self.now.limits self.now.shape.now self.now.entry.now.verdict self.now.entry.now.evidence) }
@@ -118,24 +118,20 @@ impl<'a, G: Grid> Audited<'a, G> {
             return Ok(written.is_empty());
         }
         let count = self.shape.cells().len() as u32;
-        let all = triples_up_to::<G>(alloc, count, self.limits.domain)?;
+        let all = triples_up_to::<G>(self.alloc, count, self.limits.domain)?;
         Ok(are_triples_of(written.as_slice(), all.as_slice()))
     }
 
     /// Whether the triples are those that are asked for, each settled.
-    pub(crate) fn triples_hold<R: Threads + Sync>(
-        &self,
-        rt: &R,
-        alloc: Global,
-    ) -> Result<bool, NoMemory>
+    pub(crate) fn triples_hold<R: Threads + Sync>(&self, rt: &R) -> Result<bool, NoMemory>
         requires shape { IsCanonicalShape G.geometry self.now.shape.now }
         requires limits { AreLimits self.now.limits }
         ensures { IfOk result (λ yes. IsTrue yes ↔ TriplesHold G.geometry self.now.limits self.now.shape.now self.now.entry.now.verdict self.now.entry.now.evidence) }
     {
-        if !self.are_asked(alloc)? {
+        if !self.are_asked()? {
             return Ok(false);
         }
         let written = triples_of(&self.entry.evidence);
-        self.are_proved(rt, alloc, written, 0, 1)
+        self.are_proved(rt, written, 0, 1)
     }
 }

@@ -2,7 +2,7 @@
 ghost use Rattle.std.specs.Prelude.{◌≡◌, ◌≤◌, ◌↔◌, IsTrue, IfOk, IfSome, MatchOption, length};
 ghost use Rattle.heesch_cert.specs.Limits.{AreLimits};
 ghost use Rattle.heesch_cert.specs.Proofs.{IsTooLarge};
-ghost use Rattle.heesch_cert.specs.TrueEntry.{first_number, last_number, FormFits, SameWhereNoCut, BareShows};
+ghost use Rattle.heesch_cert.specs.TrueEntry.{FormFits, SameWhereNoCut, BareShows};
 ghost use Rattle.heesch_audit.specs.Formulas.{IsLevelFormula, AsksFormula};
 ghost use Rattle.heesch_audit.specs.Near.{IsNearEvidence, IsNearBare};
 ghost use Rattle.heesch_audit.specs.Shapes.{IsCanonicalShape};
@@ -10,48 +10,28 @@ ghost use Rattle.heesch_audit.specs.Walls.{IsSearchFailure};
 
 use crate::audited::Audited;
 use crate::coronas::is_open;
-use crate::fits::is_same;
 use crate::formula::{LevelFormula, level_formula};
 use crate::logs::has_no_cut;
 use crate::proof_end::ended_of;
-use heesch_cert::{Bare, Evidence, Verdict, Wall};
+use heesch_cert::{Bare, Evidence, Wall};
 use heesch_grid::Grid;
 use heesch_io::NoMemory;
 use heesch_shape::Shape;
 use std::alloc::Global;
 use std::thread::Threads;
 
-/// The number of hole-free coronas of a verdict; a tiling has none.
-pub fn first_number(verdict: Verdict) -> u32
-    ensures { result ≡ first_number verdict }
-{
-    match verdict {
-        Verdict::Tiles { .. } => 0,
-        Verdict::Heesch { h, .. }
-        | Verdict::Levels { h }
-        | Verdict::Holes { h }
-        | Verdict::Turns { h, .. }
-        | Verdict::Size { h, .. } => h,
-    }
-}
-
-/// The last number of a verdict; a tiling has none.
-fn last_number(verdict: Verdict) -> u32
-    ensures { result ≡ last_number verdict }
-{
-    match verdict {
-        Verdict::Tiles { .. } => 0,
-        Verdict::Heesch { m, .. } => m,
-        Verdict::Levels { h } | Verdict::Holes { h } => h,
-        Verdict::Turns { at, .. } | Verdict::Size { at, .. } => at,
-    }
-}
-
 /// Whether both hold or neither.
 fn agree(one: bool, other: bool) -> bool
     ensures { IsTrue result ↔ (IsTrue one ↔ IsTrue other) }
 {
     one == other
+}
+
+/// Whether the refutation of the wall serves with holes allowed too.
+fn is_same(bare: &Bare) -> bool
+    ensures { IsTrue result ↔ (bare.now ≡ Bare.Same) }
+{
+    matches!(bare, Bare::Same)
 }
 
 /// Whether the search with holes allowed is the same as that with holes forbidden exactly where a refutation has no
@@ -113,11 +93,7 @@ fn bare_holds<G: Grid, R: Threads + Sync>(
 impl<'a, G: Grid> Audited<'a, G> {
     /// The first of the parts 6 to 8 that fails, the form being right: the wall, the open coronas, the search behind the
     /// wall. The formula of the wall serves for the search behind it, where they are of one level.
-    pub(crate) fn failing_search<R: Threads + Sync>(
-        &self,
-        rt: &R,
-        alloc: Global,
-    ) -> Result<Option<u32>, NoMemory>
+    pub(crate) fn failing_search<R: Threads + Sync>(&self, rt: &R) -> Result<Option<u32>, NoMemory>
         requires shape { IsCanonicalShape G.geometry self.now.shape.now }
         requires limits { AreLimits self.now.limits }
         requires form { FormFits G.geometry self.now.limits self.now.shape.now self.now.entry.now.verdict self.now.entry.now.evidence }
@@ -136,15 +112,15 @@ impl<'a, G: Grid> Audited<'a, G> {
         if let Wall::Absent = wall {
             return Ok(None);
         }
-        let (shape, verdict) = (self.shape, self.entry.verdict);
-        let formula = level_formula(alloc, shape, self.limits, first_number(verdict) + 1, None)?;
+        let (alloc, shape, verdict) = (self.alloc, self.shape, self.entry.verdict);
+        let formula = level_formula(alloc, shape, self.limits, verdict.first_number() + 1, None)?;
         if !formula.shows_wall(rt, alloc, shape, wall)? {
             return Ok(Some(6));
         }
         if !is_open(alloc, shape, wider)? {
             return Ok(Some(7));
         }
-        if !bare_holds(rt, alloc, shape, formula, last_number(verdict), wall, bare)? {
+        if !bare_holds(rt, alloc, shape, formula, verdict.last_number(), wall, bare)? {
             return Ok(Some(8));
         }
         Ok(None)

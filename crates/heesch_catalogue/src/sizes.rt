@@ -36,27 +36,39 @@ pub fn write_texts_of_size<R: ShapeText + Sync, T: Threads + Sync, W: Sink, H: G
     ensures failed { result ≡ Err IoStop.Failed → Rose (W.faults sink.old) (W.faults sink.new) }
     ensures later { W.faults sink.old ≤ W.faults sink.new }
 {
-    on_grid!(grid, write_on::<_, R, T, W, H>(crew, head, texts, n, sink))
+    let polyforms = Polyforms { grid, n };
+    on_grid!(
+        polyforms.grid,
+        write_on::<_, R, T, W, H>(crew, head, texts, polyforms, sink)
+    )
 }
 
-/// The same on one grid.
+/// The free polyforms of n cells of a grid.
+#[derive(Clone, Copy)]
+struct Polyforms {
+    grid: GridName,
+    n: u32,
+}
+
+/// The same where the polyforms are of this grid.
 fn write_on<G: Grid + Send + Sync, R: ShapeText + Sync, T: Threads + Sync, W: Sink, H: Gate + Sync>(
     crew: &Crew<'_, T, H>,
     head: &[u8],
     texts: &R,
-    n: u32,
+    polyforms: Polyforms,
     sink: &mut W,
 ) -> Result<(), IoStop>
-    requires size { (1 ≤ n) × (n ≤ 31) }
+    requires grid { geometry_of polyforms.grid ≡ G.geometry }
+    requires size { (1 ≤ polyforms.n) × (polyforms.n ≤ 31) }
     ensures ok { OnOk result
-        (WritesOne (IsOfSize (IsWholeText head.now (R.is_of texts.now) (R.is_text texts.now)) G.geometry n)
-        (W.held sink.old) (W.held sink.new)) }
+        (WritesOne (IsOfSize (IsWholeText head.now (R.is_of texts.now) (R.is_text texts.now))
+        (geometry_of polyforms.grid) polyforms.n) (W.held sink.old) (W.held sink.new)) }
     ensures err { OnErr result
-        (BeginsOne (IsOfSize (IsBegunText head.now (R.is_of texts.now) (R.is_text texts.now)) G.geometry n)
-        (W.held sink.old) (W.held sink.new)) }
+        (BeginsOne (IsOfSize (IsBegunText head.now (R.is_of texts.now) (R.is_text texts.now))
+        (geometry_of polyforms.grid) polyforms.n) (W.held sink.old) (W.held sink.new)) }
     ensures failed { result ≡ Err IoStop.Failed → Rose (W.faults sink.old) (W.faults sink.new) }
     ensures later { W.faults sink.old ≤ W.faults sink.new }
 {
-    let shapes = all_shapes::<G, T, H>(crew, n)?;
+    let shapes = all_shapes::<G, T, H>(crew, polyforms.n)?;
     write_texts(crew, head, texts, &shapes, sink)
 }

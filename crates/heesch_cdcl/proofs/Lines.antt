@@ -7,7 +7,7 @@ use Rattle.heesch_cnf.specs.declared.literal.Lit.{Lit}
 use Rattle.heesch_cnf.specs.declared.log.Line.{Line}
 use Rattle.heesch_cnf.specs.declared.log.Line.TheVariants.{Learn, Given}
 use Rattle.heesch_cnf.specs.Clauses.{IsClause, IsNew}
-use Rattle.heesch_cnf.specs.Lines.{clauses_with, clause_of, LineHolds, IsNumber, IsShown}
+use Rattle.heesch_cnf.specs.Lines.{clauses_with, clause_of, LineHolds, IsNumber}
 use Rattle.heesch_cnf.proofs.Lists.{Contains-none}
 use Rattle.heesch_trail.specs.Fixpoint.{IsSettled, IsFixpoint}
 use Rattle.heesch_trail.specs.State.{State, IsTrail, values_of, level_of, up_to}
@@ -19,7 +19,7 @@ use Rattle.heesch_cdcl.specs.Marking.{AreClear}
 use Rattle.heesch_cdcl.specs.Ready.{IsReady}
 use Rattle.heesch_cdcl.specs.Search.{LowerFixpoints, SameClauses}
 use Rattle.heesch_cnf.specs.Meaning.{IsLearn}
-use Rattle.heesch_cdcl.specs.Learning.{IsLearnt, LearnsOne, LearnsMore}
+use Rattle.heesch_cdcl.specs.Learning.{IsLearnt, IsNext, LearnsOne, LearnsMore}
 use Rattle.heesch_cdcl.specs.Searching.{IsSearching, Searches, SameFormula, formula_in, NoFinal}
 use Rattle.heesch_cdcl.proofs.Newness.{learnt_is_new, no_final}
 use Rattle.heesch_cdcl.proofs.Lower.{Lower-back, Lower-add, up_to-up_to}
@@ -75,35 +75,47 @@ lines-push P clauses lines line before here i d lt = elim (cases_lt i (length li
       (subst (P (clauses_with clauses lines)) (sym (get_or_at lines line [] d i at)) here)
 ]
 
--- the search goes on with the line that was learnt
-pub Searching-learns : (vars : ℕ) (clauses : List (List Lit)) (lines : List Line) (old mid new : State) (learnt : Learnt) (c : List Lit) → IsSearching vars clauses lines old → IsLearnt old learnt → c ≡ learnt.clause →
-    mid ≡ record old { clauses = old.clauses ++ c ∷ [] } → new ≡ record mid { steps = up_to learnt.back mid.steps } → level_of new.steps ≡ learnt.back → IsTrail new →
-    IsSearching vars clauses (lines ++ Learn learnt.clause learnt.hints ∷ []) new
-Searching-learns vars clauses lines old mid new learnt c s l same add back level valid =
-    let line = Learn learnt.clause learnt.hints in
-    let low : State = record old { steps = up_to learnt.back old.steps } in
-    let steps : new.steps ≡ up_to learnt.back old.steps = ap (λ (t : State). t.steps) back ∙ ap (λ (t : State). up_to learnt.back t.steps) add in
-    let is : new ≡ record low { clauses = low.clauses ++ learnt.clause ∷ [] } =
-    back ∙ ap (λ (t : State). record t { steps = up_to learnt.back t.steps }) add ∙ ap (λ (cl : List Lit). record low { clauses = old.clauses ++ cl ∷ [] }) same in
-    let low_level : level_of low.steps ≡ learnt.back = sym (ap level_of steps) ∙ level in
+-- the clause of a line that holds
+pub clause_form : (vars : ℕ) (clauses : List (List Lit)) (line : Line) → LineHolds vars clauses line → IsClause vars (clause_of line)
+clause_form vars clauses (Learn clause hints) holds = holds.1.0
+clause_form vars clauses (Given clause) holds = holds
+
+-- what was learnt is a line to go on with
+pub Next-learnt : (trail : State) (learnt : Learnt) → LowerFixpoints trail → IsLearnt trail learnt → IsNext trail (Learn learnt.clause learnt.hints) learnt.back
+Next-learnt trail learnt lower l =
     let below = l.back_below in
-    let lower_low = Lower-back old low learnt.back (omega arith) refl low_level s.lower in
-    let settled : (j : ℕ) → j < level_of low.steps → IsSettled (values_of (up_to j low.steps)) learnt.clause =
-    λ j lt. subst (λ ss. IsSettled (values_of ss) learnt.clause) (sym (up_to-up_to j learnt.back old.steps (omega (arith, lt, low_level)))) (l.settled j (omega (arith, lt, low_level))) in
-    let fixpoint = s.lower (level_of old.steps - 1) (omega arith) in
-    let fresh = learnt_is_new (values_of (up_to (level_of old.steps - 1) old.steps)) old.clauses learnt.clause l.top fixpoint l.asserting in
+    let fixpoint = lower (level_of trail.steps - 1) (omega arith) in
     let some : learnt.clause ≢ [] = λ e. Contains-none l.top (subst (λ ls. Contains ls l.top) e l.asserting.has_top) in
-    let form = subst (λ v. IsClause v learnt.clause) s.same_vars l.form in
-    let shown = subst (λ cs. IsShown cs learnt.clause learnt.hints) s.same_clauses l.shown in
-    let hold = lines-push (LineHolds vars) clauses lines line (λ i d lt. s.hold i lt d) (some, (form, shown)) in
+    record {
+      holds = (some, (l.form, l.shown));
+      fresh = learnt_is_new (values_of (up_to (level_of trail.steps - 1) trail.steps)) trail.clauses learnt.clause l.top fixpoint l.asserting;
+      back = omega (arith, below);
+      settled = l.settled;
+    }
+
+-- the search goes on with one line more
+pub Searching-adds : (vars : ℕ) (clauses : List (List Lit)) (lines : List Line) (old mid new : State) (line : Line) (level : ℕ) (c : List Lit) → IsSearching vars clauses lines old → IsNext old line level → c ≡ clause_of line →
+    mid ≡ record old { clauses = old.clauses ++ c ∷ [] } → new ≡ record mid { steps = up_to level mid.steps } → level_of new.steps ≡ level → IsTrail new →
+    IsSearching vars clauses (lines ++ line ∷ []) new
+Searching-adds vars clauses lines old mid new line level c s next same add back at valid =
+    let low : State = record old { steps = up_to level old.steps } in
+    let steps : new.steps ≡ up_to level old.steps = ap (λ (t : State). t.steps) back ∙ ap (λ (t : State). up_to level t.steps) add in
+    let is : new ≡ record low { clauses = low.clauses ++ clause_of line ∷ [] } =
+    back ∙ ap (λ (t : State). record t { steps = up_to level t.steps }) add ∙ ap (λ (cl : List Lit). record low { clauses = old.clauses ++ cl ∷ [] }) same in
+    let low_level : level_of low.steps ≡ level = sym (ap level_of steps) ∙ at in
+    let lower_low = Lower-back old low level next.back refl low_level s.lower in
+    let settled : (j : ℕ) → j < level_of low.steps → IsSettled (values_of (up_to j low.steps)) (clause_of line) =
+    λ j lt. subst (λ ss. IsSettled (values_of ss) (clause_of line)) (sym (up_to-up_to j level old.steps (omega (arith, lt, low_level)))) (next.settled j (omega (arith, lt, low_level))) in
+    let holds = subst (λ cs. LineHolds vars cs line) s.same_clauses (subst (λ v. LineHolds v old.clauses line) s.same_vars next.holds) in
+    let hold = lines-push (LineHolds vars) clauses lines line (λ i d lt. s.hold i lt d) holds in
     record {
       form = s.form;
       valid = valid;
       same_vars = ap (λ (t : State). t.vars) is ∙ s.same_vars;
-      same_clauses = ap (λ (t : State). t.clauses) is ∙ ap (λ cs. cs ++ learnt.clause ∷ []) s.same_clauses ∙ sym (clauses_with-push clauses lines line);
-      lower = Lower-add low new learnt.clause is settled lower_low;
+      same_clauses = ap (λ (t : State). t.clauses) is ∙ ap (λ cs. cs ++ clause_of line ∷ []) s.same_clauses ∙ sym (clauses_with-push clauses lines line);
+      lower = Lower-add low new (clause_of line) is settled lower_low;
       hold = λ i lt d. hold i d lt;
-      fresh = lines-push (λ cs x. IsNew cs (clause_of x)) clauses lines line s.fresh (subst (λ cs. IsNew cs learnt.clause) s.same_clauses fresh);
+      fresh = lines-push (λ cs x. IsNew cs (clause_of x)) clauses lines line s.fresh (subst (λ cs. IsNew cs (clause_of line)) s.same_clauses next.fresh);
     }
 
 -- what `pop` leaves after a push
@@ -116,23 +128,6 @@ pub LearnsMore-one : (first old new : List Line) → LearnsMore first old → Le
 LearnsMore-one first old new more one =
     (more.0 ++ one.0 ∷ [], (one.1.0 ∙ ap (λ ls. ls ++ one.0 ∷ []) more.1.0 ∙ append_assoc first more.0 (one.0 ∷ []), All-push IsLearn more.0 one.0 more.1.1 one.1.1))
 
--- the search goes on at level 0 with a clause that was given
-pub Searching-gives : (vars : ℕ) (clauses : List (List Lit)) (lines : List Line) (old mid new : State) (clause copy : List Lit) → IsSearching vars clauses lines old → IsClause vars clause → IsNew (clauses_with clauses lines) clause → copy ≡ clause →
-    mid ≡ record old { clauses = old.clauses ++ copy ∷ [] } → new ≡ record mid { steps = up_to 0 mid.steps } → level_of new.steps ≡ 0 → IsTrail new →
-    IsSearching vars clauses (lines ++ Given clause ∷ []) new
-Searching-gives vars clauses lines old mid new clause copy s form fresh same add back level valid =
-    let line = Given clause in
-    let hold = lines-push (LineHolds vars) clauses lines line (λ i d lt. s.hold i lt d) form in
-    record {
-      form = s.form;
-      valid = valid;
-      same_vars = ap (λ (t : State). t.vars) back ∙ ap (λ (t : State). t.vars) add ∙ s.same_vars;
-      same_clauses = ap (λ (t : State). t.clauses) back ∙ ap (λ (t : State). t.clauses) add ∙ ap (λ (c : List Lit). old.clauses ++ c ∷ []) same ∙ ap (λ cs. cs ++ clause ∷ []) s.same_clauses ∙ sym (clauses_with-push clauses lines line);
-      lower = Lower-zero new level;
-      hold = λ i lt d. hold i d lt;
-      fresh = lines-push (λ cs x. IsNew cs (clause_of x)) clauses lines line s.fresh fresh;
-    }
-
 -- with more clauses the covers are still clauses of the trail
 pub Guides-more : (scope : Scope) (old new : State) (more : List (List Lit)) → new.vars ≡ old.vars → new.clauses ≡ old.clauses ++ more → Guides scope old → Guides scope new
 Guides-more scope old new more vars clauses g = record {
@@ -141,15 +136,15 @@ Guides-more scope old new more vars clauses g = record {
 }
 
 -- the workspace is ready over a trail with more clauses too, and over one with the same
-pub Ready-more : (old new : State) (more : List (List Lit)) (before after : Workspace) → new.vars ≡ old.vars → new.clauses ≡ old.clauses ++ more → after.decisions.covers ≡ before.decisions.covers → after.marks ≡ before.marks → IsReady old before → IsReady new after
+pub Ready-more : (old new : State) (more : List (List Lit)) (before after : Workspace) → new.vars ≡ old.vars → new.clauses ≡ old.clauses ++ more → after.decisions.covers ≡ before.decisions.covers → after.resolution.marks ≡ before.resolution.marks → IsReady old before → IsReady new after
 Ready-more old new more before after vars clauses covers marks ready = record {
   guides = subst (λ s. Guides s new) (sym covers) (Guides-more before.decisions.covers old new more vars clauses ready.guides);
   clear = subst (λ (m : Marks). AreClear new.vars m.seen.items m.here.items m.touched.items m.pending) (sym marks)
-      (subst (λ v. AreClear v before.marks.seen.items before.marks.here.items before.marks.touched.items before.marks.pending) (sym vars) ready.clear);
+      (subst (λ v. AreClear v before.resolution.marks.seen.items before.resolution.marks.here.items before.resolution.marks.touched.items before.resolution.marks.pending) (sym vars) ready.clear);
 }
 
 -- and after one clause more, back at a level
 pub Ready-added : (trail added back : State) (clause : List Lit) (level : ℕ) (before after : Workspace) → added ≡ record trail { clauses = trail.clauses ++ clause ∷ [] } → back ≡ record added { steps = up_to level added.steps } →
-    after.decisions.covers ≡ before.decisions.covers → after.marks ≡ before.marks → IsReady trail before → IsReady back after
+    after.decisions.covers ≡ before.decisions.covers → after.resolution.marks ≡ before.resolution.marks → IsReady trail before → IsReady back after
 Ready-added trail added back clause level before after add go covers marks ready =
     Ready-more trail back (clause ∷ []) before after (ap (λ (x : State). x.vars) go ∙ ap (λ (x : State). x.vars) add) (ap (λ (x : State). x.clauses) go ∙ ap (λ (x : State). x.clauses) add) covers marks ready

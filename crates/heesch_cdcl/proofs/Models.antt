@@ -71,7 +71,7 @@ values_list-more n steps = map-range_with_len_more (λ v. unwrap_or (values_of s
 -- a solver over a formula, with an empty log
 pub Inner-opened : (turns : ℕ) (empty : Option ℕ) (vars n : ℕ) (clauses : List (List Lit)) (trail : State) (work : Workspace) (scope : Scope) (lines : List Line) → trail ≡ record { vars = vars; clauses = clauses; steps = [] } → IsTrail trail → lines ≡ [] →
     MatchOption empty (NoneEmpty clauses) (IsFirstEmpty clauses) → length clauses + turns < 2 ^ 31 → work.decisions.covers ≡ scope → scope.vars ≡ vars → All (IsNumber clauses) scope.numbers →
-    n ≡ vars → AreClear n work.marks.seen.items work.marks.here.items work.marks.touched.items work.marks.pending → IsInner turns empty trail work (record { lines = lines; last = None }) false
+    n ≡ vars → AreClear n work.resolution.marks.seen.items work.resolution.marks.here.items work.resolution.marks.touched.items work.resolution.marks.pending → IsInner turns empty trail work (record { lines = lines; last = None }) false
 Inner-opened turns empty vars n clauses trail work scope lines is valid none first room covers same numbers count clear =
     let vars_is = ap (λ (t : State). t.vars) is in
     let clauses_is = ap (λ (t : State). t.clauses) is in
@@ -91,7 +91,7 @@ Inner-opened turns empty vars n clauses trail work scope lines is valid none fir
     record {
       ready = record {
         guides = subst (λ c. Guides c trail) (sym covers) (record { vars = same ∙ sym vars_is; numbers = subst (λ cs. All (IsNumber cs) scope.numbers) (sym clauses_is) numbers });
-        clear = subst (λ v. AreClear v work.marks.seen.items work.marks.here.items work.marks.touched.items work.marks.pending) (count ∙ sym vars_is) clear;
+        clear = subst (λ v. AreClear v work.resolution.marks.seen.items work.resolution.marks.here.items work.resolution.marks.touched.items work.resolution.marks.pending) (count ∙ sym vars_is) clear;
       };
       searching = s;
       first = subst (λ cs. MatchOption empty (NoneEmpty cs) (IsFirstEmpty cs)) (sym formula) first;

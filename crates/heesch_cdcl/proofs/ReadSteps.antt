@@ -67,12 +67,18 @@ taken_out P trail p v n mid after after_here less hints more r room write push a
     (subst (λ ps. P ps (n ∷ reverse hints)) (sym written)
     (next (subst (λ w. w < length mid) (sym r.var) room) (subst (λ ps. AreMarks trail.vars (level_of trail.steps) trail.steps ps after_here less) written are)))
 
-pub Resolving-read : (trail : State) (p n reason : ℕ) (seen here mid after after_here : List Bool) (pending less : ℕ) (hints more : List ℕ) → (r : IsRead trail p n) → IsResolving trail (p + 1) seen here pending (reverse hints) → r.step.reason ≡ Some reason →
-    MarksClause seen mid (numbered trail.clauses reason) → n < length mid → after ≡ set mid n false → more ≡ hints ++ reason ∷ [] → AreMarks trail.vars (level_of trail.steps) trail.steps after after_here less →
-    IsResolving trail p after after_here less (reverse more)
-Resolving-read trail p n reason seen here mid after after_here pending less hints more r going is marks room write push are =
-    taken_out (λ ps hs. IsResolving trail p ps after_here less hs) trail p n reason mid after after_here less hints more r room write push are
-    (λ inside now. Resolving-resolve trail p reason r.step seen here mid after_here pending less (reverse hints) r.at going is marks inside now)
+-- the clause of the reason was marked and the variable unmarked: what held after this place holds before it
+module _ (trail : State) (p v n : ℕ) (seen here mid after after_here : List Bool) (pending less : ℕ) (hints more : List ℕ) (r : IsRead trail p v) (is : r.step.reason ≡ Some n) (marks : MarksClause seen mid (numbered trail.clauses n))
+    (room : v < length mid) (write : after ≡ set mid v false) (push : more ≡ hints ++ n ∷ []) (are : AreMarks trail.vars (level_of trail.steps) trail.steps after after_here less) where
+  pub Resolving-read : IsResolving trail (p + 1) seen here pending (reverse hints) → IsResolving trail p after after_here less (reverse more)
+  Resolving-read going =
+      taken_out (λ ps hs. IsResolving trail p ps after_here less hs) trail p v n mid after after_here less hints more r room write push are
+      (Resolving-resolve trail p n r.step seen here mid after_here pending less (reverse hints) r.at going is marks)
+
+  pub Derived-read : IsDerived trail (p + 1) seen here pending (reverse hints) → IsDerived trail p after after_here less (reverse more)
+  Derived-read going =
+      taken_out (λ ps hs. IsDerived trail p ps after_here less hs) trail p v n mid after after_here less hints more r room write push are
+      (Derived-resolve trail p n r.step seen here mid after_here pending less (reverse hints) r.at going is marks)
 
 -- a variable that is marked, and not as one of the present level, isn't of it
 not_here : (vars level : ℕ) (steps : List Step) (seen here : List Bool) (pending v : ℕ) → AreMarks vars level steps seen here pending → marked seen v ≡ true → marked here v ≡ false → level_in steps v ≡ Some level → ⊥
@@ -127,13 +133,6 @@ pub pending_stays : (trail : State) (p v n : ℕ) (seen here mid mid_here : List
     AreMarks trail.vars (level_of trail.steps) trail.steps mid mid_here more → MarksClause seen mid (numbered trail.clauses n) → marked seen v ≡ true → marked here v ≡ false → more ≡ pending
 pending_stays trail p v n seen here mid mid_here pending more valid r is are new marks m off =
     new.counted ∙ ap (count_by (λ b. b)) (here_kept trail p v n seen here mid mid_here pending more valid r is are new marks m off) ∙ sym are.counted
-
-pub Derived-read : (trail : State) (p v n : ℕ) (seen here mid after after_here : List Bool) (pending less : ℕ) (hints more : List ℕ) → (r : IsRead trail p v) → IsDerived trail (p + 1) seen here pending (reverse hints) → r.step.reason ≡ Some n →
-    MarksClause seen mid (numbered trail.clauses n) → v < length mid → after ≡ set mid v false → more ≡ hints ++ n ∷ [] → AreMarks trail.vars (level_of trail.steps) trail.steps after after_here less →
-    IsDerived trail p after after_here less (reverse more)
-Derived-read trail p v n seen here mid after after_here pending less hints more r going is marks room write push are =
-    taken_out (λ ps hs. IsDerived trail p ps after_here less hs) trail p v n mid after after_here less hints more r room write push are
-    (λ inside now. Derived-resolve trail p n r.step seen here mid after_here pending less (reverse hints) r.at going is marks inside now)
 
 number_of : (trail : State) (s : Step) (before : List Step) → StepHolds trail.vars trail.clauses before s → MatchOption s.reason (Unit {0}) (IsNumber trail.clauses)
 number_of trail s before holds = by_number s.reason holds.reason

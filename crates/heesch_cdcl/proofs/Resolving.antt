@@ -16,7 +16,7 @@ use Rattle.heesch_trail.specs.State.{State, IsTrail, values_of, fact_of, level_o
 use Rattle.heesch_cdcl.specs.Derivation.{Matches, Derives}
 use Rattle.heesch_cdcl.specs.Marking.{marked, AreMarks, MarksClause}
 use Rattle.heesch_cdcl.specs.Resolved.{IsDerived, IsResolving, IsBegun}
-use Rattle.heesch_cdcl.specs.Learning.{IsConflict}
+use Rattle.heesch_trail.specs.Seen.{IsConflict}
 use Rattle.heesch_cdcl.specs.Search.{LowerFixpoints}
 use Rattle.heesch_cdcl.proofs.Derive.{Derives-start, Derives-earlier, Derives-resolve, values_of-push}
 use Rattle.heesch_cdcl.proofs.MarkLemmas.{some_marked, same_or_not, marked-set_same, marked-set_other}

@@ -1,11 +1,11 @@
 -- What is learnt from a conflict.
-use Rattle.std.specs.Prelude.{◌≡◌, ℕ, ◌-◌, ◌<◌, List, [], ◌∷◌, ◌++◌, length}
+use Rattle.std.specs.Prelude.{◌≡◌, ℕ, ◌-◌, ◌<◌, ◌≤◌, List, [], ◌∷◌, ◌++◌, length}
 use Rattle.heesch_cnf.specs.declared.literal.Lit.{Lit}
 use Rattle.heesch_cnf.specs.declared.log.Line.{Line}
-use Rattle.heesch_cnf.specs.Clauses.{IsClause}
-use Rattle.heesch_cnf.specs.Lines.{IsNumber, numbered, IsShown, FinalHolds}
+use Rattle.heesch_cnf.specs.Clauses.{IsClause, IsNew}
+use Rattle.heesch_cnf.specs.Lines.{IsShown, FinalHolds, LineHolds, clause_of}
 use Rattle.heesch_cnf.specs.Meaning.{IsLearn, LearnsAlone}
-use Rattle.heesch_trail.specs.Fixpoint.{IsFixpoint, IsFalse, IsSettled}
+use Rattle.heesch_trail.specs.Fixpoint.{IsFixpoint, IsSettled}
 use Rattle.heesch_trail.specs.State.{State, values_of, level_of, up_to}
 use Rattle.heesch_cdcl.specs.declared.analysis.Learnt.{Learnt}
 use Rattle.heesch_cdcl.specs.declared.learning.Ending.{Ending}
@@ -13,10 +13,6 @@ use Rattle.heesch_cdcl.specs.declared.learning.Ending.TheVariants.{Model, Refute
 use Rattle.heesch_cdcl.specs.Newness.{IsAsserting}
 use Rattle.heesch_cdcl.specs.Search.{IsComplete}
 use Rattle.heesch_cdcl.specs.Searching.{NoFinal}
-
--- all literals of a clause are false
-abbrev pub IsConflict : State → ℕ → Type 0
-IsConflict trail n = IsNumber trail.clauses n × IsFalse (values_of trail.steps) (numbered trail.clauses n)
 
 -- a clause that the hints show, with one literal of the present level; the others are false below it, and below the
 -- level to go back to at least two literals are open
@@ -27,6 +23,14 @@ pub record IsLearnt (trail : State) (learnt : Learnt) : Type 0 where
   pub asserting : IsAsserting (values_of (up_to (level_of trail.steps - 1) trail.steps)) learnt.clause top
   pub back_below : learnt.back < level_of trail.steps
   pub settled : (j : ℕ) → j < learnt.back → IsSettled (values_of (up_to j trail.steps)) learnt.clause
+
+-- a line that holds and is new after the clauses of the trail, and the level to go back to, below which its clause has a
+-- true literal or two open ones
+pub record IsNext (trail : State) (line : Line) (level : ℕ) : Type 0 where
+  pub holds : LineHolds trail.vars trail.clauses line
+  pub fresh : IsNew trail.clauses (clause_of line)
+  pub back : level ≤ level_of trail.steps
+  pub settled : (j : ℕ) → j < level → IsSettled (values_of (up_to j trail.steps)) (clause_of line)
 
 -- the new lines are the old ones and one Learn line
 abbrev pub LearnsOne : List Line → List Line → Type 0

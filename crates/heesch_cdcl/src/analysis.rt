@@ -2,17 +2,16 @@
 ghost use Rattle.std.specs.Prelude.{◌≡◌, ◌+◌, ◌<◌, ◌≤◌, ◌⊎◌, IfOk, OnOk, length, reverse};
 ghost use Rattle.heesch_cdcl.specs.Marking.{AreListed, AreClear};
 ghost use Rattle.heesch_cdcl.specs.Marked.{IsClauseOfMarked, IsLevelIn};
-ghost use Rattle.heesch_cdcl.specs.Ready.{IsReady, IsInUse};
 ghost use Rattle.heesch_cdcl.specs.Resolved.{IsDerived, IsResolving, IsResolved, IsBegun};
 ghost use Rattle.heesch_cnf.specs.Clauses.{IsClause};
 ghost use Rattle.heesch_cnf.specs.Lines.{FinalHolds};
 ghost use Rattle.heesch_trail.specs.State.{IsTrail, level_of};
-ghost use Rattle.heesch_cdcl.specs.Learning.{IsConflict, IsLearnt};
+ghost use Rattle.heesch_cdcl.specs.Learning.{IsLearnt};
+ghost use Rattle.heesch_trail.specs.Seen.{IsConflict};
 ghost use Rattle.heesch_cdcl.specs.Search.{LowerFixpoints};
 
 use crate::assembly::clause_of_marks;
 use crate::marks::Marks;
-use crate::workspace::Workspace;
 use heesch_cnf::{Hints, Lit, Lits};
 use heesch_io::{NoMemory, Seq};
 use heesch_trail::Trail;
@@ -26,6 +25,15 @@ pub struct Learnt {
     pub back: u32,
 }
 
+/// What a conflict is resolved in: the marks are those of the variables that are left of it, and the hints those of
+/// the clauses that were resolved.
+#[derive(Drop)]
+pub struct Resolution {
+    pub marks: Marks,
+    pub hints: Vec<u32>,
+    kept: Vec<u32>,
+}
+
 /// The variables of the conflict are marked.
 fn begin(trail: &Trail, conflict: u32, marks: &mut Marks) -> Result<(), NoMemory>
     requires lower { LowerFixpoints trail.now }
@@ -36,123 +44,6 @@ fn begin(trail: &Trail, conflict: u32, marks: &mut Marks) -> Result<(), NoMemory
 {
     let clause = trail.clause(conflict);
     marks.mark(trail, trail.level(), clause)?;
-    Ok(())
-}
-
-/// The assignment at the place is left out, resolved with its reason where it is marked.
-fn resolve_at(
-    trail: &Trail,
-    place: usize,
-    marks: &mut Marks,
-    hints: &mut Vec<u32>,
-) -> Result<(), NoMemory>
-    requires place { place < length trail.now.steps }
-    requires many { (2 ≤ marks.old.pending) ⊎ ((1 ≤ marks.old.pending) × (level_of trail.now.steps ≡ 0)) }
-    requires resolving { IsResolving trail.now (place + 1) marks.old.seen.items marks.old.here.items marks.old.pending (reverse hints.old.items) }
-    requires listed { AreListed trail.now.vars marks.old.seen.items marks.old.here.items marks.old.touched.items }
-    ensures resolving { OnOk result (IsResolving trail.now place marks.new.seen.items marks.new.here.items marks.new.pending (reverse hints.new.items)) }
-    ensures listed { AreListed trail.now.vars marks.new.seen.items marks.new.here.items marks.new.touched.items }
-    ensures one { OnOk result (marks.old.pending ≤ marks.new.pending + 1) }
-{
-    let var = trail.made()[place].var;
-    if !marks.seen[var as usize] {
-        return Ok(());
-    }
-    let Some(reason) = trail.reason_of(var) else {
-        unreachable!()
-    };
-    hints.push(reason).map_err(|_| NoMemory)?;
-    let level = trail.level();
-    marks.mark(trail, level, trail.clause(reason))?;
-    marks.unmark(trail, level, var);
-    Ok(())
-}
-
-/// The assignment at the place is left out, resolved with its reason, where it is marked, of a lower level, and follows
-/// from the other marked ones and from level 0. Whether it was marked and of a lower level is answered.
-fn shorten_at(
-    trail: &Trail,
-    place: usize,
-    marks: &mut Marks,
-    hints: &mut Vec<u32>,
-) -> Result<bool, NoMemory>
-    requires place { place < length trail.now.steps }
-    requires derived { IsDerived trail.now (place + 1) marks.old.seen.items marks.old.here.items marks.old.pending (reverse hints.old.items) }
-    requires listed { AreListed trail.now.vars marks.old.seen.items marks.old.here.items marks.old.touched.items }
-    ensures derived { OnOk result (IsDerived trail.now place marks.new.seen.items marks.new.here.items marks.new.pending (reverse hints.new.items)) }
-    ensures listed { AreListed trail.now.vars marks.new.seen.items marks.new.here.items marks.new.touched.items }
-    ensures same { OnOk result (marks.new.pending ≡ marks.old.pending) }
-{
-    let var = trail.made()[place].var;
-    if !marks.is_below(var) {
-        return Ok(false);
-    }
-    if !marks.follows(trail, var)? {
-        return Ok(true);
-    }
-    let Some(reason) = trail.reason_of(var) else {
-        return Ok(true);
-    };
-    hints.push(reason).map_err(|_| NoMemory)?;
-    let level = trail.level();
-    marks.mark(trail, level, trail.clause(reason))?;
-    marks.unmark(trail, level, var);
-    Ok(true)
-}
-
-/// Leaves out what follows from the other literals and from level 0, so what was assigned at level 0 too. The assignments
-/// are passed over from this place down to the earliest of a marked variable: each variable that was marked is either
-/// passed by then or resolved before, which the hints count, or the one of the present level that stays.
-fn shorten(
-    trail: &Trail,
-    from: usize,
-    marks: &mut Marks,
-    hints: &mut Vec<u32>,
-) -> Result<(), NoMemory>
-    requires derived { IsDerived trail.now from marks.old.seen.items marks.old.here.items marks.old.pending (reverse hints.old.items) }
-    requires listed { AreListed trail.now.vars marks.old.seen.items marks.old.here.items marks.old.touched.items }
-    ensures derived { OnOk result (IsDerived trail.now 0 marks.new.seen.items marks.new.here.items marks.new.pending (reverse hints.new.items)) }
-    ensures listed { AreListed trail.now.vars marks.new.seen.items marks.new.here.items marks.new.touched.items }
-    ensures same { OnOk result (marks.new.pending ≡ marks.old.pending) }
-{
-    let mut place = from;
-    let mut passed = hints.len();
-    while place > 0 && passed < marks.touched.len() {
-        place -= 1;
-        if shorten_at(trail, place, marks, hints)? {
-            passed = passed.saturating_add(1);
-        }
-    }
-    Ok(())
-}
-
-/// Resolves the conflict with the reasons of the latest assignments, until at most `stop` literals of the present level
-/// are left, and then leaves out what follows from the other literals. The hints are those of the resolved clauses, in the
-/// order of the assignments.
-fn resolve(
-    trail: &Trail,
-    conflict: u32,
-    stop: usize,
-    marks: &mut Marks,
-    hints: &mut Vec<u32>,
-) -> Result<(), NoMemory>
-    requires lower { LowerFixpoints trail.now }
-    requires conflict { IsConflict trail.now conflict }
-    requires stop { (1 ≤ stop) ⊎ (level_of trail.now.steps ≡ 0) }
-    requires clear { AreClear trail.now.vars marks.old.seen.items marks.old.here.items marks.old.touched.items marks.old.pending }
-    ensures resolved { OnOk result (IsResolved trail.now stop marks.new.seen.items marks.new.here.items marks.new.pending hints.new.items) }
-    ensures listed { AreListed trail.now.vars marks.new.seen.items marks.new.here.items marks.new.touched.items }
-{
-    begin(trail, conflict, marks)?;
-    hints.clear();
-    hints.push(conflict).map_err(|_| NoMemory)?;
-    let mut place = trail.made().len();
-    while marks.pending > stop {
-        place -= 1;
-        resolve_at(trail, place, marks, hints)?;
-    }
-    shorten(trail, place, marks, hints)?;
-    hints.reverse();
     Ok(())
 }
 
@@ -185,67 +76,167 @@ fn back_of(trail: &Trail, clause: &[Lit]) -> u32
     back
 }
 
-/// The clause that is learnt from the conflict.
-fn learnt_from(
-    alloc: Global,
-    trail: &Trail,
-    conflict: u32,
-    work: &mut Workspace,
-) -> Result<Learnt, NoMemory>
-    requires lower { LowerFixpoints trail.now }
-    requires conflict { IsConflict trail.now conflict }
-    requires level { 1 ≤ level_of trail.now.steps }
-    requires ready { IsReady trail.now work.old }
-    ensures learnt { IfOk result (IsLearnt trail.now) }
-    ensures in_use { IsInUse trail.now work.new }
-{
-    resolve(trail, conflict, 1, &mut work.marks, &mut work.hints)?;
-    let clause = clause_of_marks(alloc, trail, &work.marks, &mut work.kept)?;
-    let back = back_of(trail, clause.as_slice());
-    Ok(Learnt {
-        clause,
-        hints: copy_of(alloc, &work.hints)?,
-        back,
-    })
-}
+impl Resolution {
+    /// Nothing is marked.
+    pub fn new(alloc: Global, vars: u32) -> Result<Resolution, NoMemory>
+        ensures { IfOk result (λ r. AreClear vars r.marks.seen.items r.marks.here.items r.marks.touched.items r.marks.pending) }
+    {
+        Ok(Resolution {
+            marks: Marks::new(alloc, vars)?,
+            hints: Vec::new(alloc),
+            kept: Vec::new(alloc),
+        })
+    }
 
-/// The clause that is learnt from a conflict above level 0. The cost is the lengths of the clauses that are resolved or
-/// looked at to shorten it, the assignments from the latest down to the earliest of a variable in them that was marked,
-/// and the sorting of the clause's variables.
-pub fn analyse(
-    alloc: Global,
-    trail: &Trail,
-    conflict: u32,
-    work: &mut Workspace,
-) -> Result<Learnt, NoMemory>
-    requires lower { LowerFixpoints trail.now }
-    requires conflict { IsConflict trail.now conflict }
-    requires level { 1 ≤ level_of trail.now.steps }
-    requires ready { IsReady trail.now work.old }
-    ensures learnt { IfOk result (IsLearnt trail.now) }
-    ensures ready { IsReady trail.now work.new }
-{
-    let learnt = learnt_from(alloc, trail, conflict, work);
-    work.marks.clear(trail.vars());
-    learnt
-}
+    /// The assignment at the place is left out, resolved with its reason where it is marked.
+    fn resolve_at(&mut self, trail: &Trail, place: usize) -> Result<(), NoMemory>
+        requires place { place < length trail.now.steps }
+        requires many { (2 ≤ self.old.marks.pending) ⊎ ((1 ≤ self.old.marks.pending) × (level_of trail.now.steps ≡ 0)) }
+        requires resolving { IsResolving trail.now (place + 1) self.old.marks.seen.items self.old.marks.here.items self.old.marks.pending (reverse self.old.hints.items) }
+        requires listed { AreListed trail.now.vars self.old.marks.seen.items self.old.marks.here.items self.old.marks.touched.items }
+        ensures resolving { OnOk result (IsResolving trail.now place self.new.marks.seen.items self.new.marks.here.items self.new.marks.pending (reverse self.new.hints.items)) }
+        ensures listed { AreListed trail.now.vars self.new.marks.seen.items self.new.marks.here.items self.new.marks.touched.items }
+        ensures one { OnOk result (self.old.marks.pending ≤ self.new.marks.pending + 1) }
+    {
+        let var = trail.made()[place].var;
+        if !self.marks.seen[var as usize] {
+            return Ok(());
+        }
+        let Some(reason) = trail.reason_of(var) else {
+            unreachable!()
+        };
+        self.hints.push(reason).map_err(|_| NoMemory)?;
+        let level = trail.level();
+        self.marks.mark(trail, level, trail.clause(reason))?;
+        self.marks.unmark(trail, level, var);
+        Ok(())
+    }
 
-/// The hints of the final line, from a conflict at level 0.
-pub fn final_hints(
-    alloc: Global,
-    trail: &Trail,
-    conflict: u32,
-    work: &mut Workspace,
-) -> Result<Hints, NoMemory>
-    requires lower { LowerFixpoints trail.now }
-    requires conflict { IsConflict trail.now conflict }
-    requires level { level_of trail.now.steps ≡ 0 }
-    requires ready { IsReady trail.now work.old }
-    ensures last { IfOk result (FinalHolds trail.now.clauses) }
-    ensures ready { IsReady trail.now work.new }
-{
-    let resolved = resolve(trail, conflict, 0, &mut work.marks, &mut work.hints);
-    work.marks.clear(trail.vars());
-    resolved?;
-    copy_of(alloc, &work.hints)
+    /// The assignment at the place is left out, resolved with its reason, where it is marked, of a lower level, and
+    /// follows from the other marked ones and from level 0. Whether it was marked and of a lower level is answered.
+    fn shorten_at(&mut self, trail: &Trail, place: usize) -> Result<bool, NoMemory>
+        requires place { place < length trail.now.steps }
+        requires derived { IsDerived trail.now (place + 1) self.old.marks.seen.items self.old.marks.here.items self.old.marks.pending (reverse self.old.hints.items) }
+        requires listed { AreListed trail.now.vars self.old.marks.seen.items self.old.marks.here.items self.old.marks.touched.items }
+        ensures derived { OnOk result (IsDerived trail.now place self.new.marks.seen.items self.new.marks.here.items self.new.marks.pending (reverse self.new.hints.items)) }
+        ensures listed { AreListed trail.now.vars self.new.marks.seen.items self.new.marks.here.items self.new.marks.touched.items }
+        ensures same { OnOk result (self.new.marks.pending ≡ self.old.marks.pending) }
+    {
+        let var = trail.made()[place].var;
+        if !self.marks.is_below(var) {
+            return Ok(false);
+        }
+        if !self.marks.follows(trail, var)? {
+            return Ok(true);
+        }
+        let Some(reason) = trail.reason_of(var) else {
+            return Ok(true);
+        };
+        self.hints.push(reason).map_err(|_| NoMemory)?;
+        let level = trail.level();
+        self.marks.mark(trail, level, trail.clause(reason))?;
+        self.marks.unmark(trail, level, var);
+        Ok(true)
+    }
+
+    /// Leaves out what follows from the other literals and from level 0, so what was assigned at level 0 too. The
+    /// assignments are passed over from this place down to the earliest of a marked variable: each variable that was
+    /// marked is either passed by then or resolved before, which the hints count, or the one of the present level that
+    /// stays.
+    fn shorten(&mut self, trail: &Trail, from: usize) -> Result<(), NoMemory>
+        requires derived { IsDerived trail.now from self.old.marks.seen.items self.old.marks.here.items self.old.marks.pending (reverse self.old.hints.items) }
+        requires listed { AreListed trail.now.vars self.old.marks.seen.items self.old.marks.here.items self.old.marks.touched.items }
+        ensures derived { OnOk result (IsDerived trail.now 0 self.new.marks.seen.items self.new.marks.here.items self.new.marks.pending (reverse self.new.hints.items)) }
+        ensures listed { AreListed trail.now.vars self.new.marks.seen.items self.new.marks.here.items self.new.marks.touched.items }
+        ensures same { OnOk result (self.new.marks.pending ≡ self.old.marks.pending) }
+    {
+        let mut place = from;
+        let mut passed = self.hints.len();
+        while place > 0 && passed < self.marks.touched.len() {
+            place -= 1;
+            if self.shorten_at(trail, place)? {
+                passed = passed.saturating_add(1);
+            }
+        }
+        Ok(())
+    }
+
+    /// Resolves the conflict with the reasons of the latest assignments, until at most `stop` literals of the present
+    /// level are left, and then leaves out what follows from the other literals. The hints are those of the resolved
+    /// clauses, in the order of the assignments.
+    fn resolve(&mut self, trail: &Trail, conflict: u32, stop: usize) -> Result<(), NoMemory>
+        requires lower { LowerFixpoints trail.now }
+        requires conflict { IsConflict trail.now conflict }
+        requires stop { (1 ≤ stop) ⊎ (level_of trail.now.steps ≡ 0) }
+        requires clear { AreClear trail.now.vars self.old.marks.seen.items self.old.marks.here.items self.old.marks.touched.items self.old.marks.pending }
+        ensures resolved { OnOk result (IsResolved trail.now stop self.new.marks.seen.items self.new.marks.here.items self.new.marks.pending self.new.hints.items) }
+        ensures listed { AreListed trail.now.vars self.new.marks.seen.items self.new.marks.here.items self.new.marks.touched.items }
+    {
+        begin(trail, conflict, &mut self.marks)?;
+        self.hints.clear();
+        self.hints.push(conflict).map_err(|_| NoMemory)?;
+        let mut place = trail.made().len();
+        while self.marks.pending > stop {
+            place -= 1;
+            self.resolve_at(trail, place)?;
+        }
+        self.shorten(trail, place)?;
+        self.hints.reverse();
+        Ok(())
+    }
+
+    /// The clause that is learnt from the conflict.
+    fn learnt_from(
+        &mut self,
+        alloc: Global,
+        trail: &Trail,
+        conflict: u32,
+    ) -> Result<Learnt, NoMemory>
+        requires lower { LowerFixpoints trail.now }
+        requires conflict { IsConflict trail.now conflict }
+        requires level { 1 ≤ level_of trail.now.steps }
+        requires clear { AreClear trail.now.vars self.old.marks.seen.items self.old.marks.here.items self.old.marks.touched.items self.old.marks.pending }
+        ensures learnt { IfOk result (IsLearnt trail.now) }
+        ensures listed { AreListed trail.now.vars self.new.marks.seen.items self.new.marks.here.items self.new.marks.touched.items }
+    {
+        self.resolve(trail, conflict, 1)?;
+        let clause = clause_of_marks(alloc, trail, &self.marks, &mut self.kept)?;
+        let back = back_of(trail, clause.as_slice());
+        Ok(Learnt {
+            clause,
+            hints: copy_of(alloc, &self.hints)?,
+            back,
+        })
+    }
+
+    /// The clause that is learnt from a conflict above level 0. The cost is the lengths of the clauses that are
+    /// resolved or looked at to shorten it, the assignments from the latest down to the earliest of a variable in them
+    /// that was marked, and the sorting of the clause's variables.
+    pub fn learn(&mut self, alloc: Global, trail: &Trail, conflict: u32) -> Result<Learnt, NoMemory>
+        requires lower { LowerFixpoints trail.now }
+        requires conflict { IsConflict trail.now conflict }
+        requires level { 1 ≤ level_of trail.now.steps }
+        requires clear { AreClear trail.now.vars self.old.marks.seen.items self.old.marks.here.items self.old.marks.touched.items self.old.marks.pending }
+        ensures learnt { IfOk result (IsLearnt trail.now) }
+        ensures clear { AreClear trail.now.vars self.new.marks.seen.items self.new.marks.here.items self.new.marks.touched.items self.new.marks.pending }
+    {
+        let learnt = self.learnt_from(alloc, trail, conflict);
+        self.marks.clear(trail.vars());
+        learnt
+    }
+
+    /// The hints of the final line, from a conflict at level 0.
+    pub fn refute(&mut self, alloc: Global, trail: &Trail, conflict: u32) -> Result<Hints, NoMemory>
+        requires lower { LowerFixpoints trail.now }
+        requires conflict { IsConflict trail.now conflict }
+        requires level { level_of trail.now.steps ≡ 0 }
+        requires clear { AreClear trail.now.vars self.old.marks.seen.items self.old.marks.here.items self.old.marks.touched.items self.old.marks.pending }
+        ensures last { IfOk result (FinalHolds trail.now.clauses) }
+        ensures clear { AreClear trail.now.vars self.new.marks.seen.items self.new.marks.here.items self.new.marks.touched.items self.new.marks.pending }
+    {
+        let resolved = self.resolve(trail, conflict, 0);
+        self.marks.clear(trail.vars());
+        resolved?;
+        copy_of(alloc, &self.hints)
+    }
 }

@@ -1,14 +1,12 @@
 //! The loop of the search: a conflict, a line, a way back.
 ghost use Rattle.std.specs.Prelude.{◌≡◌, ◌<◌, ◌≤◌, ◌+◌, ◌^◌, length, IfOk, OnOk, OnErr, ◌++◌, ◌∷◌, []};
-ghost use Rattle.heesch_cnf.specs.Clauses.{IsClause, IsNew};
-ghost use Rattle.heesch_cnf.specs.Lines.{clauses_with, FinalHolds};
+ghost use Rattle.heesch_cnf.specs.Lines.{clause_of};
 ghost use Rattle.heesch_trail.specs.State.{IsTrail, level_of};
-ghost use Rattle.heesch_cdcl.specs.Learning.{IsConflict, IsLearnt, LearnsOne, LearnsMore, IsOver, IsEnding};
+ghost use Rattle.heesch_cdcl.specs.Learning.{IsNext, LearnsMore, IsOver, IsEnding};
 ghost use Rattle.heesch_cdcl.specs.Ready.{IsReady};
 ghost use Rattle.heesch_cdcl.specs.Searching.{Searches, SameFormula, formula_in};
 ghost use Rattle.heesch_cdcl.specs.Search.{SameClauses};
 
-use crate::analysis::{analyse, final_hints};
 use crate::search::{descend, go_back, restart};
 use crate::workspace::Workspace;
 use heesch_cnf::{Hints, Line, Lits};
@@ -30,36 +28,43 @@ fn copy_of(alloc: Global, clause: &Lits) -> Result<Lits, NoMemory>
     Ok(Seq::from_vec(copy))
 }
 
-/// One more line, which holds and is new, or nothing has changed but the assignments.
-fn learn(
+/// The clause of the line.
+fn clause_in(line: &Line) -> &Lits
+    ensures { result.now ≡ clause_of line.now }
+{
+    match line {
+        Line::Learn { clause, hints: _ } => clause,
+        Line::Given { clause } => clause,
+    }
+}
+
+/// One more line, whose clause the trail has too, back at the level; or nothing has changed.
+pub fn add_line(
     alloc: Global,
     lines: &mut Seq<Line>,
     trail: &mut Trail,
     work: &mut Workspace,
-    conflict: u32,
+    line: Line,
+    level: u32,
 ) -> Result<(), NoMemory>
     requires searching { Searches lines.old trail.old }
     requires ready { IsReady trail.old work.old }
-    requires conflict { IsConflict trail.old conflict }
-    requires level { 1 ≤ level_of trail.old.steps }
+    requires next { IsNext trail.old line level }
     requires room { length (formula_in trail.old.clauses lines.old) + length lines.old < 2 ^ 31 }
     ensures searching { Searches lines.new trail.new }
     ensures formula { SameFormula lines.old trail.old lines.new trail.new }
     ensures ready { IsReady trail.new work.new }
-    ensures ok { OnOk result (LearnsOne lines.old lines.new) }
-    ensures err { OnErr result (lines.new ≡ lines.old) }
+    ensures ok { OnOk result (lines.new ≡ lines.old ++ line ∷ []) }
+    ensures lines_stay { OnErr result (lines.new ≡ lines.old) }
+    ensures trail_stays { OnErr result (trail.new ≡ trail.old) }
 {
-    let learnt = analyse(alloc, trail, conflict, work)?;
-    let clause = copy_of(alloc, &learnt.clause)?;
-    lines.push(Line::Learn {
-        clause: learnt.clause,
-        hints: learnt.hints,
-    })?;
-    if trail.add(clause).is_err() {
+    let copy = copy_of(alloc, clause_in(&line))?;
+    lines.push(line)?;
+    if trail.add(copy).is_err() {
         let _ = lines.pop();
         return Err(NoMemory);
     }
-    go_back(trail, &mut work.decisions, learnt.back);
+    go_back(trail, &mut work.decisions, level);
     Ok(())
 }
 
@@ -75,7 +80,7 @@ fn give_up(alloc: Global, trail: &mut Trail, work: &mut Workspace) -> Result<End
     match restart(trail, &mut work.decisions)? {
         None => Ok(Ending::Spent),
         Some(conflict) => {
-            let hints = final_hints(alloc, trail, conflict, work)?;
+            let hints = work.resolution.refute(alloc, trail, conflict)?;
             Ok(Ending::Refuted(hints))
         }
     }
@@ -105,42 +110,17 @@ pub fn run(
             return Ok(Ending::Model);
         };
         if trail.level() == 0 {
-            let hints = final_hints(alloc, trail, conflict, work)?;
+            let hints = work.resolution.refute(alloc, trail, conflict)?;
             return Ok(Ending::Refuted(hints));
         }
         if lines.len() == turns as usize {
             return give_up(alloc, trail, work);
         }
-        learn(alloc, lines, trail, work, conflict)?;
+        let learnt = work.resolution.learn(alloc, trail, conflict)?;
+        let line = Line::Learn {
+            clause: learnt.clause,
+            hints: learnt.hints,
+        };
+        add_line(alloc, lines, trail, work, line, learnt.back)?;
     }
-}
-
-/// A clause that was given stands in a line of its own, or nothing has changed.
-pub fn give_line(
-    alloc: Global,
-    lines: &mut Seq<Line>,
-    trail: &mut Trail,
-    work: &mut Workspace,
-    clause: Lits,
-) -> Result<(), NoMemory>
-    requires searching { Searches lines.old trail.old }
-    requires ready { IsReady trail.old work.old }
-    requires form { IsClause trail.old.vars clause }
-    requires fresh { IsNew trail.old.clauses clause }
-    requires room { length (formula_in trail.old.clauses lines.old) + length lines.old < 2 ^ 31 }
-    ensures searching { Searches lines.new trail.new }
-    ensures formula { SameFormula lines.old trail.old lines.new trail.new }
-    ensures ready { IsReady trail.new work.new }
-    ensures ok { OnOk result (lines.new ≡ lines.old ++ Line.Given clause ∷ []) }
-    ensures lines_stay { OnErr result (lines.new ≡ lines.old) }
-    ensures trail_stays { OnErr result (trail.new ≡ trail.old) }
-{
-    let copy = copy_of(alloc, &clause)?;
-    lines.push(Line::Given { clause })?;
-    if trail.add(copy).is_err() {
-        let _ = lines.pop();
-        return Err(NoMemory);
-    }
-    go_back(trail, &mut work.decisions, 0);
-    Ok(())
 }

@@ -11,7 +11,7 @@ ghost use Rattle.heesch_cdcl.specs.Found.{IsFound, IsRefutedAtOnce};
 
 use crate::covers::Covers;
 use crate::empty::{first_empty, only};
-use crate::learning::{Ending, give_line, run};
+use crate::learning::{Ending, add_line, run};
 use crate::workspace::Workspace;
 use heesch_cnf::{FlatFormula, Formula, Line, Lits, Log};
 use heesch_io::{NoMemory, Seq};
@@ -186,12 +186,13 @@ impl Solver {
         ensures err { OnErr result (self.new ≡ self.old) }
         ensures valid { IsSolver self.new }
     {
-        give_line(
+        add_line(
             self.alloc,
             &mut self.log.lines,
             &mut self.trail,
             &mut self.work,
-            clause,
+            Line::Given { clause },
+            0,
         )?;
         self.kept = false;
         Ok(())

@@ -6,7 +6,7 @@ use Rattle.std.proofs.lemmas.Int.{ints}
 use Rattle.std.proofs.lemmas.Bool.{and_parts, or_cases}
 use Rattle.heesch_grid.specs.declared.Cell.{Cell}
 use Rattle.heesch_grid.specs.declared.isometries.Iso.{Iso}
-use Rattle.heesch_grid.specs.Cells.{cell_before, SameCells}
+use Rattle.heesch_grid.specs.Cells.{cell_before, SameCells, origin}
 use Rattle.heesch_grid.specs.Geometry.{image}
 use Rattle.heesch_grid.specs.GridTests.{square_laws}
 use Rattle.heesch_grid.specs.Pairs.{Cell-eta}
@@ -22,7 +22,7 @@ use Rattle.heesch_cert.specs.declared.verdict.Verdict.TheVariants.{Tiles}
 use Rattle.heesch_cert.specs.Limits.{AreLimits}
 use Rattle.heesch_cert.specs.TrueEntry.{IsTrueEntry}
 use Rattle.heesch_cert.specs.Examples.{square_limits, places, one_member, one_class, square_entry}
-use Rattle.heesch_grid.specs.Examples.{square, o, single, unit_triple}
+use Rattle.heesch_grid.specs.Examples.{square, single, unit_triple}
 use Rattle.heesch_cert.specs.RightVerdict.{HasRightVerdict}
 use Rattle.heesch_cert.proofs.OneCell.{one_polyform, one_canonical}
 use Rattle.heesch_cert.proofs.Covered.{covered_true}
@@ -37,9 +37,9 @@ floor_zero (negsuc a) e = ap negsuc (sym (div-one a)) ∙ e
 pub single_free : IsFreePolyform square 1 single
 single_free = record {
   cells = single;
-  polyform = one_polyform square square_laws o refl;
+  polyform = one_polyform square square_laws origin refl;
   size = refl;
-  canonical = one_canonical square square_laws o refl refl refl (λ c k a b. ap (λ z. cell_before z o) (Cell-eta c o (floor_zero c.a a) (floor_zero c.b b)) ∙ cell_before-irreflexive o);
+  canonical = one_canonical square square_laws origin refl refl refl (λ c k a b. ap (λ z. cell_before z origin) (Cell-eta c origin (floor_zero c.a a) (floor_zero c.b b)) ∙ cell_before-irreflexive origin);
 }
 
 -- ---- it tiles by translations, with the triple (1, 1, 0)
@@ -84,10 +84,10 @@ single_classes = record {
 }
   where
     in_class : (from to : Iso) → no_move ≡ from → no_move ≡ to → InOneClass square single unit_triple places from to
-    in_class from to p q = subst (λ (f : Iso). InOneClass square single unit_triple places f to) p (subst (λ (t : Iso). InOneClass square single unit_triple places no_move t) q (no_move, no_move_symmetry, record { i = pos 0; j = pos 0; same = same_single o o refl }))
+    in_class from to p q = subst (λ (f : Iso). InOneClass square single unit_triple places f to) p (subst (λ (t : Iso). InOneClass square single unit_triple places no_move t) q (no_move, no_move_symmetry, record { i = pos 0; j = pos 0; same = same_single origin origin refl }))
 
     exact : (from to : Iso) (x : Member) → no_move ≡ from → no_move ≡ to → one_member ≡ x → TakesExactly square single unit_triple places from to x.by
-    exact from to x p q e = subst (λ (z : Member). TakesExactly square single unit_triple places from to z.by) e (subst (λ (f : Iso). TakesExactly square single unit_triple places f to no_move) p (subst (λ (t : Iso). TakesExactly square single unit_triple places no_move t no_move) q (record { is_symmetry = no_move_symmetry; same = same_single o o refl })))
+    exact from to x p q e = subst (λ (z : Member). TakesExactly square single unit_triple places from to z.by) e (subst (λ (f : Iso). TakesExactly square single unit_triple places f to no_move) p (subst (λ (t : Iso). TakesExactly square single unit_triple places no_move t no_move) q (record { is_symmetry = no_move_symmetry; same = same_single origin origin refl })))
 
 -- ---- the entry
 

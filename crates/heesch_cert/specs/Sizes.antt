@@ -1,5 +1,5 @@
--- Which sizes a catalogue may be of.
-use Rattle.std.specs.Prelude.{ℕ, ◌≤◌}
+-- Which sizes a catalogue may be of, and the word of what it is of.
+use Rattle.std.specs.Prelude.{ℕ, ◌≤◌, List, codes, decimal}
 use Rattle.heesch_grid.specs.declared.GridName.{GridName}
 use Rattle.heesch_grid.specs.declared.GridName.TheVariants.{Square, Hex, Iamond, Kite}
 use Rattle.heesch_cnf.specs.declared.version.Version.{Version}
@@ -26,3 +26,8 @@ HasGrid version grid = 1 ≤ most_cells version grid
 abbrev pub IsSubject : Version → GridName → Subject → Type 0
 IsSubject version grid (Size n) = (1 ≤ n) × (n ≤ most_cells version grid)
 IsSubject version grid Given = HasGrid version grid
+
+-- the word of a subject: its number of cells, or `given`
+abbrev pub subject_word : Subject → List ℕ
+subject_word (Size n) = decimal n
+subject_word Given = codes "given"

@@ -1,4 +1,6 @@
 //! Verdicts.
+ghost use Rattle.std.specs.Prelude.{◌≡◌};
+ghost use Rattle.heesch_cert.specs.TrueEntry.{first_number, last_number};
 
 /// The kind of a tiling.
 #[derive(Clone, Copy, Debug, PartialEq, Eq)]
@@ -54,4 +56,32 @@ pub enum Verdict {
         phase: Phase,
         at: u32,
     },
+}
+
+impl Verdict {
+    /// How many hole-free coronas it tells; a tiling tells none.
+    pub fn first_number(self) -> u32
+        ensures { result ≡ first_number self }
+    {
+        match self {
+            Verdict::Tiles { .. } => 0,
+            Verdict::Heesch { h, .. }
+            | Verdict::Levels { h }
+            | Verdict::Holes { h }
+            | Verdict::Turns { h, .. }
+            | Verdict::Size { h, .. } => h,
+        }
+    }
+
+    /// The last number of its line: the classes of a tiling, else the last number of coronas that was sought.
+    pub fn last_number(self) -> u32
+        ensures { result ≡ last_number self }
+    {
+        match self {
+            Verdict::Tiles { classes, .. } => classes,
+            Verdict::Heesch { m, .. } => m,
+            Verdict::Levels { h } | Verdict::Holes { h } => h,
+            Verdict::Turns { at, .. } | Verdict::Size { at, .. } => at,
+        }
+    }
 }

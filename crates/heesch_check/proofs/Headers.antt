@@ -13,11 +13,11 @@ use Rattle.heesch_cert.specs.declared.limits.Limits.{Limits}
 use Rattle.heesch_cert.specs.Limits.{AreLimits}
 use Rattle.heesch_cnf.specs.declared.version.Version.{Version}
 use Rattle.heesch_cnf.specs.declared.version.Version.TheVariants.{One, Two}
-use Rattle.heesch_cert.specs.Sizes.{IsSubject}
+use Rattle.heesch_cert.specs.Sizes.{IsSubject, subject_word}
 use Rattle.heesch_cert.proofs.FewCells.{few_cells}
 use Rattle.heesch_text.specs.declared.line.Line.{Line}
 use Rattle.heesch_text.specs.declared.line.Line.TheVariants as lines
-use Rattle.heesch_text.specs.Names.{version_text, subject_text}
+use Rattle.heesch_text.specs.Names.{version_text}
 use Rattle.heesch_text.specs.Lines.{limits_text, words_of, text_of}
 use Rattle.heesch_text.specs.Catalogue.{header_text}
 use Rattle.heesch_line.specs.Forms.{IsLine, HasNoNewline}
@@ -92,7 +92,7 @@ version_length : (version : Version) → length (version_text version) ≤ 3
 version_length One = omega arith
 version_length Two = omega arith
 
-subject_length : (version : Version) (grid : GridName) (subject : Subject) → IsSubject version grid subject → length (subject_text subject) ≤ 10
+subject_length : (version : Version) (grid : GridName) (subject : Subject) → IsSubject version grid subject → length (subject_word subject) ≤ 10
 subject_length version grid (Size n) is = let low = few_cells version grid in let high = is.1 in length-decimal-le 10 n (omega arith) (omega (arith, low, high)) (omega (arith, low, high))
 subject_length version grid Given is = omega arith
 
@@ -114,7 +114,7 @@ header_length h form =
     let b = grid_length h.grid in
     let c = subject_length h.limits.version h.grid h.subject form.0 in
     let d = limits_length h.limits form.1 in
-    joined (if h.brief then codes "brief" else codes "heesch") (version_text h.limits.version) (grid_word h.grid) (codes " ") (subject_text h.subject) (limits_text h.limits) a (version_length h.limits.version) b (omega arith) c d
+    joined (if h.brief then codes "brief" else codes "heesch") (version_text h.limits.version) (grid_word h.grid) (codes " ") (subject_word h.subject) (limits_text h.limits) a (version_length h.limits.version) b (omega arith) c d
   where
     joined : (a b c d e f : List ℕ) → length a ≤ 6 → length b ≤ 3 → length c ≤ 6 → length d ≤ 1 → length e ≤ 10 → length f ≤ 80 → length ((a ++ b ++ c ++ d ++ e) ++ f) ≤ 200
     joined a b c d e f p q r s t u = simp length-append (omega arith)

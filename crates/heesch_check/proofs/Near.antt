@@ -18,7 +18,8 @@ use Rattle.heesch_cert.specs.declared.entry.Evidence.{Evidence}
 use Rattle.heesch_cert.specs.declared.entry.Evidence.TheVariants as evidences
 use Rattle.heesch_cert.specs.declared.entry.Entry.{Entry}
 use Rattle.heesch_text.specs.declared.line.Line.{Line}
-use Rattle.heesch_text.specs.Catalogue.{step_line, last_line, proof_lines, layer_lines, wall_lines, bare_lines, wider_lines, wider_count, triple_lines, tile_lines, evidence_lines, entry_lines, last_number}
+use Rattle.heesch_cert.specs.TrueEntry.{last_number}
+use Rattle.heesch_text.specs.Catalogue.{step_line, last_line, proof_lines, layer_lines, wall_lines, bare_lines, wider_lines, wider_count, triple_lines, tile_lines, evidence_lines, entry_lines}
 use Rattle.heesch_line.specs.Forms.{IsLine, IsPlace}
 use Rattle.heesch_grammar.specs.Entries.{HoldsEvidence, HoldsItsLines}
 use Rattle.heesch_audit.specs.Near.{IsNearIso, AreNearLayers, IsNearWider, IsNearStep, IsNearProof, IsNearWall, IsNearBare, IsNearEvidence, IsNearEntry}

@@ -5,7 +5,7 @@ ghost use Rattle.heesch_cert.specs.declared.header.Header.{Header as CatalogueHe
 ghost use Rattle.heesch_cert.specs.Limits.{AreLimits};
 ghost use Rattle.heesch_grid.specs.Names.{geometry_of};
 ghost use Rattle.heesch_check.specs.Catalogues.{IsInPlace, AreAll};
-ghost use Rattle.heesch_check.specs.Judging.{AreAuditsBehind, ArePlaced, HasShapes, IsFit, Judges, JudgesEnd, JudgesAll};
+ghost use Rattle.heesch_check.specs.Judging.{AreAuditsBehind, ArePlaced, HasShapes, IsFit, Judges, JudgesEnd};
 ghost use Rattle.heesch_check.specs.Reading.{AnswersEarly, AnswersLong, IsAnswerOf, JudgesRound};
 
 use crate::answers::Checked;
@@ -189,29 +189,6 @@ impl<G: Grid + Send + Sync> Judge<G> {
         self.audits_between(crew, before, until, items)
     }
 
-    /// Judges items one after the other, up to the first at fault, and gives its answer.
-    fn judge_each<T: Threads + Sync>(
-        &mut self,
-        rt: &T,
-        alloc: Global,
-        items: &[Item],
-    ) -> Result<Option<Checked>, NoMemory>
-        requires grid { geometry_of self.old.header.grid ≡ G.geometry }
-        requires shapes { HasShapes self.old.header self.old.header.subject self.old.shapes }
-        requires limits { AreLimits self.old.header.limits }
-        requires fit { AllByRecursion IsFit items.now }
-        ensures judges { IfOk result (JudgesAll self.old.header self.old.entries self.new.entries items.now) }
-        ensures kept { self.new ≡ record self.old { entries = self.new.entries } }
-    {
-        for item in items {
-            let answer = self.judge(rt, alloc, item)?;
-            if answer.is_some() {
-                return Ok(answer);
-            }
-        }
-        Ok(None)
-    }
-
     /// The answer where a line begins as the last one does in an input that is longer than is read. It comes too early,
     /// with this answer, unless the entries so far are all.
     fn answer_early(&self, line: u64, early: Checked) -> Checked
@@ -273,9 +250,12 @@ impl<G: Grid + Send + Sync> Judge<G> {
         if good < audits.len() {
             return Ok(Some(self.next_is_invalid()));
         }
-        let answer = self.judge_each(rt, alloc, &items[good..])?;
-        if answer.is_some() {
-            return Ok(answer);
+        let others = &items[good..];
+        for item in others {
+            let answer = self.judge(rt, alloc, item)?;
+            if answer.is_some() {
+                return Ok(answer);
+            }
         }
         Ok(self.answer(reading))
     }

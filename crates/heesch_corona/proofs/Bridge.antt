@@ -6,7 +6,7 @@ use Rattle.std.proofs.lemmas.Bool.{cases_Bool, and_parts, and_from}
 use Rattle.std.proofs.lemmas.List.Elements.{All-contains}
 use Rattle.heesch_grid.specs.declared.Cell.{Cell}
 use Rattle.heesch_grid.specs.Listing.{IsFirst}
-use Rattle.heesch_grid.specs.Cells.{has, meet}
+use Rattle.heesch_grid.specs.Cells.{has, meet, set_of}
 use Rattle.heesch_grid.specs.Geometry.{Geometry, IsCell, Touching, IsGrid}
 use Rattle.heesch_grid.specs.Placement.{Apart, touch}
 use Rattle.heesch_grid.specs.Corona.{cells_of}
@@ -19,7 +19,7 @@ use Rattle.heesch_grid.proofs.TileFacts.{Apart-symmetric, member_cells, cells_me
 use Rattle.heesch_shape.specs.Walks.{IsShape}
 use Rattle.heesch_corona.specs.Tiles.{all_tiles, tile_at, patch_at}
 use Rattle.heesch_corona.specs.Building.{ArePatches}
-use Rattle.heesch_corona.specs.Searches.{set_of, IsFirstMeeting, HaveNoMeeting, does_reach, DoReach, IsFirstLoose, is_gap, HasNoGap, IsFirstGap, IsWhole, IsFirstHole}
+use Rattle.heesch_corona.specs.Searches.{IsFirstMeeting, HaveNoMeeting, does_reach, DoReach, IsFirstLoose, is_gap, HasNoGap, IsFirstGap, IsWhole, IsFirstHole}
 use Rattle.heesch_corona.specs.Rules.{DoMeet, PairBefore, IsLoose, IsUncovered, GapBefore, NoneMeet, NoneLoose, NoneUncovered, NoneHoled}
 use Rattle.heesch_corona.specs.Answer.{IsFirstHoled}
 use Rattle.heesch_corona.proofs.Members.{covered_by, covered_from}

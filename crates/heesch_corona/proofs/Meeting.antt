@@ -5,10 +5,10 @@ use Rattle.std.proofs.lemmas.Bool.{cases_Bool}
 use Rattle.std.proofs.lemmas.List.Elements.{Contains-get_or}
 use Rattle.heesch_grid.specs.declared.Cell.{Cell}
 use Rattle.heesch_grid.specs.Listing.{IsRising}
-use Rattle.heesch_grid.specs.Cells.{has, meet}
+use Rattle.heesch_grid.specs.Cells.{has, meet, set_of}
 use Rattle.heesch_index.specs.Covering.{numbers_with}
 use Rattle.heesch_index.proofs.NumberFacts.{IsRising-numbers_with, numbers_with-range, has-numbers_with, Contains-numbers_with}
-use Rattle.heesch_corona.specs.Searches.{set_of, IsNextMeeting}
+use Rattle.heesch_corona.specs.Searches.{IsNextMeeting}
 use Rattle.heesch_corona.proofs.Members.{rising_at, number_at}
 
 or_false : (a b : Bool) → (a || b) ≡ false → (a ≡ false) × (b ≡ false)

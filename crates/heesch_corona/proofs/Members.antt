@@ -11,7 +11,7 @@ use Rattle.std.proofs.lemmas.List.Folds.{list_any-append, list_any_at, list_any_
 use Rattle.std.proofs.lemmas.List.Elements.{All-contains, Contains-get_or}
 use Rattle.heesch_grid.specs.declared.Cell.{Cell}
 use Rattle.heesch_grid.specs.Listing.{IsRising}
-use Rattle.heesch_grid.specs.Cells.{same_cell, has}
+use Rattle.heesch_grid.specs.Cells.{same_cell, has, set_of}
 use Rattle.heesch_grid.specs.Corona.{cells_of}
 use Rattle.heesch_grid.specs.Pairs.{or-left, or-right, same_cell-refl}
 use Rattle.heesch_grid.specs.Geometry.{Geometry}
@@ -20,7 +20,6 @@ use Rattle.heesch_shape.specs.Walks.{IsShape}
 use Rattle.heesch_grid.proofs.ListFacts.{member_cases, no_member}
 use Rattle.heesch_index.specs.Covering.{numbers_with}
 use Rattle.heesch_index.proofs.NumberFacts.{IsRising-numbers_with, numbers_with-range, has-numbers_with, Contains-numbers_with}
-use Rattle.heesch_corona.specs.Searches.{set_of}
 
 -- the cells of a set and further ones
 pub cells_cons : (s : List Cell) (ss : List (List Cell)) (c : Cell) → has (cells_of (s ∷ ss)) c ≡ (has s c || has (cells_of ss) c)

@@ -5,7 +5,7 @@ use Rattle.std.proofs.lemmas.Int.{ints}
 use Rattle.std.proofs.lemmas.Bool.{cases_Bool}
 use Rattle.std.proofs.lemmas.List.Elements.{All-contains}
 use Rattle.heesch_grid.specs.declared.Cell.{Cell}
-use Rattle.heesch_grid.specs.Cells.{has}
+use Rattle.heesch_grid.specs.Cells.{has, set_of}
 use Rattle.heesch_grid.specs.Vectors.{IsWithin, minus}
 use Rattle.heesch_grid.specs.Geometry.{Geometry, IsCell, IsGrid}
 use Rattle.heesch_grid.specs.Corona.{cells_of}
@@ -16,7 +16,7 @@ use Rattle.heesch_shape.proofs.Words.{form_of}
 use Rattle.heesch_shape.proofs.Forms.{spread_a, spread_b}
 use Rattle.std.proofs.Math.Seq.{take-length}
 use Rattle.heesch_corona.specs.Building.{ArePatches, AreClose}
-use Rattle.heesch_corona.specs.Searches.{set_of, does_reach, DoReach}
+use Rattle.heesch_corona.specs.Searches.{does_reach, DoReach}
 use Rattle.heesch_corona.proofs.Members.{covered_by}
 use Rattle.heesch_corona.proofs.Numbered.{last_end, level_there}
 use Rattle.heesch_corona.proofs.Bridge.{reached}

@@ -8,7 +8,7 @@ use Rattle.std.proofs.lemmas.Grind.{flat_map-append}
 use Rattle.heesch_grid.specs.declared.Cell.{Cell}
 use Rattle.heesch_corona.specs.Tiles.{all_tiles, tile_at, patch_at}
 use Rattle.heesch_corona.specs.Building.{ArePatches}
-use Rattle.heesch_corona.specs.Searches.{set_of}
+use Rattle.heesch_grid.specs.Cells.{set_of}
 
 abbrev pub flat : List (List (List Cell)) → List (List Cell)
 flat tiles = flat_map (λ layer. layer) tiles

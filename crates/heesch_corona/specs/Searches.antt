@@ -1,15 +1,11 @@
 -- What the searches over the numbered tiles look for. Numbers count from 1 here, and the shape is 1; a level has the tiles from one end to the next.
-use Rattle.std.specs.Prelude.{◌≡◌, ℕ, ◌-◌, ◌<◌, ◌≤◌, Bool, true, false, not, ◌&&◌, Option, Some, None, min, List, [], length, take, slice_index, slice_index_or, MatchOption}
+use Rattle.std.specs.Prelude.{◌≡◌, ℕ, ◌-◌, ◌<◌, ◌≤◌, Bool, true, false, not, ◌&&◌, Option, Some, None, min, List, length, take, slice_index, MatchOption}
 use Rattle.std.specs.List.{list_any}
 use Rattle.heesch_grid.specs.declared.Cell.{Cell}
-use Rattle.heesch_grid.specs.Cells.{cell_before, has, meet}
+use Rattle.heesch_grid.specs.Cells.{cell_before, has, meet, set_of}
 use Rattle.heesch_grid.specs.Geometry.{Geometry}
 use Rattle.heesch_grid.specs.Corona.{cells_of}
 use Rattle.heesch_grid.specs.Hole.{IsHoleFree, IsGreatestHole}
-
--- the set of a number
-abbrev pub set_of : List (List Cell) → ℕ → List Cell
-set_of sets n = slice_index_or sets (n - 1) []
 
 -- the lesser number, or the one that is there
 abbrev pub lesser_of : Option ℕ → Option ℕ → Option ℕ

@@ -2,12 +2,12 @@
 ghost use Rattle.std.specs.Prelude.{◌≡◌, ◌<◌, ◌≤◌, ◌-◌, ℕ, Bool, true, false, not, ◌&&◌, ◌||◌, All, length, take, slice_index, MatchOption};
 ghost use Rattle.std.specs.List.{list_any};
 ghost use Rattle.heesch_grid.specs.declared.Cell.{Cell};
-ghost use Rattle.heesch_grid.specs.Cells.{has, cell_before, same_cell};
+ghost use Rattle.heesch_grid.specs.Cells.{has, cell_before, same_cell, set_of};
 ghost use Rattle.heesch_grid.specs.Geometry.{IsCell};
 ghost use Rattle.heesch_grid.specs.Vectors.{IsWithin};
 ghost use Rattle.heesch_grid.specs.Corona.{cells_of};
 ghost use Rattle.heesch_shape.specs.Walks.{IsShape};
-ghost use Rattle.heesch_corona.specs.Searches.{set_of, is_gap, IsLeastWith, HasNoGap, IsFirstGap};
+ghost use Rattle.heesch_corona.specs.Searches.{is_gap, IsLeastWith, HasNoGap, IsFirstGap};
 
 use crate::patches::is_covered;
 use heesch_grid::{Cell, Grid};

@@ -1,6 +1,7 @@
 //! Tiles that meet.
 ghost use Rattle.std.specs.Prelude.{◌≡◌, ◌<◌, ◌≤◌, [], ◌∷◌, length, MatchOption};
-ghost use Rattle.heesch_corona.specs.Searches.{set_of, lesser_of, IsNextMeeting, IsFirstMeeting, HaveNoMeeting};
+ghost use Rattle.heesch_corona.specs.Searches.{lesser_of, IsNextMeeting, IsFirstMeeting, HaveNoMeeting};
+ghost use Rattle.heesch_grid.specs.Cells.{set_of};
 
 use heesch_grid::Cell;
 use heesch_index::CellIndex;

@@ -2,12 +2,12 @@
 ghost use Rattle.std.specs.Prelude.{◌≡◌, ◌<◌, ◌≤◌, ◌-◌, ℕ, List, true, All, length, take, slice_index, MatchOption};
 ghost use Rattle.std.specs.List.{list_any};
 ghost use Rattle.heesch_grid.specs.declared.Cell.{Cell};
-ghost use Rattle.heesch_grid.specs.Cells.{has};
+ghost use Rattle.heesch_grid.specs.Cells.{has, set_of};
 ghost use Rattle.heesch_grid.specs.Geometry.{IsCell};
 ghost use Rattle.heesch_grid.specs.Vectors.{IsWithin};
 ghost use Rattle.heesch_grid.specs.Corona.{cells_of};
 ghost use Rattle.heesch_shape.specs.Walks.{IsShape};
-ghost use Rattle.heesch_corona.specs.Searches.{set_of, does_reach, IsLooseAmong, DoReach, IsFirstLoose};
+ghost use Rattle.heesch_corona.specs.Searches.{does_reach, IsLooseAmong, DoReach, IsFirstLoose};
 
 use crate::patches::is_covered;
 use heesch_grid::{Cell, Grid};

@@ -9,14 +9,14 @@ use Rattle.heesch_grid.specs.Listing.{IsRising}
 use Rattle.heesch_grid.specs.Cells.{has}
 use Rattle.heesch_grid.specs.Pairs.{has-true}
 use Rattle.heesch_grid.specs.Geometry.{Geometry, IsGrid, IsCell, Adjacent}
-use Rattle.heesch_grid.specs.CoronaFormula.{Variable}
+use Rattle.heesch_grid.specs.CoronaFormula.{Variable, IsNumbered}
 use Rattle.heesch_grid.proofs.CellFacts.{has-is, has-false}
 use Rattle.heesch_grid.proofs.GridFacts.{adjacent_exact}
 use Rattle.heesch_grid.proofs.ListFacts.{no_member, member_cases, All-from_members, rising_filter, member_filter, filter_member, any_member, member_any}
 use Rattle.heesch_grid.proofs.ClauseFacts.{entry_at}
 use Rattle.heesch_grid.proofs.WindowFacts.{member_range}
 use Rattle.heesch_cnf.specs.Clauses.{assignment_of}
-use Rattle.heesch_cert.specs.Cuts.{IsInBorder, IsVariableAt}
+use Rattle.heesch_cert.specs.Cuts.{IsInBorder}
 use Rattle.heesch_place.specs.Universes.{Levels, covering}
 use Rattle.heesch_cuts.specs.Marks.{is_marked, is_in}
 use Rattle.heesch_cuts.specs.Enclosing.{is_covered}
@@ -37,7 +37,7 @@ module _ (vars : List Variable) (values : List Bool) (k : ℕ) where
       let a = entry_at vars 1 x.0 x.1 in
       record {
         variable = x.0.1;
-        is_variable = subst (λ j. IsVariableAt vars j x.0.1) x.2 a;
+        is_variable = subst (λ j. IsNumbered vars j x.0.1) x.2 a;
         level = leb-true x.0.1.level k (and_parts (nat_le x.0.1.level k) (has x.0.1.tile d) x.3).0;
         value = t;
       }
@@ -115,7 +115,7 @@ module _ (u : Levels) (values : List Bool) (k : ℕ) where
                 number = r.0;
                 in_border = in_numbers r.0 range.0 range.1 r.2;
                 variable = x.0.1;
-                is_variable = subst (λ n. IsVariableAt u.vars n x.0.1) x.2 (entry_at u.vars 1 x.0 x.1);
+                is_variable = subst (λ n. IsNumbered u.vars n x.0.1) x.2 (entry_at u.vars 1 x.0 x.1);
                 member = has-true x.0.1.tile d (and_parts (nat_le x.0.1.level k) (has x.0.1.tile d) x.3).1;
               })
         ]

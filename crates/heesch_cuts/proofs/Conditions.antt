@@ -13,7 +13,7 @@ use Rattle.heesch_grid.specs.Cells.{cell_before, has, meet}
 use Rattle.heesch_grid.specs.Geometry.{Geometry, IsGrid, IsCell, Adjacent}
 use Rattle.heesch_grid.specs.Polyform.{IsCellSet}
 use Rattle.heesch_grid.specs.Pairs.{has-true, or-left, or-right}
-use Rattle.heesch_grid.specs.CoronaFormula.{Variable, covers}
+use Rattle.heesch_grid.specs.CoronaFormula.{Variable, covers, IsNumbered}
 use Rattle.heesch_grid.proofs.ListFacts.{no_member, member_cases, All-from_members, any_member, member_any}
 use Rattle.heesch_grid.proofs.CellFacts.{has-is, has-false}
 use Rattle.heesch_grid.proofs.GridFacts.{adjacent_exact}
@@ -21,7 +21,7 @@ use Rattle.heesch_grid.proofs.TileFacts.{Apart-from, Apart-member}
 use Rattle.heesch_grid.proofs.ClauseFacts.{entry_at, entry_made}
 use Rattle.heesch_grid.proofs.Connected.{test_by_members}
 use Rattle.heesch_cert.specs.declared.proof.Cut.{Cut}
-use Rattle.heesch_cert.specs.Cuts.{IsVariableAt, IsBorderVariable, IsInBorder, IsLawful}
+use Rattle.heesch_cert.specs.Cuts.{IsBorderVariable, IsInBorder, IsLawful}
 use Rattle.heesch_place.specs.Universes.{covering}
 use Rattle.heesch_cuts.specs.Marks.{is_marked, is_in}
 use Rattle.heesch_cuts.specs.Enclosing.{IsOutside, is_covered, is_held, are_held}
@@ -74,7 +74,7 @@ module _ (g : Geometry) (shape hole : List Cell) where
 
 -- ---- the border
 
-pub border_variable_is : (vars : List Variable) (k : ℕ) (hole : List Cell) (n : ℕ) → 1 ≤ n → n ≤ length vars → (level : ℕ) → ((x : Variable) → IsVariableAt vars n x → level ≡ x.level) → level ≤ k → (tile : List Cell) → ((x : Variable) → IsVariableAt vars n x → tile ≡ x.tile) → (r : Bool) → r ≡ not (meet tile hole) → IsTrue r ↔ IsBorderVariable vars k hole n
+pub border_variable_is : (vars : List Variable) (k : ℕ) (hole : List Cell) (n : ℕ) → 1 ≤ n → n ≤ length vars → (level : ℕ) → ((x : Variable) → IsNumbered vars n x → level ≡ x.level) → level ≤ k → (tile : List Cell) → ((x : Variable) → IsNumbered vars n x → tile ≡ x.tile) → (r : Bool) → r ≡ not (meet tile hole) → IsTrue r ↔ IsBorderVariable vars k hole n
 border_variable_is vars k hole n low high level levels below tile tiles r e =
     let x = numbered vars n low high in (
       (λ t. record { variable = x.0; is_variable = x.1; level = subst (λ l. l ≤ k) (levels x.0 x.1) below; apart = ap (λ t. meet t hole) (sym (tiles x.0 x.1)) ∙ not-true (meet tile hole) (sym e ∙ t) }),
@@ -98,7 +98,7 @@ module _ (g : Geometry) (law : IsGrid g) (shape : List Cell) (vars : List Variab
         number = r.0;
         in_border = subst (λ n. Contains border n) (sym (eqb-true r.0 q.0 q.2)) q.1;
         variable = x.0.1;
-        is_variable = subst (λ n. IsVariableAt vars n x.0.1) x.2 a;
+        is_variable = subst (λ n. IsNumbered vars n x.0.1) x.2 a;
         member = has-true x.0.1.tile d (and_parts (nat_le x.0.1.level k) (has x.0.1.tile d) x.3).1;
       }
 

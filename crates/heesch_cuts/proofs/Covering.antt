@@ -5,11 +5,11 @@ use Rattle.std.specs.List.{enumerate_from, slice_get}
 use Rattle.heesch_grid.specs.declared.Cell.{Cell}
 use Rattle.heesch_grid.specs.Cells.{has}
 use Rattle.heesch_grid.specs.Integers.{same_truth}
-use Rattle.heesch_grid.specs.CoronaFormula.{Variable, covers}
+use Rattle.heesch_grid.specs.CoronaFormula.{Variable, covers, IsNumbered}
 use Rattle.heesch_grid.proofs.ListFacts.{member_filter, filter_member, All-from_members, any_member, member_any}
 use Rattle.heesch_grid.proofs.ClauseFacts.{entry_at, entry_same}
 use Rattle.heesch_grid.proofs.WindowFacts.{member_map, map_member}
-use Rattle.heesch_place.specs.Universes.{IsNumbered, covering}
+use Rattle.heesch_place.specs.Universes.{covering}
 use Rattle.heesch_cuts.specs.Marks.{is_in}
 
 abbrev pub Entry : Type 0

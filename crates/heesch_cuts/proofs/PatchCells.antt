@@ -12,14 +12,14 @@ use Rattle.heesch_grid.specs.Vectors.{IsWithin}
 use Rattle.heesch_grid.specs.Geometry.{Geometry}
 use Rattle.heesch_grid.specs.Pairs.{All-by_members}
 use Rattle.heesch_grid.specs.Corona.{cells_of}
-use Rattle.heesch_grid.specs.CoronaFormula.{Variable}
+use Rattle.heesch_grid.specs.CoronaFormula.{Variable, IsNumbered}
 use Rattle.heesch_grid.specs.Statements.{chosen_layer}
 use Rattle.heesch_grid.proofs.ListFacts.{member_filter, filter_member}
 use Rattle.heesch_grid.proofs.TileFacts.{member_cells, cells_member}
 use Rattle.heesch_grid.proofs.WindowFacts.{member_map, map_member}
 use Rattle.heesch_shape.specs.Walks.{IsShape}
 use Rattle.heesch_cnf.specs.Clauses.{assignment_of}
-use Rattle.heesch_place.specs.Universes.{Levels, IsNumbered}
+use Rattle.heesch_place.specs.Universes.{Levels}
 use Rattle.heesch_cuts.specs.Patches.{patch_cells, layer_cells}
 use Rattle.heesch_cuts.proofs.Covering.{Entry, get_below, get_at}
 

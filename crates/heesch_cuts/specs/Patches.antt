@@ -5,11 +5,11 @@ use Rattle.heesch_grid.specs.Listing.{IsRising}
 use Rattle.heesch_grid.specs.Cells.{has}
 use Rattle.heesch_grid.specs.Geometry.{Geometry, Adjacent}
 use Rattle.heesch_grid.specs.Corona.{cells_of}
-use Rattle.heesch_grid.specs.CoronaFormula.{Variable}
+use Rattle.heesch_grid.specs.CoronaFormula.{Variable, IsNumbered}
 use Rattle.heesch_grid.specs.Statements.{chosen_layer}
 use Rattle.heesch_cnf.specs.Clauses.{assignment_of}
 use Rattle.heesch_cert.specs.Cuts.{IsInBorder}
-use Rattle.heesch_place.specs.Universes.{Levels, IsNumbered}
+use Rattle.heesch_place.specs.Universes.{Levels}
 use Rattle.heesch_cuts.specs.Marks.{is_marked}
 use Rattle.heesch_cuts.specs.Enclosing.{is_covered}
 

@@ -1,11 +1,10 @@
 //! The patches of a model, level by level.
 ghost use Rattle.std.specs.Prelude.{◌≡◌, ◌≤◌, ◌++◌, All, OnOk, length};
-ghost use Rattle.heesch_grid.specs.CoronaFormula.{Variable};
+ghost use Rattle.heesch_grid.specs.CoronaFormula.{Variable, IsNumbered};
 ghost use Rattle.heesch_grid.specs.Corona.{cells_of};
 ghost use Rattle.heesch_grid.specs.Statements.{chosen_layer};
 ghost use Rattle.heesch_grid.specs.Vectors.{IsWithin};
 ghost use Rattle.heesch_cnf.specs.Clauses.{assignment_of};
-ghost use Rattle.heesch_place.specs.Universes.{IsNumbered};
 ghost use Rattle.heesch_cuts.specs.Patches.{layer_cells};
 
 use heesch_grid::{Cell, Grid};

@@ -4,8 +4,11 @@ use Rattle.std.specs.Int.{IsInRange}
 use Rattle.std.specs.List.{AllByRecursion}
 pub use Rattle.std.proofs.ByRecursion.{All-append as all_append}
 use Rattle.std.proofs.lemmas.Bool.{eqb-true}
-use Rattle.heesch_dimacs.specs.Words.{HasNo}
 use Rattle.heesch_dimacs.specs.Models.{is_spaced}
+
+-- no byte is this one
+abbrev pub HasNo : ℕ → List ℕ → Type 0
+HasNo byte bytes = AllByRecursion (λ b. b ≢ byte) bytes
 
 -- nothing, or this byte first
 abbrev pub Stops : ℕ → List ℕ → Type 0

@@ -5,7 +5,7 @@ use Rattle.std.proofs.lemmas.List.{append-nil}
 use Rattle.std.proofs.lemmas.List.Elements.{filter-append}
 use Rattle.heesch_cnf.specs.declared.literal.Lit.{Lit}
 use Rattle.heesch_text.specs.Fields.{spaced, lit_text}
-use Rattle.heesch_dimacs.specs.Words.{IsLiteral}
+use Rattle.heesch_line.specs.Forms.{IsLiteral}
 use Rattle.heesch_dimacs.specs.Models.{is_comment, answers, values_line, last_line, joined}
 use Rattle.heesch_dimacs.specs.Lines.{words_text}
 use Rattle.heesch_dimacs.proofs.Bytes.{all_front, all_back}

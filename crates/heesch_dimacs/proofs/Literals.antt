@@ -11,9 +11,9 @@ use Rattle.std.proofs.lemmas.Str.Parse.{IsNumeralModel, numerals_by_value, tells
 use Rattle.std.proofs.lemmas.Fmt.{decimal_digit, decimal-digits_value, digits_decimal, decimal_nonempty, first_decimal, decimal_injective, IsAscii-decimal, parse-decimal}
 use Rattle.heesch_cnf.specs.declared.literal.Lit.{Lit}
 use Rattle.heesch_text.specs.Fields.{lit_text}
-use Rattle.heesch_dimacs.specs.Words.{IsLiteral, HasNo}
+use Rattle.heesch_line.specs.Forms.{IsLiteral}
 use Rattle.heesch_dimacs.specs.Lines.{begins_number}
-use Rattle.heesch_dimacs.proofs.Bytes.{digits_have_no}
+use Rattle.heesch_dimacs.proofs.Bytes.{HasNo, digits_have_no}
 
 abbrev AreDigits : List ℕ → Type 0
 AreDigits ds = (i : ℕ) → i < length ds → IsInRange 48 57 (get_or ds i 0)

@@ -7,7 +7,7 @@ use Rattle.std.proofs.lemmas.Grind.{get_or-set_at}
 use Rattle.std.proofs.lemmas.List.Elements.{Contains-append_left, Contains-append_right, Contains-append_cases}
 use Rattle.heesch_cnf.specs.declared.literal.Lit.{Lit}
 use Rattle.heesch_cnf.proofs.Lists.{Contains-none, Contains-here, Contains-there, Contains-cases}
-use Rattle.heesch_dimacs.specs.Words.{IsLiteral}
+use Rattle.heesch_line.specs.Forms.{IsLiteral}
 use Rattle.heesch_dimacs.specs.Models.{Names, AreOver, IsAssignment, positive_of}
 use Rattle.heesch_dimacs.specs.Lines.{AreNamed, IsFresh}
 

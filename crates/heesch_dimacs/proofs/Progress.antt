@@ -6,7 +6,7 @@ use Rattle.heesch_cnf.specs.declared.literal.Lit.{Lit}
 use Rattle.heesch_dimacs.specs.declared.lines.Place.{Place}
 use Rattle.heesch_dimacs.specs.declared.lines.Place.TheVariants.{Start, Values, End}
 use Rattle.heesch_text.specs.Fields.{spaced, lit_text}
-use Rattle.heesch_dimacs.specs.Words.{IsLiteral, HasNoNewline}
+use Rattle.heesch_line.specs.Forms.{IsLiteral, HasNoNewline}
 use Rattle.heesch_dimacs.specs.Models.{is_comment, answers, status_line, values_line, last_line, joined, text_of, AreAnswers, IsModelText}
 use Rattle.heesch_dimacs.specs.Lines.{words_text, AreWords, place_after, Answers, Leads}
 use Rattle.heesch_dimacs.proofs.Bytes.{all_append, all_front, all_back}

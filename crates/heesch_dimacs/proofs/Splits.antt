@@ -2,7 +2,7 @@
 use Rattle.std.proofs.Common.{◌≡◌, ◌≢◌, ℕ, List, [], ◌∷◌, ◌++◌, refl, sym, ap, ◌∙◌, append_assoc}
 use Rattle.std.specs.List.{AllByRecursion}
 use Rattle.std.proofs.lemmas.List.{append-nil}
-use Rattle.heesch_dimacs.specs.Words.{HasNoNewline}
+use Rattle.heesch_line.specs.Forms.{HasNoNewline}
 use Rattle.heesch_dimacs.specs.Models.{ended, text_of}
 use Rattle.heesch_dimacs.proofs.Bytes.{cut_same}
 

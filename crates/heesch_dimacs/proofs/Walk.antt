@@ -6,7 +6,7 @@ use Rattle.heesch_cnf.specs.declared.literal.Lit.{Lit}
 use Rattle.heesch_dimacs.specs.declared.lines.Place.{Place}
 use Rattle.heesch_dimacs.specs.declared.lines.Place.TheVariants.{Start, Values, End}
 use Rattle.heesch_text.specs.Fields.{spaced, lit_text}
-use Rattle.heesch_dimacs.specs.Words.{IsLiteral, HasNoNewline}
+use Rattle.heesch_line.specs.Forms.{IsLiteral, HasNoNewline}
 use Rattle.heesch_dimacs.specs.Models.{is_comment, answers, status_line, values_line, last_line, joined, ended, text_of, IsModelText, AreOver, IsAssignment, IsModel}
 use Rattle.heesch_dimacs.specs.Lines.{words_text, Answers, Leads, AreNamed, ReadsLine}
 use Rattle.heesch_dimacs.specs.Stops.{GoesOn, IsReached, EndsEarly, HasLine, IsOtherLine, IsStrangerLine}

@@ -5,7 +5,8 @@ use Rattle.std.specs.List.{AllByRecursion}
 use Rattle.std.proofs.lemmas.List.{append-nil}
 use Rattle.heesch_cnf.specs.declared.literal.Lit.{Lit}
 use Rattle.heesch_text.specs.Fields.{spaced, lit_text}
-use Rattle.heesch_dimacs.specs.Words.{IsLiteral, HasNoSpace}
+use Rattle.heesch_line.specs.Forms.{IsLiteral}
+use Rattle.heesch_line.specs.Scanning.{HasNoSpace}
 use Rattle.heesch_dimacs.specs.Models.{is_spaced}
 use Rattle.heesch_dimacs.specs.Lines.{words_text, NoWords, ReadsWords}
 use Rattle.heesch_dimacs.proofs.Bytes.{Stops, all_append, cut_same, spaced_stops}

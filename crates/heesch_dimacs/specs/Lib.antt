@@ -2,4 +2,3 @@ pub mod Formulas
 pub mod Lines
 pub mod Models
 pub mod Stops
-pub mod Words

@@ -4,7 +4,7 @@ use Rattle.std.specs.List.{AllByRecursion}
 use Rattle.heesch_cnf.specs.declared.literal.Lit.{Lit}
 use Rattle.heesch_cnf.specs.Clauses.{assignment_of}
 use Rattle.heesch_text.specs.Fields.{spaced, lit_text}
-use Rattle.heesch_dimacs.specs.Words.{IsLiteral}
+use Rattle.heesch_line.specs.Forms.{IsLiteral}
 use Rattle.heesch_dimacs.specs.declared.lines.Place.{Place}
 use Rattle.heesch_dimacs.specs.declared.lines.Place.TheVariants.{Start, Values, End}
 use Rattle.heesch_dimacs.specs.declared.lines.LineFault.{LineFault}

@@ -4,7 +4,7 @@ use Rattle.std.specs.List.{flat_map, AllByRecursion}
 use Rattle.heesch_cnf.specs.declared.literal.Lit.{Lit}
 use Rattle.heesch_cnf.specs.Clauses.{assignment_of}
 use Rattle.heesch_text.specs.Fields.{spaced, lit_text}
-use Rattle.heesch_dimacs.specs.Words.{IsLiteral, HasNoNewline}
+use Rattle.heesch_line.specs.Forms.{IsLiteral, HasNoNewline}
 
 -- nothing, or a space first
 abbrev pub is_spaced : List ℕ → Bool

@@ -2,7 +2,7 @@
 use Rattle.std.specs.Prelude.{◌≡◌, ◌⊎◌, ℕ, ◌+◌, List, ◌++◌, length}
 use Rattle.std.specs.List.{AllByRecursion}
 use Rattle.heesch_cnf.specs.declared.literal.Lit.{Lit}
-use Rattle.heesch_dimacs.specs.Words.{HasNoNewline}
+use Rattle.heesch_line.specs.Forms.{HasNoNewline}
 use Rattle.heesch_dimacs.specs.declared.model.ModelStop.{ModelStop}
 use Rattle.heesch_dimacs.specs.declared.model.ModelStop.TheVariants.{NotText, Stranger, NoMemory}
 use Rattle.heesch_dimacs.specs.Models.{text_of, ended, IsModelText, AreOver}

@@ -4,7 +4,8 @@ ghost use Rattle.heesch_cnf.specs.declared.literal.Lit.{Lit};
 ghost use Rattle.heesch_dimacs.specs.declared.lines.LineFault.TheVariants as faults;
 ghost use Rattle.heesch_dimacs.specs.declared.lines.Place.TheVariants as places;
 ghost use Rattle.heesch_text.specs.Fields.{lit_text};
-ghost use Rattle.heesch_dimacs.specs.Words.{IsLiteral, HasNoNewline, HasNoSpace};
+ghost use Rattle.heesch_line.specs.Forms.{IsLiteral, HasNoNewline};
+ghost use Rattle.heesch_line.specs.Scanning.{HasNoSpace};
 ghost use Rattle.heesch_dimacs.specs.Models.{is_comment, is_spaced, status_line};
 ghost use Rattle.heesch_dimacs.specs.Lines.{begins_number, LineAnswer, ValuesAnswer, WordsAnswer};
 

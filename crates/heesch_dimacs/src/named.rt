@@ -2,7 +2,7 @@
 ghost use Rattle.std.specs.Prelude.{◌≡◌, ◌≤◌, ◌<◌, ◌++◌, ◌∷◌, [], ℕ, List, length, replicate, false, IsTrue, ◌↔◌, IfOk, MatchBool};
 ghost use Rattle.std.specs.List.{AllByRecursion};
 ghost use Rattle.heesch_cnf.specs.declared.literal.Lit.{Lit};
-ghost use Rattle.heesch_dimacs.specs.Words.{IsLiteral};
+ghost use Rattle.heesch_line.specs.Forms.{IsLiteral};
 ghost use Rattle.heesch_dimacs.specs.Models.{AreOver, IsAssignment};
 ghost use Rattle.heesch_dimacs.specs.Lines.{AreNamed, IsFresh};
 

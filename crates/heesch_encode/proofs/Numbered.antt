@@ -3,9 +3,8 @@ use Rattle.std.proofs.Common.{◌≡◌, sym, ap, subst, ◌∙◌, ℕ, ◌<◌
 use Rattle.std.specs.List.{enumerate_from}
 use Rattle.std.proofs.lemmas.List.{length-map, get_or-map, get_or_default}
 use Rattle.std.proofs.lemmas.List.Elements.{Contains-get_or}
-use Rattle.heesch_grid.specs.CoronaFormula.{Variable}
+use Rattle.heesch_grid.specs.CoronaFormula.{Variable, IsNumbered}
 use Rattle.heesch_grid.proofs.ClauseFacts.{entry_at}
-use Rattle.heesch_place.specs.Universes.{IsNumbered}
 use Rattle.heesch_encode.specs.Meeting.{numbers_of}
 use Rattle.heesch_encode.proofs.ClauseLists.{entry_range}
 

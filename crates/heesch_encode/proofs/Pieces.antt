@@ -6,7 +6,7 @@ use Rattle.heesch_cnf.specs.declared.literal.Lit.{Lit}
 use Rattle.heesch_grid.specs.declared.Cell.{Cell}
 use Rattle.heesch_grid.specs.Cells.{has, meet, cell_before, cells_before}
 use Rattle.heesch_grid.specs.Clauses.{clause_of, no_variable, is_numbered}
-use Rattle.heesch_grid.specs.CoronaFormula.{Variable, variable_before, IsVariable, IsUniverse, covers, first_clauses, covering_clauses, support_clauses}
+use Rattle.heesch_grid.specs.CoronaFormula.{Variable, variable_before, IsVariable, IsUniverse, covers, first_clauses, covering_clauses, support_clauses, IsNumbered}
 use Rattle.heesch_cert.specs.Literals.{literals}
 use Rattle.std.proofs.lemmas.Bool.{and_parts, and_left, and_right, or_cases, cases_Bool, cases_order}
 use Rattle.std.proofs.lemmas.List.Concat.{flat_map_single}
@@ -20,7 +20,7 @@ use Rattle.heesch_grid.specs.Listing.{IsRising, ListsExactly}
 use Rattle.heesch_grid.proofs.ListFacts.{filter_member, All-from_members}
 use Rattle.heesch_grid.proofs.WindowFacts.{map_member}
 use Rattle.heesch_grid.proofs.ClauseFacts.{entry_made, entry_same, entry_variable, entries_ordered}
-use Rattle.heesch_place.specs.Universes.{IsNumbered, covering}
+use Rattle.heesch_place.specs.Universes.{covering}
 use Rattle.heesch_encode.specs.Families.{covering_at, support_at, apart_at, clauses_at}
 use Rattle.heesch_encode.specs.declared.families.Family.TheVariants.{Covering, Support}
 use Rattle.heesch_encode.specs.Meeting.{numbers_of, meeting_after, supporting}

@@ -15,7 +15,7 @@ use Rattle.heesch_grid.specs.Cells.{same_cell, cell_before, cell_cmp, has, meet}
 use Rattle.heesch_grid.specs.Geometry.{Geometry, IsGrid, IsCell, Touching, IsAround}
 use Rattle.heesch_grid.specs.Polyform.{IsCellSet}
 use Rattle.heesch_grid.specs.Placement.{touch}
-use Rattle.heesch_grid.specs.CoronaFormula.{Variable, covers}
+use Rattle.heesch_grid.specs.CoronaFormula.{Variable, covers, IsNumbered}
 use Rattle.heesch_grid.specs.Pairs.{has-true, same_cell-true}
 use Rattle.heesch_grid.specs.Integers.{same_truth}
 use Rattle.heesch_grid.proofs.ListFacts.{filter_member, member_filter, same_rising, rising_filter, All-from_members}
@@ -25,7 +25,7 @@ use Rattle.heesch_grid.proofs.OrderFacts.{cell_less, cell_equal}
 use Rattle.heesch_grid.proofs.WindowFacts.{map_member, member_map, flat_map_member, member_flat_map}
 use Rattle.heesch_grid.proofs.TileFacts.{contact, touch_by}
 use Rattle.heesch_shape.proofs.Made.{same_cell_laws}
-use Rattle.heesch_place.specs.Universes.{IsNumbered, covering}
+use Rattle.heesch_place.specs.Universes.{covering}
 use Rattle.heesch_encode.specs.declared.marks.Change.{Change}
 use Rattle.heesch_encode.specs.Marks.{IsMarked, Marking, Unmarking, Changes, AreUnmarked}
 use Rattle.heesch_encode.specs.Meeting.{covering_after, meeting_after, supporting}

@@ -2,15 +2,15 @@
 ghost use Rattle.std.specs.Prelude.{◌≡◌, ◌<◌, ◌≤◌, true, List, length, OnOk, IfOk};
 ghost use Rattle.heesch_grid.specs.declared.Cell.{Cell};
 ghost use Rattle.heesch_grid.specs.Cells.{cell_before, has};
-ghost use Rattle.heesch_grid.specs.CoronaFormula.{Variable, GivesCellsAround};
+ghost use Rattle.heesch_grid.specs.CoronaFormula.{Variable, GivesCellsAround, IsNumbered};
 ghost use Rattle.heesch_grid.specs.Geometry.{IsAround};
 ghost use Rattle.heesch_grid.specs.Listing.{ListsExactly};
-ghost use Rattle.heesch_grid.specs.Vectors.{IsWithin, plus};
-ghost use Rattle.heesch_place.specs.Universes.{IsNumbered};
+ghost use Rattle.heesch_grid.specs.Vectors.{IsWithin};
 ghost use Rattle.heesch_encode.specs.Rings.{IsTurnedRing, AreRings};
 
 use crate::lists::add;
 use crate::ring::write_ring;
+use heesch_grid::moves::{difference, moved};
 use heesch_grid::{Cell, Grid, Iso};
 use heesch_io::NoMemory;
 use heesch_place::Universe;
@@ -58,31 +58,6 @@ pub(crate) fn rings_of<G: Grid>(
     Ok(rings)
 }
 
-/// The step that leads from one cell to the other.
-fn step_between(from: Cell, to: Cell) -> Cell
-    requires from { IsWithin 1000000 from }
-    requires to { IsWithin 1000000 to }
-    ensures leads { plus result from ≡ to }
-    ensures near { IsWithin 2000000 result }
-{
-    Cell {
-        a: to.a - from.a,
-        b: to.b - from.b,
-    }
-}
-
-/// The cell, moved by the step.
-fn moved(c: Cell, step: Cell) -> Cell
-    requires within { IsWithin 1000004 c }
-    requires near { IsWithin 2000000 step }
-    ensures { result ≡ plus step c }
-{
-    Cell {
-        a: step.a + c.a,
-        b: step.b + c.b,
-    }
-}
-
 /// Lists the cells around the tile of a variable, in cell order, in place of what the list had. A step for each of them.
 pub(crate) fn write_moved<G: Grid>(
     ring: &mut Vec<Cell>,
@@ -97,7 +72,7 @@ pub(crate) fn write_moved<G: Grid>(
 {
     let place = universe.placement_of(var);
     let turned = &rings[place.iso().turn as usize];
-    let step = step_between(turned.first, place.shape().cells()[0]);
+    let step = difference(turned.first, place.shape().cells()[0]);
     ring.clear();
     for c in turned.ring.as_slice() {
         add(ring, moved(*c, step))?;

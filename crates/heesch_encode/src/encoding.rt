@@ -1,8 +1,5 @@
 //! The corona formula of a version, with its universe.
-ghost use Rattle.std.specs.Prelude.{◌≡◌, ◌≤◌, ◌<◌, ◌^◌, ◌↔◌, ℕ, Bool, true, IfOk, IsErrOf, length};
-ghost use Rattle.heesch_grid.specs.declared.Cell.{Cell};
-ghost use Rattle.heesch_grid.specs.Cells.{has};
-ghost use Rattle.heesch_grid.specs.Vectors.{IsWithin};
+ghost use Rattle.std.specs.Prelude.{◌≡◌, ◌≤◌, ◌↔◌, ℕ, Bool, IfOk, IsErrOf};
 ghost use Rattle.heesch_grid.specs.Corona.{AreCoronas, HasCoronas};
 ghost use Rattle.heesch_grid.specs.Polyform.{IsCanonicalListOf};
 ghost use Rattle.heesch_grid.specs.Clauses.{formula_size};
@@ -12,9 +9,8 @@ ghost use Rattle.heesch_cert.specs.Formulas.{IsCountedFormula};
 ghost use Rattle.heesch_cert.specs.Proofs.{IsTooLarge};
 ghost use Rattle.heesch_place.specs.Universes.{IsUniverseOf};
 
-use crate::collector::Collector;
-use crate::families::{take_formula, take_owner_formula};
-use crate::owned::{count_with_owners, owned_cells};
+use crate::around::rings_of;
+use crate::plan::Plan;
 use crate::stop::EncodeStop;
 use heesch_cnf::{FlatFormula, Formula, Version};
 use heesch_grid::Grid;
@@ -34,40 +30,6 @@ pub struct Encoded<G: Grid> {
 pub struct FlatEncoded<G: Grid> {
     pub universe: Universe<G>,
     pub formula: FlatFormula,
-}
-
-/// The formula of a version over its universe.
-fn formula_over<G: Grid>(
-    alloc: Global,
-    universe: &Universe<G>,
-    shape: &Shape<G>,
-    level: u32,
-    size: u32,
-    version: Version,
-) -> Result<FlatFormula, EncodeStop>
-    requires universe { IsUniverseOf G.geometry universe.now }
-    requires shape { universe.now.shape ≡ shape.now }
-    requires level { universe.now.level ≡ level }
-    requires near { (c : Cell) → has shape.now c ≡ true → IsWithin 200 c }
-    requires few { length universe.now.vars < 2 ^ 31 }
-    ensures formula { IfOk result (λ f. IsCountedFormula version G.geometry shape.now level universe.now.vars f.vars f.clauses) }
-    ensures fits { IfOk result (λ f. formula_size f.clauses ≤ size) }
-    ensures too_large { IsErrOf result EncodeStop.TooLarge → IsTooLarge version G.geometry shape.now level size }
-{
-    match version {
-        Version::One => {
-            let mut collector = Collector::new(alloc, universe.count(), size);
-            take_formula(alloc, universe, shape, level, &mut collector)?;
-            Ok(collector.formula)
-        }
-        Version::Two => {
-            let owned = owned_cells(alloc, universe)?;
-            let vars = count_with_owners(universe, &owned)?;
-            let mut collector = Collector::new(alloc, vars, size);
-            take_owner_formula(alloc, universe, &owned, shape, level, &mut collector)?;
-            Ok(collector.formula)
-        }
-    }
 }
 
 /// The corona formula of a shape and a level, of one of the two versions, where it has at most `size` literals, with its clauses
@@ -103,7 +65,14 @@ pub fn encode_flat<G: Grid>(
     // Reading the cells tells the proof that they are a polyform.
     let _cells = shape.cells();
     let universe = Universe::of(alloc, shape, level)?;
-    let formula = formula_over(alloc, &universe, shape, level, size, version)?;
+    let rings = rings_of(alloc, shape)?;
+    let plan = Plan {
+        universe: &universe,
+        shape,
+        level,
+        rings: &rings,
+    };
+    let formula = plan.formula(alloc, size, version)?;
     Ok(FlatEncoded { universe, formula })
 }
 

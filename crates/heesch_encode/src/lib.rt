@@ -12,6 +12,7 @@ mod marks;
 mod meeting;
 mod owned;
 mod owners;
+mod plan;
 mod ring;
 mod stop;
 

@@ -1,10 +1,10 @@
 //! The variables whose tiles have one of some cells.
 ghost use Rattle.std.specs.Prelude.{◌≡◌, ◌≤◌, ◌<◌, ◌*◌, ◌^◌, ℕ, nat_lt, length, filter, flat_map, vec_len, OnOk};
 ghost use Rattle.heesch_grid.specs.Cells.{cell_before};
-ghost use Rattle.heesch_grid.specs.CoronaFormula.{Variable};
+ghost use Rattle.heesch_grid.specs.CoronaFormula.{Variable, IsNumbered};
 ghost use Rattle.heesch_grid.specs.Geometry.{IsAround};
 ghost use Rattle.heesch_grid.specs.Listing.{IsRising, ListsExactly};
-ghost use Rattle.heesch_place.specs.Universes.{IsUniverseOf, IsNumbered};
+ghost use Rattle.heesch_place.specs.Universes.{IsUniverseOf};
 ghost use Rattle.heesch_encode.specs.Marks.{AreUnmarked, Changes};
 ghost use Rattle.heesch_encode.specs.Meeting.{covering_after, meeting_after, supporting};
 

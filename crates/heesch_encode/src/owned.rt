@@ -1,10 +1,10 @@
 //! The cells that several variables have, and how many owner variables they have.
 ghost use Rattle.std.specs.Prelude.{◌≡◌, ◌+◌, ◌-◌, ◌<◌, ◌≤◌, ◌++◌, ◌^◌, ℕ, length, filter, All, IfOk, OnOk, sum_by};
 ghost use Rattle.heesch_grid.specs.Cells.{cell_before};
-ghost use Rattle.heesch_grid.specs.CoronaFormula.{Variable};
+ghost use Rattle.heesch_grid.specs.CoronaFormula.{Variable, IsNumbered};
 ghost use Rattle.heesch_grid.specs.Listing.{ListsExactly};
 ghost use Rattle.heesch_grid.specs.OwnerFormula.{holders, IsOwned, digits, owner_count};
-ghost use Rattle.heesch_place.specs.Universes.{IsUniverseOf, IsNumbered};
+ghost use Rattle.heesch_place.specs.Universes.{IsUniverseOf};
 ghost use Rattle.heesch_encode.specs.Owners.{is_first_of_some, is_first_holder};
 
 use crate::lists::add;

@@ -14,7 +14,7 @@ use Rattle.heesch_dimacs.specs.declared.model.ModelStop.TheVariants as model_sto
 use Rattle.heesch_dimacs.specs.Formulas.{IsFirstFalse}
 use Rattle.heesch_dimacs.specs.Models.{IsModel}
 use Rattle.heesch_dimacs.specs.Stops.{Stops}
-use Rattle.heesch_dimacs.specs.Words.{HasNoNewline}
+use Rattle.heesch_line.specs.Forms.{HasNoNewline}
 use Rattle.heesch_text.specs.Catalogue.{coronas_text}
 use Rattle.heesch_line.specs.declared.stops.LineStop.{LineStop}
 use Rattle.heesch_line.specs.declared.stops.LineStop.TheVariants.{Fault, NoMemory}

@@ -11,7 +11,7 @@ use Rattle.heesch_cert.specs.Proofs.{IsTooLarge}
 use Rattle.heesch_cnf.specs.declared.literal.Lit.{Lit}
 use Rattle.heesch_cnf.specs.declared.version.Version.{Version}
 use Rattle.heesch_cnf.specs.Clauses.{Satisfies}
-use Rattle.heesch_dimacs.specs.Words.{HasNoNewline}
+use Rattle.heesch_line.specs.Forms.{HasNoNewline}
 use Rattle.heesch_given.specs.Given.{IsShapeLine, IsLineFault}
 use Rattle.heesch_line.specs.Scanning.{IsNoLine}
 use Rattle.heesch_place.specs.Universes.{Levels}

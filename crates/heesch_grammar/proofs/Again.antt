@@ -19,7 +19,8 @@ use Rattle.heesch_cert.specs.declared.entry.Evidence.TheVariants as evidences
 use Rattle.heesch_cert.specs.declared.entry.Entry.{Entry}
 use Rattle.heesch_text.specs.declared.line.Line.{Line}
 use Rattle.heesch_text.specs.declared.line.Line.TheVariants as lines
-use Rattle.heesch_text.specs.Catalogue.{step_line, last_line, proof_lines, layer_lines, tile_lines, triple_lines, wall_lines, bare_lines, wider_lines, wider_count, after_layers, evidence_lines, entry_lines, last_number}
+use Rattle.heesch_cert.specs.TrueEntry.{last_number}
+use Rattle.heesch_text.specs.Catalogue.{step_line, last_line, proof_lines, layer_lines, tile_lines, triple_lines, wall_lines, bare_lines, wider_lines, wider_count, after_layers, evidence_lines, entry_lines}
 use Rattle.heesch_grammar.specs.Parts.{with_steps, proof_at, behind_proof, layers_at, behind_layers, places_at, members_at, wall_end, wall_at, behind_wall, bare_end, bare_at, behind_bare, open_count, wider_at, behind_wider, few_triples, triples_at, search_of, search_behind, search_at}
 use Rattle.heesch_grammar.specs.Entries.{HoldsEvidence, HoldsItsLines}
 

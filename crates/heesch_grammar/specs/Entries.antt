@@ -8,7 +8,7 @@ use Rattle.heesch_cert.specs.declared.entry.Evidence.TheVariants as evidences
 use Rattle.heesch_cert.specs.declared.entry.Entry.{Entry}
 use Rattle.heesch_text.specs.declared.line.Line.{Line}
 use Rattle.heesch_text.specs.declared.line.Line.TheVariants as lines
-use Rattle.heesch_text.specs.Catalogue.{last_number}
+use Rattle.heesch_cert.specs.TrueEntry.{last_number}
 use Rattle.heesch_grammar.specs.declared.place.Place.{Place}
 use Rattle.heesch_grammar.specs.declared.place.Place.TheVariants as places
 use Rattle.heesch_grammar.specs.declared.spot.Spot.{Spot}

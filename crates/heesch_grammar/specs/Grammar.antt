@@ -10,7 +10,7 @@ use Rattle.heesch_text.specs.declared.line.BareOutcome.{BareOutcome}
 use Rattle.heesch_text.specs.declared.line.BareOutcome.TheVariants as bare_outcomes
 use Rattle.heesch_text.specs.declared.line.Line.{Line}
 use Rattle.heesch_text.specs.declared.line.Line.TheVariants as lines
-use Rattle.heesch_text.specs.Catalogue.{last_number}
+use Rattle.heesch_cert.specs.TrueEntry.{last_number}
 use Rattle.heesch_grammar.specs.declared.place.AfterProof.{AfterProof}
 use Rattle.heesch_grammar.specs.declared.place.AfterProof.TheVariants as afters
 use Rattle.heesch_grammar.specs.declared.place.Place.{Place}

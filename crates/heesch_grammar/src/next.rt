@@ -57,11 +57,9 @@ fn judged(brief: bool, verdict: Verdict) -> Place
             domain: _,
             classes: _,
         } => Place::Tiling,
-        Verdict::Heesch { h: _, m } => Place::Search { last: m },
-        Verdict::Levels { h } => Place::Search { last: h },
-        Verdict::Holes { h } => Place::Search { last: h },
-        Verdict::Turns { h: _, phase: _, at } => Place::Search { last: at },
-        Verdict::Size { h: _, phase: _, at } => Place::Search { last: at },
+        _ => Place::Search {
+            last: verdict.last_number(),
+        },
     }
 }
 

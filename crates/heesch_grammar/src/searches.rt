@@ -1,8 +1,8 @@
 //! Taking the evidence of a search from the lines of an entry.
-ghost use Rattle.std.specs.Prelude.{◌≡◌, IfOk, OnOk};
+ghost use Rattle.std.specs.Prelude.{◌≡◌, IfOk, OnOk, Some};
 ghost use Rattle.heesch_grammar.specs.Entries.{HasCoronas, IsSearchAt};
-ghost use Rattle.heesch_grammar.specs.Parts.{proof_at, behind_proof, wall_end, wall_at, behind_wall, bare_end};
-ghost use Rattle.heesch_grammar.specs.Parts.{bare_at, behind_bare, open_count, wider_at, behind_wider, search_at};
+ghost use Rattle.heesch_grammar.specs.Parts.{proof_at, behind_proof, wall_end, wall_as, behind_wall_as, bare_end};
+ghost use Rattle.heesch_grammar.specs.Parts.{bare_as, behind_bare_as, open_count, wider_at, behind_wider, search_at};
 
 use crate::parts::{take_layers, take_proof, take_triples};
 use heesch_cert::{Bare, Evidence, Layers, Wall};
@@ -31,8 +31,14 @@ fn take_searched(
     ensures { IfOk result (λ evidence. evidence ≡ search_at count lines.old.items) }
 {
     let layers = take_layers(alloc, count, lines)?;
-    let wall = take_wall(alloc, lines)?;
-    let bare = take_bare(alloc, lines)?;
+    let wall = match wall_end(lines) {
+        None => Wall::Absent,
+        Some(outcome) => take_wall(alloc, outcome, lines)?,
+    };
+    let bare = match bare_end(lines) {
+        None => Bare::Absent,
+        Some(outcome) => take_bare(alloc, outcome, lines)?,
+    };
     let wider = take_wider(alloc, lines)?;
     let triples = take_triples(alloc, lines)?;
     Ok(Evidence::Search {
@@ -44,14 +50,11 @@ fn take_searched(
     })
 }
 
-/// The wall, where there is one.
-fn take_wall(alloc: Global, lines: &mut VecDeque<Line>) -> Result<Wall, NoMemory>
-    ensures wall { IfOk result (λ wall. wall ≡ wall_at lines.old.items) }
-    ensures rest { OnOk result (lines.new.items ≡ behind_wall lines.old.items) }
+/// The wall of a search that ended so, its line at the front.
+fn take_wall(alloc: Global, outcome: Outcome, lines: &mut VecDeque<Line>) -> Result<Wall, NoMemory>
+    ensures wall { IfOk result (λ wall. wall ≡ wall_as (Some outcome) lines.old.items) }
+    ensures rest { OnOk result (lines.new.items ≡ behind_wall_as (Some outcome) lines.old.items) }
 {
-    let Some(outcome) = wall_end(lines) else {
-        return Ok(Wall::Absent);
-    };
     lines.pop_front();
     match outcome {
         Outcome::Refuted => {
@@ -76,14 +79,15 @@ fn wall_end(lines: &VecDeque<Line>) -> Option<Outcome>
     }
 }
 
-/// The search with holes allowed, where there is one.
-fn take_bare(alloc: Global, lines: &mut VecDeque<Line>) -> Result<Bare, NoMemory>
-    ensures bare { IfOk result (λ bare. bare ≡ bare_at lines.old.items) }
-    ensures rest { OnOk result (lines.new.items ≡ behind_bare lines.old.items) }
+/// The end of a search with holes allowed that ended so, its line at the front.
+fn take_bare(
+    alloc: Global,
+    outcome: BareOutcome,
+    lines: &mut VecDeque<Line>,
+) -> Result<Bare, NoMemory>
+    ensures bare { IfOk result (λ bare. bare ≡ bare_as (Some outcome) lines.old.items) }
+    ensures rest { OnOk result (lines.new.items ≡ behind_bare_as (Some outcome) lines.old.items) }
 {
-    let Some(outcome) = bare_end(lines) else {
-        return Ok(Bare::Absent);
-    };
     lines.pop_front();
     match outcome {
         BareOutcome::Same => Ok(Bare::Same),

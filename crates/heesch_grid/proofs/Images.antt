@@ -2,14 +2,11 @@
 use Rattle.std.proofs.Common.{◌≡◌, ℕ, zero, suc, ◌<◌, ◌≤◌, ◌*◌, ℤ, pos, neg_ℤ, ◌≤ℤ◌, ◌*ℤ◌, to_z, of_z, w32, sym, ap, ◌∙◌, arith}
 use Rattle.std.proofs.lemmas.Int.{ints}
 use Rattle.heesch_grid.specs.declared.Cell.{Cell}
-use Rattle.heesch_grid.specs.Cells.{cell}
+use Rattle.heesch_grid.specs.Cells.{cell, origin}
 use Rattle.heesch_grid.specs.Geometry.{Geometry, IsGrid}
 use Rattle.heesch_grid.specs.Pairs.{within_abs, abs_within, Cell-eta, times_add}
 use Rattle.heesch_grid.specs.Vectors.{IsWithin, negated, plus, times}
 use Rattle.heesch_grid.specs.Integers.{mul_neg, small_multiple}
-
-abbrev pub origin : Cell
-origin = cell (pos 0) (pos 0)
 
 -- pairs within a bound are within a greater one
 pub wider : (m n : ℕ) (c : Cell) → m ≤ n → IsWithin m c → IsWithin n c

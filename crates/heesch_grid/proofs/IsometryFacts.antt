@@ -6,7 +6,7 @@ use Rattle.std.proofs.lemmas.Int.{ints}
 use Rattle.std.proofs.lemmas.List.Elements.{All-contains}
 use Rattle.heesch_grid.specs.declared.Cell.{Cell}
 use Rattle.heesch_grid.specs.declared.isometries.Iso.{Iso}
-use Rattle.heesch_grid.specs.Cells.{cell}
+use Rattle.heesch_grid.specs.Cells.{cell, origin}
 use Rattle.heesch_grid.specs.Geometry.{Geometry, Adjacent, IsIsometry, moved, apply, image, IsGrid}
 use Rattle.heesch_grid.specs.Polyform.{Joined, start, next, IsPolyform, IsImageOf}
 use Rattle.heesch_grid.proofs.WindowFacts.{map_member, member_map}
@@ -41,9 +41,6 @@ scaled n c = cell (pos n *ℤ c.a) (pos n *ℤ c.b)
 
 abbrev pub opposite : Cell → Cell
 opposite c = cell (neg_ℤ c.a) (neg_ℤ c.b)
-
-abbrev origin : Cell
-origin = cell (pos 0) (pos 0)
 
 double_zero : (x : ℤ) → x ≡ x +ℤ x → x ≡ pos 0
 double_zero x e = omega (arith, ints)

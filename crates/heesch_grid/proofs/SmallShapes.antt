@@ -8,12 +8,12 @@ use Rattle.heesch_grid.specs.declared.Cell.{Cell}
 use Rattle.heesch_grid.specs.declared.isometries.Iso.{Iso}
 use Rattle.heesch_grid.specs.Lattice.{translated}
 use Rattle.heesch_grid.specs.Listing.{IsRising}
-use Rattle.heesch_grid.specs.Cells.{cell, cell_before, has, IsCellListOf}
+use Rattle.heesch_grid.specs.Cells.{cell, cell_before, has, IsCellListOf, origin}
 use Rattle.heesch_grid.specs.Geometry.{Geometry, are_adjacent, Adjacent, IsIsometry, image}
 use Rattle.heesch_grid.specs.Polyform.{Joined, start, next, IsPolyform}
 use Rattle.heesch_grid.specs.Hole.{IsHole}
 use Rattle.heesch_grid.specs.Tiling.{HasCell, TilesByTranslation, no_move}
-use Rattle.heesch_grid.specs.Examples.{square, o, right, up, single, corner, diagonal, ring, middle, unit_triple, AreAsExpected}
+use Rattle.heesch_grid.specs.Examples.{square, right, up, single, corner, diagonal, ring, middle, unit_triple, AreAsExpected}
 use Rattle.heesch_grid.specs.GridTests.{square_laws}
 use Rattle.heesch_grid.specs.Lists.{All-by_test, rising_by_test}
 use Rattle.heesch_grid.specs.Pairs.{Cell-eta, has-true}
@@ -36,30 +36,30 @@ pub corner_polyform : IsPolyform square corner
 corner_polyform = record {
   is_set = record { rising = rising_by_test cell_before corner refl; in_grid = All-by_test square.is_cell corner refl };
   some = omega arith;
-  joined = through square corner o
-      (All-cons joins o (right ∷ up ∷ []) (start, start)
-      (All-cons joins right (up ∷ []) (next start refl (member_here o (right ∷ up ∷ [])), next start refl (member_there o (right ∷ up ∷ []) right (member_here right (up ∷ []))))
-      (All-cons joins up [] (next start refl (member_here o (right ∷ up ∷ [])), next start refl (member_there o (right ∷ up ∷ []) up (member_there right (up ∷ []) up (member_here up []))))
+  joined = through square corner origin
+      (All-cons joins origin (right ∷ up ∷ []) (start, start)
+      (All-cons joins right (up ∷ []) (next start refl (member_here origin (right ∷ up ∷ [])), next start refl (member_there origin (right ∷ up ∷ []) right (member_here right (up ∷ []))))
+      (All-cons joins up [] (next start refl (member_here origin (right ∷ up ∷ [])), next start refl (member_there origin (right ∷ up ∷ []) up (member_there right (up ∷ []) up (member_here up []))))
       (All-nil joins))));
 }
   where
     joins : Cell → Type 0
-    joins c = Joined square corner c o × Joined square corner o c
+    joins c = Joined square corner c origin × Joined square corner origin c
 
 -- two cells at a corner are none
 diagonal_no_polyform : ¬ IsPolyform square diagonal
 diagonal_no_polyform form =
     let far : Cell = cell (pos 1) (pos 1) in
-    let path : Joined square diagonal o far = form.joined o far (member_here o (far ∷ [])) (member_there o (far ∷ []) far (member_here far [])) in
-    let k : Crossing square diagonal (o ∷ []) = crossing square diagonal (o ∷ []) o far path (member_here o []) refl in
+    let path : Joined square diagonal origin far = form.joined origin far (member_here origin (far ∷ [])) (member_there origin (far ∷ []) far (member_here far [])) in
+    let k : Crossing square diagonal (origin ∷ []) = crossing square diagonal (origin ∷ []) origin far path (member_here origin []) refl in
     ends k
   where
-    ends : Crossing square diagonal (o ∷ []) → ⊥
+    ends : Crossing square diagonal (origin ∷ []) → ⊥
     ends k =
-        elim (member_cases o [] k.member k.inside) [
+        elim (member_cases origin [] k.member k.inside) [
           | inr h ↦ no_member k.member h
-          | inl e ↦ elim (member_cases o (cell (pos 1) (pos 1) ∷ []) k.found k.in_set) [
-            | inl f ↦ true≢false (sym (has-is (o ∷ []) k.found (subst (λ z. Contains (o ∷ []) z) f (member_here o []))) ∙ k.outside)
+          | inl e ↦ elim (member_cases origin (cell (pos 1) (pos 1) ∷ []) k.found k.in_set) [
+            | inl f ↦ true≢false (sym (has-is (origin ∷ []) k.found (subst (λ z. Contains (origin ∷ []) z) f (member_here origin []))) ∙ k.outside)
             | inr m ↦ elim (member_cases (cell (pos 1) (pos 1)) [] k.found m) [
               | inl f ↦ true≢false (sym k.adjacent ∙ (λ i. are_adjacent square (sym e i) (sym f i)))
               | inr n ↦ no_member k.found n
@@ -104,25 +104,25 @@ single_tiles = record {
     isometries = All-cons (IsIsometry square) no_move [] (omega arith) (All-nil (IsIsometry square));
     exactly_one = λ c h. record {
       value = (0, c.a, c.b);
-      holds = record { by = no_move; is_place = refl; member = o; in_tile = member_here o []; is = at c };
+      holds = record { by = no_move; is_place = refl; member = origin; in_tile = member_here origin []; is = at c };
       only = λ x k. one c x k;
     };
   };
 }
   where
-    at : (c : Cell) → c ≡ translated square unit_triple c.a c.b o
-    at c = Cell-eta c (translated square unit_triple c.a c.b o) (omega (arith, ints)) (omega (arith, ints))
+    at : (c : Cell) → c ≡ translated square unit_triple c.a c.b origin
+    at c = Cell-eta c (translated square unit_triple c.a c.b origin) (omega (arith, ints)) (omega (arith, ints))
 
-    same_at : (c : Cell) (i j : ℤ) → c ≡ translated square unit_triple i j o → (i ≡ c.a) × (j ≡ c.b)
+    same_at : (c : Cell) (i j : ℤ) → c ≡ translated square unit_triple i j origin → (i ≡ c.a) × (j ≡ c.b)
     same_at c i j e =
-        let p : c.a ≡ (translated square unit_triple i j o).a = ap (λ (z : Cell). z.a) e in
-        let q : c.b ≡ (translated square unit_triple i j o).b = ap (λ (z : Cell). z.b) e in
+        let p : c.a ≡ (translated square unit_triple i j origin).a = ap (λ (z : Cell). z.a) e in
+        let q : c.b ≡ (translated square unit_triple i j origin).b = ap (λ (z : Cell). z.b) e in
         (omega (arith, ints), omega (arith, ints))
 
     one : (c : Cell) (x : ℕ × ℤ × ℤ) → HasCell square single unit_triple (no_move ∷ []) c x → x ≡ (0, c.a, c.b)
     one c x k =
         let place : (x.0 ≡ 0) × (no_move ≡ k.by) = only_place x.0 k.by k.is_place in
-        let member : o ≡ k.member = elim (member_cases o [] k.member (subst (λ by. Contains (image square by single) k.member) (sym place.1) k.in_tile)) [ inl e ↦ e | inr n ↦ absurd (no_member k.member n) ] in
+        let member : origin ≡ k.member = elim (member_cases origin [] k.member (subst (λ by. Contains (image square by single) k.member) (sym place.1) k.in_tile)) [ inl e ↦ e | inr n ↦ absurd (no_member k.member n) ] in
         let ij : (x.1 ≡ c.a) × (x.2 ≡ c.b) = same_at c x.1 x.2 (k.is ∙ ap (translated square unit_triple x.1 x.2) (sym member)) in
         λ i. (place.0 i, ij.0 i, ij.1 i)
 

@@ -2,7 +2,7 @@
 use Rattle.std.proofs.Common.{◌≡◌, ℕ, ◌+◌, Bool, true, false, not, cond, refl, List, [], ◌∷◌, ◌++◌, map, filter, length, flat_map}
 use Rattle.std.specs.Prelude.{pos, negsuc, ◌+ℤ◌, nat_le, slice_get, Some, sum_by}
 use Rattle.heesch_grid.specs.declared.Cell.{Cell}
-use Rattle.heesch_grid.specs.Cells.{cell, cells_before, has}
+use Rattle.heesch_grid.specs.Cells.{cell, cells_before, has, origin}
 use Rattle.heesch_grid.specs.Geometry.{Geometry, are_touching, image}
 use Rattle.heesch_grid.specs.Placement.{touch}
 use Rattle.heesch_grid.specs.Pattern.{grid_of}
@@ -14,7 +14,7 @@ use Rattle.heesch_grid.specs.TorusFormula.{torus_clauses}
 use Rattle.heesch_grid.proofs.Computed.{window}
 use Rattle.heesch_grid.proofs.SortFacts.{sorted, placed_in}
 use Rattle.heesch_grid.proofs.AroundFacts.{cells_around}
-use Rattle.heesch_grid.specs.Examples.{square, o, ring}
+use Rattle.heesch_grid.specs.Examples.{square, ring}
 
 abbrev iamond : Geometry
 iamond = grid_of iamond_tables
@@ -81,7 +81,7 @@ domino_owned_rows = (refl, refl, refl, refl)
 
 abbrev square_variables : List Variable
 square_variables =
-    map (λ c. record { level = 1; tile = c ∷ [] }) (filter (are_touching square o) (window 1)) ++ map (λ c. record { level = 2; tile = c ∷ [] }) (filter (λ c. not (has (window 1) c)) (window 2))
+    map (λ c. record { level = 1; tile = c ∷ [] }) (filter (are_touching square origin) (window 1)) ++ map (λ c. record { level = 2; tile = c ∷ [] }) (filter (λ c. not (has (window 1) c)) (window 2))
 
 square_variable_count : length square_variables ≡ 24
 square_variable_count = refl
@@ -90,9 +90,9 @@ square_owns_none : filter (λ c. nat_le 2 (length (holders square_variables c)))
 square_owns_none = refl
 
 abbrev square_clauses : List (List (ℕ × Bool))
-square_clauses = corona_clauses signed square (cells_around square) (o ∷ []) 2 square_variables
+square_clauses = corona_clauses signed square (cells_around square) (origin ∷ []) 2 square_variables
 
-square_worked : (length square_clauses ≡ 80) × (formula_size square_clauses ≡ 168) × (owned_corona_clauses signed square (cells_around square) (o ∷ []) 2 square_variables [] ≡ square_clauses)
+square_worked : (length square_clauses ≡ 80) × (formula_size square_clauses ≡ 168) × (owned_corona_clauses signed square (cells_around square) (origin ∷ []) 2 square_variables [] ≡ square_clauses)
 unfolding sorted placed_in
 square_worked = (refl, refl, refl)
 

@@ -1,7 +1,7 @@
 -- The corona formula E(S, j) of a polyform S and a level j: its variables and its clauses, in number and order.
 -- After Kaplan's search by a SAT solver over placements at corona levels. Variables are pairs of a level and a placement, numbered from 1 by level and then by cell list; the clauses come in four families, and the literals of each rise by variable.
-use Rattle.std.specs.Prelude.{◌≡◌, ℕ, suc, zero, ◌+◌, ◌≤◌, Bool, not, ◌&&◌, ◌||◌, nat_le, nat_lt, ◌==◌, List, ◌++◌, map, filter, flat_map}
-use Rattle.std.specs.List.{enumerate_from}
+use Rattle.std.specs.Prelude.{◌≡◌, ℕ, suc, zero, ◌+◌, ◌-◌, ◌≤◌, Bool, not, ◌&&◌, ◌||◌, nat_le, nat_lt, ◌==◌, Some, List, ◌++◌, map, filter, flat_map}
+use Rattle.std.specs.List.{enumerate_from, slice_get}
 use Rattle.heesch_grid.specs.declared.Cell.{Cell}
 use Rattle.heesch_grid.specs.Listing.{ListsExactly}
 use Rattle.heesch_grid.specs.Cells.{cell_before, cells_before, has, meet}
@@ -34,6 +34,10 @@ pub record IsVariable (g : Geometry) (shape : List Cell) (j : ℕ) (x : Variable
 -- the universe: all variables of the levels 1 to j, in order; their numbers count from 1
 abbrev pub IsUniverse : Geometry → List Cell → ℕ → List Variable → Type 0
 IsUniverse g shape j vars = ListsExactly variable_before (IsVariable g shape j) vars
+
+-- the variable of this number, from 1
+abbrev pub IsNumbered : List Variable → ℕ → Variable → Type 0
+IsNumbered vars n x = (1 ≤ n) × (slice_get vars (n - 1) ≡ Some x)
 
 -- a test of numbered variables: level at most k, and the tile has the cell
 abbrev pub covers : ℕ → Cell → ℕ × Variable → Bool

@@ -1,7 +1,7 @@
 -- Small shapes of the square grid, and what the definitions say of them.
 use Rattle.std.specs.Prelude.{List, [], ◌∷◌, pos}
 use Rattle.heesch_grid.specs.declared.Cell.{Cell}
-use Rattle.heesch_grid.specs.Cells.{cell}
+use Rattle.heesch_grid.specs.Cells.{cell, origin}
 use Rattle.heesch_grid.specs.Geometry.{Geometry}
 use Rattle.heesch_grid.specs.Lattice.{Triple}
 use Rattle.heesch_grid.specs.Polyform.{IsPolyform}
@@ -14,10 +14,7 @@ use Rattle.heesch_grid.specs.Grids.{square as square_tables}
 abbrev pub square : Geometry
 square = grid_of square_tables
 
--- the cells (0, 0), (1, 0), (0, 1)
-abbrev pub o : Cell
-o = cell (pos 0) (pos 0)
-
+-- the cells (1, 0) and (0, 1)
 abbrev pub right : Cell
 right = cell (pos 1) (pos 0)
 
@@ -26,19 +23,19 @@ up = cell (pos 0) (pos 1)
 
 -- one square
 abbrev pub single : List Cell
-single = o ∷ []
+single = origin ∷ []
 
 -- three squares round a corner
 abbrev pub corner : List Cell
-corner = o ∷ right ∷ up ∷ []
+corner = origin ∷ right ∷ up ∷ []
 
 -- two squares that share one corner alone
 abbrev pub diagonal : List Cell
-diagonal = o ∷ cell (pos 1) (pos 1) ∷ []
+diagonal = origin ∷ cell (pos 1) (pos 1) ∷ []
 
 -- the polyomino of seven cells with a hole
 abbrev pub ring : List Cell
-ring = o ∷ right ∷ cell (pos 2) (pos 0) ∷ up ∷ cell (pos 2) (pos 1) ∷ cell (pos 0) (pos 2) ∷ cell (pos 1) (pos 2) ∷ []
+ring = origin ∷ right ∷ cell (pos 2) (pos 0) ∷ up ∷ cell (pos 2) (pos 1) ∷ cell (pos 0) (pos 2) ∷ cell (pos 1) (pos 2) ∷ []
 
 -- the cell in its middle
 abbrev pub middle : Cell

@@ -14,22 +14,18 @@ ghost use Rattle.heesch_grid.specs.Cells.{cell_cmp};
 use std::cmp::Ordering;
 
 mod grids;
-mod hexes;
-mod iamonds;
 mod isometries;
 pub mod laws;
 pub mod moves;
 mod names;
-mod squares;
+mod regular;
 mod tabled;
 pub mod tables;
 pub mod turns;
 
 pub use grids::{Grid, Sizes};
-pub use hexes::Hex;
-pub use iamonds::Iamond;
 pub use isometries::Iso;
-pub use squares::Square;
+pub use regular::{Hex, Iamond, Square};
 pub use tabled::{Numbers, Tabled, Tables};
 
 /// A cell of a grid, or any other pair of coordinates, in grid units.

@@ -10,7 +10,7 @@ use Rattle.heesch_grid.specs.Cells.{cells_before, meet}
 use Rattle.heesch_grid.specs.Geometry.{Geometry}
 use Rattle.heesch_grid.specs.Listing.{IsRising}
 use Rattle.heesch_grid.specs.Corona.{StaysHoleFree}
-use Rattle.heesch_grid.specs.CoronaFormula.{Variable, variable_before, IsVariable, IsUniverse}
+use Rattle.heesch_grid.specs.CoronaFormula.{Variable, variable_before, IsVariable, IsUniverse, IsNumbered}
 use Rattle.heesch_grid.specs.Statements.{chosen_layer, chosen_layers}
 use Rattle.heesch_grid.proofs.ListFacts.{rising_filter, member_filter, filter_member, All-from_members, any_member}
 use Rattle.heesch_grid.proofs.Pinned.{one_universe}
@@ -18,7 +18,7 @@ use Rattle.heesch_cnf.specs.declared.literal.Lit.{Lit}
 use Rattle.heesch_cnf.specs.Clauses.{assignment_of}
 use Rattle.heesch_cert.specs.declared.proof.Cut.{Cut}
 use Rattle.heesch_cert.specs.Literals.{literals}
-use Rattle.heesch_cert.specs.Cuts.{IsLawful, IsBorderVariable, IsVariableAt, cut_clause}
+use Rattle.heesch_cert.specs.Cuts.{IsLawful, IsBorderVariable, cut_clause}
 use Rattle.heesch_grid.specs.Clauses.{clause_holds}
 use Rattle.heesch_place.specs.Universes.{Levels, IsUniverseOf}
 use Rattle.heesch_cuts.specs.Chosen.{IsOpen, CutsOff}
@@ -125,7 +125,7 @@ module _ (h : ℕ) (first vars : List Variable) (b : BeginsWith h first vars) wh
           λ i. here i ∷ later i
 
   -- a variable of the first levels has its number among all
-  still_at : (n : ℕ) (x : Variable) → IsVariableAt first n x → IsVariableAt vars n x
+  still_at : (n : ℕ) (x : Variable) → IsNumbered first n x → IsNumbered vars n x
   still_at n x at = (at.0, subst (λ vs. slice_get vs (n - 1) ≡ Some x) (sym b.is) (get_first first b.rest (n - 1) x at.1))
     where
       get_first : (xs ys : List Variable) (i : ℕ) (x : Variable) → slice_get xs i ≡ Some x → slice_get (xs ++ ys) i ≡ Some x

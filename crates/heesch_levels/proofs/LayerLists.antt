@@ -10,8 +10,7 @@ use Rattle.std.proofs.lemmas.Bool.{and_parts, and_from, or_cases}
 use Rattle.heesch_grid.specs.declared.Cell.{Cell}
 use Rattle.heesch_grid.specs.Cells.{cells_before}
 use Rattle.heesch_grid.specs.Listing.{IsRising}
-use Rattle.heesch_grid.specs.CoronaFormula.{Variable, variable_before}
-use Rattle.heesch_place.specs.Universes.{IsNumbered}
+use Rattle.heesch_grid.specs.CoronaFormula.{Variable, variable_before, IsNumbered}
 use Rattle.heesch_grid.specs.Statements.{chosen_layer, chosen_layers}
 use Rattle.heesch_grid.proofs.ListFacts.{All-from_members, filter_member}
 use Rattle.heesch_grid.proofs.ClauseFacts.{entry_variable}

@@ -42,7 +42,7 @@ use Rattle.heesch_levels.specs.declared.searching.Search.{Search}
 use Rattle.heesch_levels.specs.Searching.{IsCutUpTo, IsEnded, IsEnding, IsFreeUpTo, IsUnder, IsAtOnce, EndsAtOnce}
 use Rattle.heesch_levels.specs.Steps.{proof_of}
 use Rattle.heesch_levels.specs.UpTo.{HasCutsUpTo, IsAnswerUpTo, IsSpentUpTo, IsStepUpTo, RefutesUpTo, SpellsUpTo}
-use Rattle.heesch_levels.specs.Answer.{IsLevelAnswer, HasNewSteps, LeavesOpen, SpellsCoronas, RefutesLevel, NamesEmptyClause, NamesEmptyClauses}
+use Rattle.heesch_levels.specs.Answer.{IsLevelAnswer, SpellsCoronas, RefutesLevel, NamesEmptyClause, NamesEmptyClauses}
 use Rattle.heesch_levels.proofs.SearchFacts.{model_first}
 use Rattle.heesch_levels.proofs.StepFacts.{log_of_proof, steps_each}
 use Rattle.heesch_levels.proofs.UpToFacts.{level_answer_of}
@@ -97,48 +97,41 @@ module _ (version : Version) (g : Geometry) (law : IsGrid g) (u : Levels) (k : �
   up_to = steps_each (IsCutUpTo g u k) (IsStepUpTo k) (λ clause hints. tt) (λ cut c. c.up_to) s.solver.log.lines s.cuts e.search.lawful
 
   module _ (size : ℕ) (fits : formula_size s.solver.clauses ≤ size) where
+    -- lines that refute, or are spent, as steps
+    refutes_coronas : Refutes s.solver.vars s.solver.clauses (log_of u.vars proof) → RefutesCoronas version g u.shape u.level size proof
+    refutes_coronas r = record { vars = u.vars; count = s.solver.vars; clauses = s.solver.clauses; formula = formula; fits = fits; lawful = lawful; refutes = r }
+
+    spent_on_coronas : IsSpent s.solver.vars s.solver.clauses s.turns (log_of u.vars proof) → IsSpentOnCoronas version g u.shape u.level s.turns size proof
+    spent_on_coronas spent = record { vars = u.vars; count = s.solver.vars; clauses = s.solver.clauses; formula = formula; fits = fits; lawful = lawful; is_spent = spent }
+
     -- a log that refutes, as a proof
     pub refutes_up_to : Refutes s.solver.vars s.solver.clauses s.solver.log → RefutesUpTo version g u.shape u.level k size proof
-    refutes_up_to r =
-        let refutes : RefutesCoronas version g u.shape u.level size proof = record {
-          vars = u.vars;
-          count = s.solver.vars;
-          clauses = s.solver.clauses;
-          formula = formula;
-          fits = fits;
-          lawful = lawful;
-          refutes = subst (Refutes s.solver.vars s.solver.clauses) (sym same) r;
-        } in
-        let new_steps : HasNewSteps version g u.shape u.level proof = record {
-          vars = u.vars;
-          count = s.solver.vars;
-          clauses = s.solver.clauses;
-          formula = formula;
-          new_lines = subst (λ (log : Log). LinesAreNew s.solver.clauses log.lines) (sym same) e.search.valid.fresh;
-        } in
-        record { refutes = refutes; new_steps = new_steps; cuts = up_to }
+    refutes_up_to r = record {
+      refutes = refutes_coronas (subst (Refutes s.solver.vars s.solver.clauses) (sym same) r);
+      new_steps = record {
+        vars = u.vars;
+        count = s.solver.vars;
+        clauses = s.solver.clauses;
+        formula = formula;
+        new_lines = subst (λ (log : Log). LinesAreNew s.solver.clauses log.lines) (sym same) e.search.valid.fresh;
+      };
+      cuts = up_to;
+    }
 
     -- a log that is spent, as a proof
     pub spent_up_to : IsSpent s.solver.vars s.solver.clauses s.solver.turns s.solver.log × NoFinal (clauses_with s.solver.clauses s.solver.log.lines) → IsSpentUpTo version g u.shape u.level k s.turns size proof
-    spent_up_to (spent, none) =
-        let is_spent : IsSpentOnCoronas version g u.shape u.level s.turns size proof = record {
-          vars = u.vars;
-          count = s.solver.vars;
-          clauses = s.solver.clauses;
-          formula = formula;
-          fits = fits;
-          lawful = lawful;
-          is_spent = subst (λ n. IsSpent s.solver.vars s.solver.clauses n (log_of u.vars proof)) e.search.turns_are (subst (IsSpent s.solver.vars s.solver.clauses s.solver.turns) (sym same) spent);
-        } in
-        let open_still : LeavesOpen version g u.shape u.level s.turns proof = record {
-          vars = u.vars;
-          count = s.solver.vars;
-          clauses = s.solver.clauses;
-          formula = formula;
-          no_final = subst (λ (log : Log). NoFinal (clauses_with s.solver.clauses log.lines)) (sym same) none;
-          few = subst (λ n. n ≤ 3 ^ s.solver.vars) (spent.used ∙ e.search.turns_are) (few_lines s.solver.vars s.solver.clauses s.solver.log.lines e.search.valid.hold e.search.valid.fresh);
-        } in
-        record { is_spent = is_spent; open_still = open_still; cuts = up_to }
+    spent_up_to (spent, none) = record {
+      is_spent = spent_on_coronas (subst (λ n. IsSpent s.solver.vars s.solver.clauses n (log_of u.vars proof)) e.search.turns_are (subst (IsSpent s.solver.vars s.solver.clauses s.solver.turns) (sym same) spent));
+      open_still = record {
+        vars = u.vars;
+        count = s.solver.vars;
+        clauses = s.solver.clauses;
+        formula = formula;
+        no_final = subst (λ (log : Log). NoFinal (clauses_with s.solver.clauses log.lines)) (sym same) none;
+        few = subst (λ n. n ≤ 3 ^ s.solver.vars) (spent.used ∙ e.search.turns_are) (few_lines s.solver.vars s.solver.clauses s.solver.log.lines e.search.valid.hold e.search.valid.fresh);
+      };
+      cuts = up_to;
+    }
 
   -- what is named where a clause is empty
   names : (answer : LevelAnswer) → ((n : ℕ) → IsFirstEmpty s.solver.clauses n → NamesEmptyClause n answer) → NamesEmptyClauses version g u.shape u.level answer

@@ -6,7 +6,7 @@ ghost use Rattle.heesch_levels.specs.Answer.{IsLevelAnswer, NamesEmptyClauses};
 ghost use Rattle.heesch_levels.specs.UpTo.{IsAnswerUpTo};
 ghost use Rattle.heesch_levels.specs.Wall.{ShowsHoles, level_answer};
 
-use crate::ended::ended_at;
+use crate::ended::{Effort, ended_at};
 use heesch_cert::{Layers, Proof};
 use heesch_cnf::Version;
 use heesch_grid::Grid;
@@ -75,7 +75,12 @@ pub fn level_up_to<G: Grid>(
     ensures too_large { IfOk result (λ answer. IsTooLarge version G.geometry shape.now j size → answer ≡ LevelAnswer.TooLarge) }
     ensures at_once { IfOk result (λ answer. answer ≢ LevelAnswer.TooLarge → NamesEmptyClauses version G.geometry shape.now j answer) }
 {
-    match ended_at(alloc, shape, j, free_levels, turns, size, version)? {
+    let effort = Effort {
+        turns,
+        size,
+        version,
+    };
+    match ended_at(alloc, shape, j, free_levels, effort)? {
         Some(ended) => ended.into_answer(alloc),
         None => Ok(LevelAnswer::TooLarge),
     }
@@ -150,7 +155,12 @@ pub fn wall<G: Grid>(
     ensures too_large { IfOk result (λ answer. IsTooLarge version G.geometry shape.now j size → answer ≡ WallAnswer.TooLarge) }
     ensures at_once { IfOk result (λ answer. answer ≢ WallAnswer.TooLarge → NamesEmptyClauses version G.geometry shape.now j (level_answer answer)) }
 {
-    match ended_at(alloc, shape, j, j, turns, size, version)? {
+    let effort = Effort {
+        turns,
+        size,
+        version,
+    };
+    match ended_at(alloc, shape, j, j, effort)? {
         Some(ended) => ended.into_wall(alloc),
         None => Ok(WallAnswer::TooLarge),
     }

@@ -27,6 +27,14 @@ use std::alloc::Global;
 /// literal, and there are at most 60,000,000 literals.
 const CLAUSES_MAX: usize = 1 << 30;
 
+/// Which corona formula a search is over, with how many literals at most, and how many turns it may take.
+#[derive(Clone, Copy)]
+pub struct Effort {
+    pub turns: u32,
+    pub size: u32,
+    pub version: Version,
+}
+
 /// What was asked of models, the search for one, and how it ended.
 #[derive(Drop)]
 pub struct Ended<G: Grid> {
@@ -43,28 +51,26 @@ fn has_room(formula: &FlatFormula) -> bool
 }
 
 /// The search at this level to its end, with holes forbidden at the levels from 1 to `free_levels`; none where the corona
-/// formula has more than `size` literals.
+/// formula has more literals than it may have.
 pub fn ended_at<G: Grid>(
     alloc: Global,
     shape: &Shape<G>,
     j: u32,
     free_levels: u32,
-    turns: u32,
-    size: u32,
-    version: Version,
+    effort: Effort,
 ) -> Result<Option<Ended<G>>, NoMemory>
     requires level { (1 ≤ j) × (j ≤ 6) }
     requires free { free_levels ≤ j }
-    requires turns { (1 ≤ turns) × (turns ≤ 1000000) }
-    requires size { (1 ≤ size) × (size ≤ 60000000) }
+    requires turns { (1 ≤ effort.turns) × (effort.turns ≤ 1000000) }
+    requires size { (1 ≤ effort.size) × (effort.size ≤ 60000000) }
     requires canonical { IsCanonicalListOf G.geometry shape.now shape.now }
     ensures ended { IfOk result (λ e. IfSome e (λ e. IsEnded G.geometry e.asked.universe e.asked.free_levels e.search e.ending)) }
-    ensures under { IfOk result (λ e. IfSome e (λ e. IsUnder version G.geometry shape.now j free_levels turns size e.asked.universe e.asked.free_levels e.search)) }
-    ensures too_large { IfOk result (λ e. IfNone e (IsTooLarge version G.geometry shape.now j size)) }
+    ensures under { IfOk result (λ e. IfSome e (λ e. IsUnder effort.version G.geometry shape.now j free_levels effort.turns effort.size e.asked.universe e.asked.free_levels e.search)) }
+    ensures too_large { IfOk result (λ e. IfNone e (IsTooLarge effort.version G.geometry shape.now j effort.size)) }
 {
     // Reading the cells tells the proof that they are a polyform.
     let _cells = shape.cells();
-    let encoded = match encode_flat(alloc, shape, j, size, version) {
+    let encoded = match encode_flat(alloc, shape, j, effort.size, effort.version) {
         Ok(encoded) => encoded,
         Err(EncodeStop::TooLarge) => return Ok(None),
         Err(EncodeStop::NoMemory) => return Err(NoMemory),
@@ -74,7 +80,7 @@ pub fn ended_at<G: Grid>(
     }
     let FlatEncoded { universe, formula } = encoded;
     let asked = Asked::of(alloc, shape, universe, free_levels)?;
-    let mut search = Search::open(alloc, &asked, formula, turns)?;
+    let mut search = Search::open(alloc, formula, effort.turns)?;
     let ending = search.run(alloc, shape, &asked)?;
     Ok(Some(Ended {
         asked,

@@ -1,8 +1,9 @@
 //! The search at one level.
-ghost use Rattle.std.specs.Prelude.{◌≡◌, ◌<◌, ◌≤◌, ◌^◌, [], Some, IfOk, IfSome, IfNone, length, unwrap_or};
+ghost use Rattle.std.specs.Prelude.{◌≡◌, ◌<◌, ◌≤◌, ◌^◌, ℕ, [], Some, IfOk, IfSome, IfNone, length, unwrap_or};
+ghost use Rattle.heesch_grid.specs.Geometry.{Geometry};
 ghost use Rattle.heesch_cnf.specs.Meaning.{given_clauses};
 ghost use Rattle.heesch_cuts.specs.Chosen.{CutsOff};
-ghost use Rattle.heesch_place.specs.Universes.{IsUniverseOf};
+ghost use Rattle.heesch_place.specs.Universes.{IsUniverseOf, Levels};
 ghost use Rattle.heesch_levels.specs.Searching.{EndsAtOnce, GoesOn, IsAsked, IsCutUpTo, IsEnding, IsSearch, TurnsAtOnce};
 ghost use Rattle.heesch_levels.specs.Steps.{proof_of};
 
@@ -47,16 +48,10 @@ fn keep_first(kept: &mut Option<Seq<bool>>, values: Seq<bool>)
 
 impl Search {
     /// A search that has not begun.
-    pub fn open<G: Grid>(
-        alloc: Global,
-        asked: &Asked<G>,
-        formula: FlatFormula,
-        turns: u32,
-    ) -> Result<Search, NoMemory>
+    pub fn open(alloc: Global, formula: FlatFormula, turns: u32) -> Result<Search, NoMemory>
         requires turns { (1 ≤ turns) × (turns ≤ 1000000) }
         requires few { length formula.clauses < 2 ^ 30 }
-        requires within { length asked.now.universe.vars ≤ formula.vars }
-        ensures search { IfOk result (IsSearch G.geometry asked.now.universe asked.now.free_levels) }
+        ensures search { (g : Geometry) (u : Levels) (k : ℕ) → length u.vars ≤ formula.vars → IfOk result (IsSearch g u k) }
         ensures turns { IfOk result (λ s. s.turns ≡ turns) }
         ensures vars { IfOk result (λ s. s.solver.vars ≡ formula.vars) }
         ensures clauses { IfOk result (λ s. s.solver.clauses ≡ formula.clauses) }

@@ -23,9 +23,9 @@ use Rattle.heesch_text.specs.declared.line.Outcome.{Outcome}
 use Rattle.heesch_text.specs.declared.line.Outcome.TheVariants as outcomes
 use Rattle.heesch_text.specs.declared.line.BareOutcome.{BareOutcome}
 use Rattle.heesch_text.specs.declared.line.BareOutcome.TheVariants as bares
-use Rattle.heesch_text.specs.Names.{version_text, kind_text, phase_text, subject_text, outcome_text, bare_text}
+use Rattle.heesch_text.specs.Names.{version_text, kind_text, phase_text, outcome_text, bare_text}
+use Rattle.heesch_cert.specs.Sizes.{subject_word, most_cells, IsSubject}
 use Rattle.heesch_text.specs.Lines.{limits_text}
-use Rattle.heesch_cert.specs.Sizes.{most_cells, IsSubject}
 use Rattle.heesch_cert.proofs.FewCells.{few_cells}
 use Rattle.heesch_text.specs.Naturals.{IsNatural}
 use Rattle.heesch_line.specs.Forms.{IsPlace}
@@ -183,24 +183,24 @@ bare_outcome_read bytes x e = by_words_read bare_text (λ _. Unit {0}) bare_rows
 size_tests : (n most : ℕ) → (ltb 0 n && leb n most) ≡ true → (1 ≤ n) × (n ≤ most)
 size_tests n most h = (grind (arith, nat_tests), grind (arith, nat_tests))
 
-size_read : (version : Version) (grid : GridName) (bytes : List ℕ) (x : Subject × List ℕ) → (number_at bytes >>= λ n. given (ltb 0 n.0 && leb n.0 (most_cells version grid)) (Size n.0, n.1)) ≡ some x → IsRead subject_text (IsSubject version grid) bytes x
+size_read : (version : Version) (grid : GridName) (bytes : List ℕ) (x : Subject × List ℕ) → (number_at bytes >>= λ n. given (ltb 0 n.0 && leb n.0 (most_cells version grid)) (Size n.0, n.1)) ≡ some x → IsRead subject_word (IsSubject version grid) bytes x
 size_read version grid bytes x e =
     let n = bind_some (number_at bytes) _ x e in
     let made : Subject × List ℕ = (Size n.0.0, n.0.1) in
     let g = given_some (ltb 0 n.0.0 && leb n.0.0 (most_cells version grid)) made x n.2 in
-    is_read {made = made} subject_text (IsSubject version grid) bytes g.1 (number_read bytes n.0 n.1).takes (size_tests n.0.0 (most_cells version grid) g.0)
+    is_read {made = made} subject_word (IsSubject version grid) bytes g.1 (number_read bytes n.0 n.1).takes (size_tests n.0.0 (most_cells version grid) g.0)
 
 some_test : (most : ℕ) → leb 1 most ≡ true → 1 ≤ most
 some_test most h = grind (arith, nat_tests)
 
-pub subject_read : (version : Version) (grid : GridName) (bytes : List ℕ) (x : Subject × List ℕ) → subject_at version grid bytes ≡ Some x → IsRead subject_text (IsSubject version grid) bytes x
+pub subject_read : (version : Version) (grid : GridName) (bytes : List ℕ) (x : Subject × List ℕ) → subject_at version grid bytes ≡ Some x → IsRead subject_word (IsSubject version grid) bytes x
 unfolding subject_at
 subject_read version grid bytes x e =
     elim (behind_some (literal_at (codes "given") bytes) _ _ x e) [
       | inl a0 ↦
           let made : Subject × List ℕ = (Given, a0.0) in
           let g = given_some (leb 1 (most_cells version grid)) made x a0.2 in
-          word_read {X = Subject} subject_text (IsSubject version grid) bytes (codes "given") Given x a0.0 a0.1 refl (some_test (most_cells version grid) g.0) (ap (λ (y : Subject × List ℕ). Some y) g.1)
+          word_read {X = Subject} subject_word (IsSubject version grid) bytes (codes "given") Given x a0.0 a0.1 refl (some_test (most_cells version grid) g.0) (ap (λ (y : Subject × List ℕ). Some y) g.1)
       | inr n0 ↦
           size_read version grid bytes x n0.1
     ]
@@ -254,7 +254,7 @@ tests_size n most h = grind (arith, nat_tests)
 test_some : (most : ℕ) → 1 ≤ most → leb 1 most ≡ true
 test_some most h = grind (arith, nat_tests)
 
-pub subject_again : (version : Version) (grid : GridName) (x : Subject) (rest : List ℕ) → IsSubject version grid x → Stops rest → subject_at version grid (subject_text x ++ rest) ≡ Some (x, rest)
+pub subject_again : (version : Version) (grid : GridName) (x : Subject) (rest : List ℕ) → IsSubject version grid x → Stops rest → subject_at version grid (subject_word x ++ rest) ≡ Some (x, rest)
 unfolding subject_at
 subject_again version grid Given rest fits stops = rw (test_some (most_cells version grid) fits) refl
 subject_again version grid (Size n) rest fits stops =

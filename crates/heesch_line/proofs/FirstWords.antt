@@ -6,7 +6,8 @@ use Rattle.heesch_cert.specs.declared.header.Header.{Header}
 use Rattle.heesch_text.specs.declared.line.Line.{Line}
 use Rattle.heesch_text.specs.declared.line.Line.TheVariants as lines
 use Rattle.heesch_text.specs.Fields.{cells_text}
-use Rattle.heesch_text.specs.Names.{version_text, subject_text}
+use Rattle.heesch_text.specs.Names.{version_text}
+use Rattle.heesch_cert.specs.Sizes.{subject_word}
 use Rattle.heesch_text.specs.Lines.{limits_text, words_of}
 use Rattle.heesch_line.specs.Forms.{BeginsWith, IsShape, IsEnd}
 use Rattle.heesch_line.specs.Reading.{literal_at}
@@ -21,7 +22,7 @@ other_title word first second false a b c d e = second (a ++ b ++ c ++ d ++ e)
 no_title : (word : List ℕ) → ((rest : List ℕ) → literal_at word (codes "brief" ++ rest) ≡ None) → ((rest : List ℕ) → literal_at word (codes "heesch" ++ rest) ≡ None)
     → (h : Header) (rest : List ℕ) → literal_at word (word ++ rest) ≡ Some rest → words_of (lines.Header h) ≡ word ++ rest → ⊥
 no_title word brief heesch h rest found e =
-    let other = other_title word brief heesch h.brief (version_text h.limits.version) (grid_word h.grid) (codes " ") (subject_text h.subject) (limits_text h.limits) in
+    let other = other_title word brief heesch h.brief (version_text h.limits.version) (grid_word h.grid) (codes " ") (subject_word h.subject) (limits_text h.limits) in
     none_some rest (sym other ∙ ap (literal_at word) e ∙ found)
 
 -- the first word tells the kind

@@ -21,10 +21,10 @@ use Rattle.heesch_text.specs.declared.line.BareOutcome.{BareOutcome}
 use Rattle.heesch_text.specs.declared.line.Line.{Line}
 use Rattle.heesch_text.specs.declared.line.Line.TheVariants as lines
 use Rattle.heesch_text.specs.Fields.{spaced, cells_text, lit_text, triple_text}
-use Rattle.heesch_text.specs.Names.{version_text, kind_text, phase_text, subject_text, outcome_text, bare_text}
+use Rattle.heesch_text.specs.Names.{version_text, kind_text, phase_text, outcome_text, bare_text}
+use Rattle.heesch_cert.specs.Sizes.{subject_word, IsSubject}
 use Rattle.heesch_text.specs.Lines.{limits_text, verdict_text, words_of}
 use Rattle.heesch_text.specs.Naturals.{IsNatural}
-use Rattle.heesch_cert.specs.Sizes.{IsSubject}
 use Rattle.heesch_line.specs.Forms.{IsVerdict, IsLine}
 use Rattle.heesch_line.specs.Reading.{parted, number_at, outcome_at, bare_outcome_at}
 use Rattle.heesch_line.specs.LineReading.{header_at, shape_at, tiles_at, heesch_at, stop_at, verdict_at, verdict_line_at, end_at, lattice_at, tile_at, coronas_at, layer_at, open_at, wall_at, bare_at, triple_line_at, learn_at, cut_at, empty_at, search_line_at, cover_line_at, front_line_at, line_at}
@@ -67,12 +67,12 @@ verdict_again (verdicts.Size h phase at) rest fits stops ends = rw (stop_again h
 
 -- a header without its first word
 title_again : (brief : Bool) (grid : GridName) (subject : Subject) (limits : Limits) (rest : List ℕ) → IsSubject limits.version grid subject → AreLimits limits → Stops rest
-    → header_at brief ((version_text limits.version ++ grid_word grid ++ codes " " ++ subject_text subject ++ limits_text limits) ++ rest) ≡ Some (lines.Header (record { brief = brief; grid = grid; subject = subject; limits = limits }), rest)
+    → header_at brief ((version_text limits.version ++ grid_word grid ++ codes " " ++ subject_word subject ++ limits_text limits) ++ rest) ≡ Some (lines.Header (record { brief = brief; grid = grid; subject = subject; limits = limits }), rest)
 unfolding header_at
 title_again brief grid subject limits rest fits within stops =
-    let regroup = regroup5 (version_text limits.version) (grid_word grid) (codes " ") (subject_text subject) (limits_text limits) rest in
-    let v = version_again limits.version (grid_word grid ++ (codes " " ++ (subject_text subject ++ (limits_text limits ++ rest)))) in
-    let s0 = grid_again grid (codes " " ++ (subject_text subject ++ (limits_text limits ++ rest))) in
+    let regroup = regroup5 (version_text limits.version) (grid_word grid) (codes " ") (subject_word subject) (limits_text limits) rest in
+    let v = version_again limits.version (grid_word grid ++ (codes " " ++ (subject_word subject ++ (limits_text limits ++ rest)))) in
+    let s0 = grid_again grid (codes " " ++ (subject_word subject ++ (limits_text limits ++ rest))) in
     let s2 = subject_again limits.version grid subject (limits_text limits ++ rest) fits refl in
     let s3 = limits_again limits rest within stops in
     rw (regroup, v, s0, s2, s3) refl

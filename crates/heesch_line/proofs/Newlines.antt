@@ -22,7 +22,7 @@ use Rattle.heesch_cnf.specs.declared.version.Version.{Version}
 use Rattle.heesch_cnf.specs.declared.version.Version.TheVariants.{One, Two}
 use Rattle.heesch_cert.specs.declared.limits.Limits.{Limits}
 use Rattle.heesch_cert.specs.Limits.{AreLimits}
-use Rattle.heesch_cert.specs.Sizes.{IsSubject}
+use Rattle.heesch_cert.specs.Sizes.{IsSubject, subject_word}
 use Rattle.heesch_cert.specs.declared.verdict.Kind.{Kind}
 use Rattle.heesch_cert.specs.declared.verdict.Kind.TheVariants.{Translation, HalfTurn, Periodic}
 use Rattle.heesch_cert.specs.declared.verdict.Phase.{Phase}
@@ -36,7 +36,7 @@ use Rattle.heesch_text.specs.declared.line.BareOutcome.TheVariants as bares
 use Rattle.heesch_text.specs.declared.line.Line.{Line}
 use Rattle.heesch_text.specs.declared.line.Line.TheVariants as lines
 use Rattle.heesch_text.specs.Fields.{spaced, cell_text, cells_text, iso_text, place_text, lit_text, triple_text}
-use Rattle.heesch_text.specs.Names.{version_text, kind_text, phase_text, subject_text, outcome_text, bare_text}
+use Rattle.heesch_text.specs.Names.{version_text, kind_text, phase_text, outcome_text, bare_text}
 use Rattle.heesch_text.specs.Lines.{title_text, limits_text, verdict_text, words_of}
 use Rattle.heesch_text.specs.Naturals.{IsNatural}
 use Rattle.heesch_line.specs.Forms.{IsInteger, IsPlace, IsLiteral, IsVerdict, IsLine, HasNoNewline}
@@ -156,7 +156,7 @@ bare_free bares.Same = record { is = refl }
 bare_free bares.Open = record { is = refl }
 bare_free (bares.Searched outcome) = outcome_free outcome
 
-subject_free : (version : Version) (grid : GridName) (x : Subject) → IsSubject version grid x → Free (subject_text x)
+subject_free : (version : Version) (grid : GridName) (x : Subject) → IsSubject version grid x → Free (subject_word x)
 subject_free version grid Given fits = record { is = refl }
 subject_free version grid (Size n) fits = let most = few_cells version grid in decimal_free n (omega arith)
 

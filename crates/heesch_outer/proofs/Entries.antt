@@ -1,5 +1,5 @@
 -- What a true entry with a refuted wall says, and the parts of entries made of it.
-use Rattle.std.proofs.Common.{◌≡◌, refl, sym, subst, ◌∙◌, ℕ, zero, suc, ◌+◌, ap, ◌<◌, ◌≤◌, List, length, inl, inr, arith, All, not, true≢false, eq-eqb, eqb-true}
+use Rattle.std.proofs.Common.{◌≡◌, refl, sym, subst, ◌∙◌, ℕ, ◌+◌, ap, ◌<◌, ◌≤◌, List, length, inl, inr, arith, All, not, true≢false, eq-eqb, eqb-true}
 use Rattle.std.specs.Prelude.{Option, IsTrue, ◌↔◌, nat_eq}
 use Rattle.std.proofs.lemmas.Bool.{cases_Bool, cases_order}
 use Rattle.std.proofs.lemmas.List.Elements.{All-nil, All-weaker, All-from_recursion}
@@ -30,10 +30,10 @@ use Rattle.heesch_cert.specs.Limits.{AreLimits}
 use Rattle.heesch_cert.specs.Parts.{PartHolds, IsLeastFailing}
 use Rattle.heesch_cert.specs.Proofs.{RefutesCoronas, IsLawfulStep}
 use Rattle.heesch_cert.specs.TrueEntry.{Spells, IsAdmitted, HasNoPlain, FitsVerdict, FormFits, FreeHolds, first_number}
-use Rattle.heesch_near.specs.Statements.{IsNearPlace, IsNearLayer}
-use Rattle.heesch_near.proofs.Shapes.{shapes_are_near}
-use Rattle.heesch_near.proofs.Coronas.{coronas_are_near}
-use Rattle.heesch_near.proofs.Holes.{holes_are_near}
+use Rattle.heesch_written.specs.Near.{IsNearPlace, IsNearLayer}
+use Rattle.heesch_written.proofs.Shapes.{shapes_are_near}
+use Rattle.heesch_written.proofs.Coronas.{coronas_are_near}
+use Rattle.heesch_written.proofs.Holes.{holes_are_near}
 use Rattle.heesch_audit.specs.Near.{IsNearIso, AreNearLayers, IsNearStep, IsNearProof, IsNearEntry}
 use Rattle.heesch_audit.specs.Shapes.{AreCanonical}
 use Rattle.heesch_audit.proofs.Bounded.{search_form}

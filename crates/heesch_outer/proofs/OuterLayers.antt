@@ -1,5 +1,5 @@
 -- Layers that spell outer coronas: hole-free ones without the outermost, and coronas with it.
-use Rattle.std.proofs.Common.{◌≡◌, refl, sym, ap, subst, ◌∙◌, ℕ, zero, suc, ◌+◌, ◌-◌, List, [], ◌∷◌, length, take, true, false, arith}
+use Rattle.std.proofs.Common.{◌≡◌, sym, ap, subst, ◌∙◌, ℕ, zero, suc, ◌+◌, ◌-◌, List, [], ◌∷◌, length, take, true, false, arith}
 use Rattle.std.specs.List.{AllZip}
 use Rattle.std.proofs.lemmas.List.Elements.{All-nil, All-cons, All-head, All-tail}
 use Rattle.std.proofs.lemmas.Slice.Zip.{AllZip-long}
@@ -10,6 +10,7 @@ use Rattle.heesch_grid.specs.Geometry.{Geometry, image}
 use Rattle.heesch_grid.specs.Corona.{StaysHoleFree}
 use Rattle.heesch_grid.specs.Listing.{IsRising}
 use Rattle.heesch_grid.specs.Placement.{IsLeastIsometry}
+use Rattle.heesch_shape.proofs.Zips.{one_zip}
 use Rattle.heesch_place.proofs.Moves.{one_cell_list}
 use Rattle.heesch_cert.specs.declared.entry.Layers.{Layers}
 use Rattle.heesch_cert.specs.TrueEntry.{Spells}
@@ -18,18 +19,6 @@ use Rattle.heesch_levels.specs.UpTo.{SpellsUpTo}
 use Rattle.heesch_outer.specs.Coronas.{inner_layers}
 use Rattle.heesch_outer.specs.Answer.{SpellsOuterCoronas}
 use Rattle.heesch_outer.proofs.OuterNumbers.{first_coronas}
-
--- where each item has one other, so have items their others
-one_zip : {X Y : Type 0} (R : X → Y → Type 0) → ((x : X) (y z : Y) → R x y → R x z → y ≡ z) → (xs : List X) (ys zs : List Y) → AllZip R xs ys → AllZip R xs zs → ys ≡ zs
-one_zip R one [] [] [] p q = refl
-one_zip R one [] [] (z ∷ zs) p q = absurd q
-one_zip R one [] (y ∷ ys) zs p q = absurd p
-one_zip R one (x ∷ xs) [] zs p q = absurd p
-one_zip R one (x ∷ xs) (y ∷ ys) [] p q = absurd q
-one_zip R one (x ∷ xs) (y ∷ ys) (z ∷ zs) p q =
-    let first : y ≡ z = one x y z p.0 q.0 in
-    let rest : ys ≡ zs = one_zip R one xs ys zs p.1 q.1 in
-    λ i. first i ∷ rest i
 
 module _ (g : Geometry) (shape : List Cell) where
   abbrev AreTiles : List Iso → List (List Cell) → Type 0

@@ -11,7 +11,6 @@ ghost use Rattle.heesch_outer.specs.Statements.{TellsNumber};
 
 use crate::OuterAnswer;
 use crate::copies::copy_proof;
-use heesch_audit::first_number;
 use heesch_cert::{Bare, Entry, Evidence, Limits, Wall};
 use heesch_grid::{Cell, Grid};
 use heesch_io::NoMemory;
@@ -78,5 +77,5 @@ pub fn outer<G: Grid>(alloc: Global, entry: &Entry, limits: Limits) -> Result<Ou
         return Ok(OuterAnswer::Same { proof });
     }
     let shape = shape_of::<G>(entry.cells.as_slice());
-    search_outer(alloc, &shape, first_number(entry.verdict), limits)
+    search_outer(alloc, &shape, entry.verdict.first_number(), limits)
 }

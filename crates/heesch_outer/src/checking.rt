@@ -11,10 +11,11 @@ ghost use Rattle.heesch_outer.specs.Proofs.{EndsOuter};
 
 use crate::OuterAnswer;
 use crate::copies::is_same_proof;
-use crate::parts::{are_outer, ended_entry, part_holds};
+use crate::parts::{ended_entry, part_holds};
+use crate::sought::Sought;
 use heesch_audit::ProofEnd;
-use heesch_cert::{Bare, Entry, Evidence, Isos, Limits, Proof, Step, Verdict, Wall};
-use heesch_grid::{Cell, Grid};
+use heesch_cert::{Bare, Entry, Evidence, Limits, Proof, Step, Verdict, Wall};
+use heesch_grid::Grid;
 use heesch_io::NoMemory;
 use std::alloc::Global;
 use std::thread::Threads;
@@ -33,18 +34,6 @@ fn has_cuts_up_to(proof: &Proof, h: usize) -> bool
     true
 }
 
-fn is_tiles(answer: &OuterAnswer) -> bool
-    ensures { IsTrue result ↔ (answer.now ≡ OuterAnswer.Tiles) }
-{
-    matches!(answer, OuterAnswer::Tiles)
-}
-
-fn is_unknown(answer: &OuterAnswer) -> bool
-    ensures { IsTrue result ↔ (answer.now ≡ OuterAnswer.Unknown) }
-{
-    matches!(answer, OuterAnswer::Unknown)
-}
-
 /// Whether the answer is the number h by this proof.
 fn is_same_by(answer: &OuterAnswer, wall: &Proof) -> bool
     ensures { IsTrue result ↔ (answer.now ≡ OuterAnswer.Same wall.now) }
@@ -55,57 +44,34 @@ fn is_same_by(answer: &OuterAnswer, wall: &Proof) -> bool
     }
 }
 
-/// Whether the proof is outer for the number of the layers, and refutes or is spent, as asked.
-fn is_ended_outer<G: Grid, T: Threads + Sync>(
-    rt: &T,
-    alloc: Global,
-    cells: &[Cell],
-    free: &[Isos],
-    end: ProofEnd,
-    proof: &Proof,
-    limits: Limits,
-) -> Result<bool, NoMemory>
-    requires limits { AreLimits limits }
-    requires found { IsFound G.geometry limits cells.now free.now }
-    requires near { IsNearProof proof.now }
-    ensures { IfOk result (λ yes. IsTrue yes ↔ EndsOuter end G.geometry limits cells.now (length free.now) proof.now) }
-{
-    if !has_cuts_up_to(proof, free.len()) {
-        return Ok(false);
-    }
-    let entry = ended_entry(alloc, cells, free, end, proof)?;
-    part_holds::<G, T>(rt, alloc, &entry, limits, 6)
-}
-
-/// Whether a search of its own may end with the answer, behind layers that were found and a wall that the proof
-/// refutes.
-fn is_searched<G: Grid, T: Threads + Sync>(
-    rt: &T,
-    alloc: Global,
-    cells: &[Cell],
-    free: &[Isos],
-    wall: &Proof,
-    answer: &OuterAnswer,
-    limits: Limits,
-) -> Result<bool, NoMemory>
-    requires limits { AreLimits limits }
-    requires found { IsFound G.geometry limits cells.now free.now }
-    requires wall { RefutesCoronas limits.version G.geometry cells.now (length free.now + 1) limits.size wall.now }
-    requires near { IsNearAnswer answer.now }
-    ensures { IfOk result (λ yes. IsTrue yes ↔ IsSearched G.geometry limits cells.now (length free.now) answer.now) }
-{
-    match answer {
-        OuterAnswer::Tiles | OuterAnswer::Unknown => Ok(false),
-        OuterAnswer::More { layers } => are_outer::<G, T>(
-            rt, alloc, cells, free, wall, layers, limits,
-        ),
-        OuterAnswer::Same { proof } => {
-            let end = ProofEnd::Refuted;
-            is_ended_outer::<G, T>(rt, alloc, cells, free, end, proof, limits)
+impl<'a, T: Threads + Sync> Sought<'a, T> {
+    /// Whether the proof is outer for the number of the layers, and refutes or is spent, as asked.
+    fn is_ended_outer<G: Grid>(&self, end: ProofEnd, proof: &Proof) -> Result<bool, NoMemory>
+        requires limits { AreLimits self.now.limits }
+        requires found { IsFound G.geometry self.now.limits self.now.cells.now self.now.free.now }
+        requires near { IsNearProof proof.now }
+        ensures { IfOk result (λ yes. IsTrue yes ↔ EndsOuter end G.geometry self.now.limits self.now.cells.now (length self.now.free.now) proof.now) }
+    {
+        if !has_cuts_up_to(proof, self.free.len()) {
+            return Ok(false);
         }
-        OuterAnswer::Spent { proof } => {
-            let end = ProofEnd::Spent;
-            is_ended_outer::<G, T>(rt, alloc, cells, free, end, proof, limits)
+        let entry = ended_entry(self.alloc, self.cells, self.free, end, proof)?;
+        part_holds::<G, T>(self.rt, self.alloc, &entry, self.limits, 6)
+    }
+
+    /// Whether a search of its own may end with the answer.
+    fn is_searched<G: Grid>(&self, answer: &OuterAnswer) -> Result<bool, NoMemory>
+        requires limits { AreLimits self.now.limits }
+        requires found { IsFound G.geometry self.now.limits self.now.cells.now self.now.free.now }
+        requires wall { RefutesCoronas self.now.limits.version G.geometry self.now.cells.now (length self.now.free.now + 1) self.now.limits.size self.now.wall.now }
+        requires near { IsNearAnswer answer.now }
+        ensures { IfOk result (λ yes. IsTrue yes ↔ IsSearched G.geometry self.now.limits self.now.cells.now (length self.now.free.now) answer.now) }
+    {
+        match answer {
+            OuterAnswer::Tiles | OuterAnswer::Unknown => Ok(false),
+            OuterAnswer::More { layers } => self.are_outer::<G>(layers),
+            OuterAnswer::Same { proof } => self.is_ended_outer::<G>(ProofEnd::Refuted, proof),
+            OuterAnswer::Spent { proof } => self.is_ended_outer::<G>(ProofEnd::Spent, proof),
         }
     }
 }
@@ -133,7 +99,7 @@ pub fn check_outer<G: Grid, T: Threads + Sync>(
     ensures { IfOk result (λ yes. IsTrue yes ↔ IsOuterAnswer G.geometry limits entry.now answer.now) }
 {
     if let Verdict::Tiles { .. } = entry.verdict {
-        return Ok(is_tiles(answer));
+        return Ok(matches!(answer, OuterAnswer::Tiles));
     }
     let Evidence::Search {
         free,
@@ -145,18 +111,18 @@ pub fn check_outer<G: Grid, T: Threads + Sync>(
         return Ok(false);
     };
     let Wall::Refuted { proof } = wall else {
-        return Ok(is_unknown(answer));
+        return Ok(matches!(answer, OuterAnswer::Unknown));
     };
     if let Bare::Same = bare {
         return Ok(is_same_by(answer, proof));
     }
-    is_searched::<G, T>(
+    let sought = Sought {
         rt,
         alloc,
-        entry.cells.as_slice(),
-        free.layers.as_slice(),
-        proof,
-        answer,
+        cells: entry.cells.as_slice(),
+        free: free.layers.as_slice(),
+        wall: proof,
         limits,
-    )
+    };
+    sought.is_searched::<G>(answer)
 }

@@ -8,6 +8,7 @@ mod copies;
 pub mod laws;
 mod parts;
 mod record;
+mod sought;
 
 pub use answer::OuterAnswer;
 pub use answering::outer;

@@ -1,16 +1,15 @@
 //! The parts of a true entry that answers are checked by.
 ghost use Rattle.std.specs.Prelude.{◌≡◌, ◌↔◌, ◌+◌, ◌≤◌, ◌<◌, ℕ, true, false, length, IfOk, IsTrue};
 ghost use Rattle.heesch_audit.specs.Near.{AreNearLayers, IsNearEntry};
-ghost use Rattle.heesch_audit.specs.Shapes.{AreCanonical};
 ghost use Rattle.heesch_audit.specs.Spelling.{SpellCoronas};
 ghost use Rattle.heesch_cert.specs.Limits.{AreLimits};
 ghost use Rattle.heesch_cert.specs.Parts.{PartHolds};
 ghost use Rattle.heesch_cert.specs.Proofs.{RefutesCoronas};
-ghost use Rattle.heesch_cert.specs.TrueEntry.{HasNoPlain};
 ghost use Rattle.heesch_outer.specs.Answer.{SpellsOuterCoronas};
 ghost use Rattle.heesch_outer.specs.Found.{IsFound, ended_entry, free_entry, open_entry, search_entry, with_levels};
 
 use crate::copies::{copy_items, copy_layers, copy_proof};
+use crate::sought::Sought;
 use heesch_audit::{EntryAnswer, ProofEnd, audit};
 use heesch_cert::{Bare, Entry, Evidence, Isos, Layers, Limits, Phase, Proof, Verdict, Wall};
 use heesch_grid::{Cell, Grid};
@@ -144,74 +143,52 @@ fn free_entry(alloc: Global, cells: &[Cell], free: &[Isos]) -> Result<Entry, NoM
     )
 }
 
-/// Whether the layers without the outermost are hole-free coronas.
-fn is_inner_free<G: Grid, T: Threads + Sync>(
-    rt: &T,
-    alloc: Global,
-    cells: &[Cell],
-    inner: &[Isos],
-    limits: Limits,
-) -> Result<bool, NoMemory>
-    requires limits { AreLimits limits }
-    requires shape { AreCanonical G.geometry cells.now }
-    requires no_plain { HasNoPlain G.geometry limits cells.now }
-    requires few { length inner.now ≤ 6 }
-    requires near { AreNearLayers inner.now }
-    ensures { IfOk result (λ yes. IsTrue yes ↔ SpellCoronas G.geometry cells.now true inner.now) }
-{
-    if inner.is_empty() {
-        return Ok(true);
+impl<'a, T: Threads + Sync> Sought<'a, T> {
+    /// Whether the layers without the outermost are hole-free coronas.
+    fn is_inner_free<G: Grid>(&self, inner: &[Isos]) -> Result<bool, NoMemory>
+        requires limits { AreLimits self.now.limits }
+        requires found { IsFound G.geometry self.now.limits self.now.cells.now self.now.free.now }
+        requires few { length inner.now ≤ 6 }
+        requires near { AreNearLayers inner.now }
+        ensures { IfOk result (λ yes. IsTrue yes ↔ SpellCoronas G.geometry self.now.cells.now true inner.now) }
+    {
+        if inner.is_empty() {
+            return Ok(true);
+        }
+        let entry = free_entry(self.alloc, self.cells, inner)?;
+        let limits = with_levels(self.limits, inner.len() as u32);
+        part_holds::<G, T>(self.rt, self.alloc, &entry, limits, 5)
     }
-    let entry = free_entry(alloc, cells, inner)?;
-    let limits = with_levels(limits, inner.len() as u32);
-    part_holds::<G, T>(rt, alloc, &entry, limits, 5)
-}
 
-/// Whether the layers are coronas, holes allowed, one more than were found hole-free, behind a wall that the proof
-/// refutes.
-fn is_wider<G: Grid, T: Threads + Sync>(
-    rt: &T,
-    alloc: Global,
-    cells: &[Cell],
-    free: &[Isos],
-    wall: &Proof,
-    layers: &[Isos],
-    limits: Limits,
-) -> Result<bool, NoMemory>
-    requires limits { AreLimits limits }
-    requires found { IsFound G.geometry limits cells.now free.now }
-    requires wall { RefutesCoronas limits.version G.geometry cells.now (length free.now + 1) limits.size wall.now }
-    requires one_more { length layers.now ≡ length free.now + 1 }
-    requires near { AreNearLayers layers.now }
-    ensures { IfOk result (λ yes. IsTrue yes ↔ SpellCoronas G.geometry cells.now false layers.now) }
-{
-    let entry = open_entry(alloc, cells, free, wall, layers)?;
-    let limits = with_levels(limits, layers.len() as u32);
-    part_holds::<G, T>(rt, alloc, &entry, limits, 7)
-}
+    /// Whether the layers, one more than were found hole-free, are coronas, holes allowed.
+    fn is_wider<G: Grid>(&self, layers: &[Isos]) -> Result<bool, NoMemory>
+        requires limits { AreLimits self.now.limits }
+        requires found { IsFound G.geometry self.now.limits self.now.cells.now self.now.free.now }
+        requires wall { RefutesCoronas self.now.limits.version G.geometry self.now.cells.now (length self.now.free.now + 1) self.now.limits.size self.now.wall.now }
+        requires one_more { length layers.now ≡ length self.now.free.now + 1 }
+        requires near { AreNearLayers layers.now }
+        ensures { IfOk result (λ yes. IsTrue yes ↔ SpellCoronas G.geometry self.now.cells.now false layers.now) }
+    {
+        let entry = open_entry(self.alloc, self.cells, self.free, self.wall, layers)?;
+        let limits = with_levels(self.limits, layers.len() as u32);
+        part_holds::<G, T>(self.rt, self.alloc, &entry, limits, 7)
+    }
 
-/// Whether the layers are outer coronas, one more than were found hole-free, behind a wall that the proof refutes.
-pub(crate) fn are_outer<G: Grid, T: Threads + Sync>(
-    rt: &T,
-    alloc: Global,
-    cells: &[Cell],
-    free: &[Isos],
-    wall: &Proof,
-    layers: &Layers,
-    limits: Limits,
-) -> Result<bool, NoMemory>
-    requires limits { AreLimits limits }
-    requires found { IsFound G.geometry limits cells.now free.now }
-    requires wall { RefutesCoronas limits.version G.geometry cells.now (length free.now + 1) limits.size wall.now }
-    requires near { AreNearLayers layers.now.layers }
-    ensures { IfOk result (λ yes. IsTrue yes ↔ SpellsOuterCoronas G.geometry cells.now (length free.now + 1) layers.now) }
-{
-    let layers = layers.layers.as_slice();
-    if layers.len() != free.len() + 1 {
-        return Ok(false);
+    /// Whether the layers are outer coronas, one more than were found hole-free.
+    pub(crate) fn are_outer<G: Grid>(&self, layers: &Layers) -> Result<bool, NoMemory>
+        requires limits { AreLimits self.now.limits }
+        requires found { IsFound G.geometry self.now.limits self.now.cells.now self.now.free.now }
+        requires wall { RefutesCoronas self.now.limits.version G.geometry self.now.cells.now (length self.now.free.now + 1) self.now.limits.size self.now.wall.now }
+        requires near { AreNearLayers layers.now.layers }
+        ensures { IfOk result (λ yes. IsTrue yes ↔ SpellsOuterCoronas G.geometry self.now.cells.now (length self.now.free.now + 1) layers.now) }
+    {
+        let layers = layers.layers.as_slice();
+        if layers.len() != self.free.len() + 1 {
+            return Ok(false);
+        }
+        if !self.is_inner_free::<G>(&layers[..self.free.len()])? {
+            return Ok(false);
+        }
+        self.is_wider::<G>(layers)
     }
-    if !is_inner_free::<G, T>(rt, alloc, cells, &layers[..free.len()], limits)? {
-        return Ok(false);
-    }
-    is_wider::<G, T>(rt, alloc, cells, free, wall, layers, limits)
 }

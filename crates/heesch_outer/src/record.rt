@@ -4,7 +4,6 @@ ghost use Rattle.heesch_cert.specs.TrueEntry.{first_number};
 ghost use Rattle.heesch_outer.specs.Record.{answer_text, number_line};
 
 use crate::OuterAnswer;
-use heesch_audit::first_number;
 use heesch_cert::Entry;
 use heesch_io::NoMemory;
 use heesch_text::fields::append_bytes;
@@ -57,7 +56,7 @@ pub fn write_answer(entry: &Entry, answer: &OuterAnswer, out: &mut Vec<u8>) -> R
     ensures err { OnErr result (out.new.items ≡ out.old.items) }
 {
     let before = out.len();
-    let written = append_answer(first_number(entry.verdict), answer, out);
+    let written = append_answer(entry.verdict.first_number(), answer, out);
     if written.is_err() {
         out.truncate(before);
     }

@@ -16,7 +16,7 @@ use Rattle.std.proofs.lemmas.List.Elements.{All-contains, Contains-append_cases}
 use Rattle.std.proofs.lemmas.Option.{slice_get-map, get_or_from_slice_get}
 use Rattle.heesch_grid.specs.declared.Cell.{Cell}
 use Rattle.heesch_grid.specs.Cells.{cell_cmp, cells_before, has}
-use Rattle.heesch_grid.specs.CoronaFormula.{Variable, variable_before, covers}
+use Rattle.heesch_grid.specs.CoronaFormula.{Variable, variable_before, covers, IsNumbered}
 use Rattle.heesch_grid.specs.Integers.{same_truth}
 use Rattle.heesch_grid.specs.Listing.{IsRising}
 use Rattle.heesch_grid.proofs.ClauseFacts.{entry_at}
@@ -25,7 +25,7 @@ use Rattle.heesch_grid.proofs.OrderFacts.{cells_less}
 use Rattle.heesch_shape.specs.Order.{list_total}
 use Rattle.heesch_index.specs.Covering.{numbers_with}
 use Rattle.heesch_index.proofs.NumberFacts.{IsRising-numbers_with, numbers_with-at}
-use Rattle.heesch_place.specs.Universes.{IsNumbered, LevelsUpTo, covering, variable_cmp}
+use Rattle.heesch_place.specs.Universes.{LevelsUpTo, covering, variable_cmp}
 use Rattle.heesch_place.proofs.Gathering.{member_at}
 use Rattle.heesch_place.proofs.Sorting.{tied_lists}
 

@@ -1,7 +1,7 @@
 -- Universes and placements as contracts see them.
-use Rattle.std.specs.Prelude.{◌≡◌, ℕ, ◌-◌, ◌≤◌, ◌<◌, ◌^◌, Some, List, ◌++◌, map, filter, length, All}
+use Rattle.std.specs.Prelude.{◌≡◌, ℕ, ◌≤◌, ◌<◌, ◌^◌, List, ◌++◌, map, filter, length, All}
 use Rattle.std.specs.Cmp.Lexicographic.{slice_cmp}
-use Rattle.std.specs.List.{enumerate_from, slice_get}
+use Rattle.std.specs.List.{enumerate_from}
 use Rattle.heesch_grid.specs.declared.Cell.{Cell}
 use Rattle.heesch_grid.specs.declared.isometries.Iso.{Iso}
 use Rattle.std.specs.Ordering.{nat_cmp, on, then_cmp}
@@ -9,7 +9,7 @@ use Rattle.std.specs.declared.cmp.Ordering.{Ordering}
 use Rattle.heesch_grid.specs.Cells.{cell_cmp}
 use Rattle.heesch_grid.specs.Geometry.{Geometry}
 use Rattle.heesch_grid.specs.Placement.{IsLeastIsometry}
-use Rattle.heesch_grid.specs.CoronaFormula.{Variable, IsUniverse, covers}
+use Rattle.heesch_grid.specs.CoronaFormula.{Variable, IsUniverse, IsNumbered, covers}
 
 -- a cell list, and an isometry that gives it
 pub record Placed : Type 0 where
@@ -25,10 +25,6 @@ pub record Levels : Type 0 where
 -- the universe is that of its shape and level
 abbrev pub IsUniverseOf : Geometry → Levels → Type 0
 IsUniverseOf g u = IsUniverse g u.shape u.level u.vars
-
--- the variable of this number, from 1
-abbrev pub IsNumbered : List Variable → ℕ → Variable → Type 0
-IsNumbered vars n x = (1 ≤ n) × (slice_get vars (n - 1) ≡ Some x)
 
 -- the numbers, rising, of the variables of level at most k whose tile has the cell
 abbrev pub covering : List Variable → ℕ → Cell → List ℕ

@@ -3,8 +3,8 @@ ghost use Rattle.std.specs.Prelude.{◌≡◌, ◌+◌, ◌≤◌, ◌<◌, ◌^
 ghost use Rattle.heesch_grid.specs.declared.Cell.{Cell};
 ghost use Rattle.heesch_grid.specs.Polyform.{IsCanonicalListOf};
 ghost use Rattle.heesch_grid.specs.Placement.{IsPlacement, IsLeastIsometry};
-ghost use Rattle.heesch_grid.specs.CoronaFormula.{Variable, IsUniverse};
-ghost use Rattle.heesch_place.specs.Universes.{IsUniverseOf, IsNumbered, covering, variable_cmp, HaveLeast, AddTiles};
+ghost use Rattle.heesch_grid.specs.CoronaFormula.{Variable, IsUniverse, IsNumbered};
+ghost use Rattle.heesch_place.specs.Universes.{IsUniverseOf, covering, variable_cmp, HaveLeast, AddTiles};
 
 use crate::level::Level;
 use crate::lists::add;

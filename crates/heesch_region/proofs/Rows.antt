@@ -1,5 +1,5 @@
 -- Bits of words and of lists of words.
-use Rattle.std.proofs.Common.{◌≡◌, ◌≢◌, refl, sym, ap, ◌∙◌, ℕ, zero, suc, ◌+◌, ◌*◌, ◌-◌, ◌/◌, ◌%◌, ◌^◌, ◌<◌, ◌≤◌, max, min, sum, Bool, true, false, ◌||◌, List, length, get_or, set, ◌⊎◌, inl, inr, arith, true≢false, w64}
+use Rattle.std.proofs.Common.{◌≡◌, ◌≢◌, refl, sym, ap, ◌∙◌, subst, ℕ, zero, suc, ◌+◌, ◌*◌, ◌-◌, ◌/◌, ◌%◌, ◌^◌, ◌<◌, ◌≤◌, max, min, sum, Bool, true, false, ◌||◌, List, length, get_or, set, ◌⊎◌, inl, inr, arith, below_more, true≢false, w64}
 use Rattle.std.specs.Prelude.{slice_index, nat_lt, nat_eq}
 use Rattle.std.specs.Int.{bit_at, bit_not}
 use Rattle.std.specs.Int.RustNames.{bit_or}
@@ -249,8 +249,8 @@ module _ (allowed old new : List ℕ) (to from count k : ℕ) (less : k < count)
       last x (suc zero) z e p q f = inl refl
       last x (suc (suc y)) z e p q f = absurd (omega arith)
 
-pub narrowed_then : (allowed old mid new : List ℕ) (to from count : ℕ) → AreNarrowed allowed to from count old mid → AreNarrowed allowed to from count mid new → AreNarrowed allowed to from count old new
-narrowed_then allowed old mid new to from count p q =
+pub narrowed_then : {allowed old mid new : List ℕ} {to from count : ℕ} → AreNarrowed allowed to from count old mid → AreNarrowed allowed to from count mid new → AreNarrowed allowed to from count old new
+narrowed_then p q =
     record { only = λ n h. p.only n (q.only n h); keeps = λ test closed before. q.keeps test closed (p.keeps test closed before) }
 
 -- ---- what changed by steps
@@ -260,11 +260,17 @@ or_false true b h = absurd (true≢false h)
 or_false false true h = absurd (true≢false h)
 or_false false false h = (refl, refl)
 
-pub fewer_then : (a b : Bool) (x y z : List ℕ) → (a ≡ true → sum y < sum x) → (a ≡ false → y ≡ x) → (b ≡ true → sum z < sum y) → (b ≡ false → z ≡ y) → (a || b) ≡ true → sum z < sum x
-fewer_then true true x y z p q r s h = let k = p refl in let l = r refl in omega (arith, k, l)
-fewer_then true false x y z p q r s h = let k = p refl in let l = ap sum (s refl) in omega (arith, k, l)
-fewer_then false true x y z p q r s h = let k = ap sum (q refl) in let l = r refl in omega (arith, k, l)
-fewer_then false false x y z p q r s h = absurd (true≢false (sym h))
+pub fewer_then : (a b : Bool) {x y z : List ℕ} → (a ≡ true → sum y < sum x) → (a ≡ false → y ≡ x) → (b ≡ true → sum z < sum y) → (b ≡ false → z ≡ y) → (a || b) ≡ true → sum z < sum x
+fewer_then true true p q r s h = let k = p refl in let l = r refl in omega (arith, k, l)
+fewer_then true false p q r s h = let k = p refl in let l = ap sum (s refl) in omega (arith, k, l)
+fewer_then false true p q r s h = let k = ap sum (q refl) in let l = r refl in omega (arith, k, l)
+fewer_then false false p q r s h = absurd (true≢false (sym h))
 
-pub same_then : (a b : Bool) (x y z : List ℕ) → (a ≡ false → y ≡ x) → (b ≡ false → z ≡ y) → (a || b) ≡ false → z ≡ x
-same_then a b x y z p q h = let both = or_false a b h in q both.1 ∙ p both.0
+pub same_then : (a b : Bool) {x y z : List ℕ} → (a ≡ false → y ≡ x) → (b ≡ false → z ≡ y) → (a || b) ≡ false → z ≡ x
+same_then a b p q h = let both = or_false a b h in q both.1 ∙ p both.0
+
+-- where no step changed a thing, what held of each step before the i-th holds of each before the next
+pub settled_then : (a b : Bool) {x y : List ℕ} (P : List ℕ → ℕ → Type 0) (i : ℕ) → (a ≡ false → y ≡ x) → (a ≡ false → (k : ℕ) → k < i → P x k) → (b ≡ false → P y i) → (a || b) ≡ false → (k : ℕ) → k < i + 1 → P x k
+settled_then a b {x} {y} P i same before here h =
+    let both = or_false a b h in
+    below_more (P x) i (before both.0) (subst (λ ws. P ws i) (same both.0) (here both.1))

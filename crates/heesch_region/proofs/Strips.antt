@@ -317,8 +317,8 @@ module _ (g : Geometry) (law : IsGrid g) (w : Window) (same_unit : w.unit ≡ g.
       whole : (number q r words strips j : ℕ) → q * words + r ≡ number → r < words → q < strips → j < 64 → 64 * number + j < 64 * (strips * words)
       whole number q r words strips j e l less m = let h : number < words * strips = subst (λ z. z < words * strips) e (mul-add-lt q words r strips less l) in omega (arith, h, m)
 
-pub narrowed_then : (g : Geometry) (taken old mid new : Cell → Bool) → IsNarrowed g taken old mid → IsNarrowed g taken mid new → IsNarrowed g taken old new
-narrowed_then g taken old mid new p q =
+pub narrowed_then : {g : Geometry} {taken old mid new : Cell → Bool} → IsNarrowed g taken old mid → IsNarrowed g taken mid new → IsNarrowed g taken old new
+narrowed_then p q =
     record { only = λ c h. p.only c (q.only c h); keeps = λ test closed before. q.keeps test closed (p.keeps test closed before) }
 
 -- ---- strips inside the border, counted from either end

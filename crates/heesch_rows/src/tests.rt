@@ -5,12 +5,12 @@ mod exchanges;
 mod given;
 mod hostile;
 mod lists;
-mod outers;
 mod plains;
 mod running;
 mod shares;
 mod sinks;
 mod tables;
+mod worked;
 
 /// The list of the five tetrominoes.
 const FIVE_TETROMINOES: &str =

@@ -67,19 +67,21 @@ pub fn write_share<T: Threads + Sync, W: Sink, H: Gate + Sync>(
     on_grid!(header.grid, write_one::<_, T, W, H>(crew, n, &share, sink))
 }
 
+/// The same on the grid of the share's header.
 fn write_one<G: Grid + Send + Sync, T: Threads + Sync, W: Sink, H: Gate + Sync>(
     crew: &Crew<'_, T, H>,
     n: u32,
     share: &Share,
     sink: &mut W,
 ) -> Result<(), IoStop>
+    requires grid { geometry_of share.now.header.grid ≡ G.geometry }
     requires size { (1 ≤ n) × (n ≤ 31) }
     requires may { MayBeWritten share.now }
     ensures ok { OnOk result
-        (WritesOne (IsShareOfSize G.geometry share.now.header n share.now.i share.now.k)
+        (WritesOne (IsShareOfSize (geometry_of share.now.header.grid) share.now.header n share.now.i share.now.k)
         (W.held sink.old) (W.held sink.new)) }
     ensures err { OnErr result
-        (BeginsOne (IsBegunShareOfSize G.geometry share.now.header n share.now.i share.now.k)
+        (BeginsOne (IsBegunShareOfSize (geometry_of share.now.header.grid) share.now.header n share.now.i share.now.k)
         (W.held sink.old) (W.held sink.new)) }
     ensures failed { result ≡ Err IoStop.Failed → Rose (W.faults sink.old) (W.faults sink.new) }
     ensures later { W.faults sink.old ≤ W.faults sink.new }

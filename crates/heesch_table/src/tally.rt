@@ -5,7 +5,7 @@ ghost use Rattle.heesch_table.specs.Counts.{counts_of};
 ghost use Rattle.heesch_table.specs.Holed.{IsHoled};
 ghost use Rattle.heesch_table.specs.Texts.{counts_text};
 
-use crate::fields::append_count;
+use crate::fields::append_counts;
 use crate::heesch::HeeschCounts;
 use crate::holes::has_hole;
 use crate::verdicts::VerdictCounts;
@@ -110,13 +110,26 @@ impl Tally {
         ensures ok { OnOk result (out.new.items ≡ out.old.items ++ counts_text self.now) }
         ensures kept { take (length out.old.items) out.new.items ≡ out.old.items }
     {
-        append_count(b"shapes ", self.shapes, out)?;
-        append_count(b"holed ", self.holed, out)?;
-        self.verdicts.append_tilings(out)?;
+        append_counts(
+            &[
+                (b"shapes ", self.shapes),
+                (b"holed ", self.holed),
+                (b"translation ", self.verdicts.translation),
+                (b"halfturn ", self.verdicts.halfturn),
+                (b"periodic ", self.verdicts.periodic),
+                (b"isohedral ", self.verdicts.isohedral),
+            ],
+            out,
+        )?;
         self.heesch.append(out)?;
-        append_count(b"undecided levels ", self.verdicts.levels, out)?;
-        append_count(b"undecided holes ", self.verdicts.holes, out)?;
-        append_count(b"undecided turns ", self.verdicts.turns, out)?;
-        append_count(b"undecided size ", self.verdicts.size, out)
+        append_counts(
+            &[
+                (b"undecided levels ", self.verdicts.levels),
+                (b"undecided holes ", self.verdicts.holes),
+                (b"undecided turns ", self.verdicts.turns),
+                (b"undecided size ", self.verdicts.size),
+            ],
+            out,
+        )
     }
 }

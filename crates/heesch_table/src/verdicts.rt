@@ -1,11 +1,8 @@
 //! Counts of verdicts, but for Heesch numbers.
-ghost use Rattle.std.specs.Prelude.{◌≡◌, ◌^◌, ◌++◌, length, take, OnOk};
+ghost use Rattle.std.specs.Prelude.{◌≡◌, ◌^◌};
 ghost use Rattle.heesch_table.specs.Steps.{VerdictsAreWithin, with_verdict};
-ghost use Rattle.heesch_table.specs.Texts.{tilings_text};
 
-use crate::fields::append_count;
 use heesch_cert::{Kind, Verdict};
-use heesch_io::NoMemory;
 
 /// How many shapes tile by each kind of tiling, how many with one class of tiles, and how many are undecided, by the limit
 /// that was met.
@@ -44,16 +41,5 @@ impl VerdictCounts {
             Verdict::Turns { .. } => self.turns += 1,
             Verdict::Size { .. } => self.size += 1,
         }
-    }
-
-    /// The lines of the counts of tilings stand last.
-    pub fn append_tilings(&self, out: &mut Vec<u8>) -> Result<(), NoMemory>
-        ensures ok { OnOk result (out.new.items ≡ out.old.items ++ tilings_text self.now) }
-        ensures kept { take (length out.old.items) out.new.items ≡ out.old.items }
-    {
-        append_count(b"translation ", self.translation, out)?;
-        append_count(b"halfturn ", self.halfturn, out)?;
-        append_count(b"periodic ", self.periodic, out)?;
-        append_count(b"isohedral ", self.isohedral, out)
     }
 }

@@ -7,7 +7,7 @@ use Rattle.heesch_grid.specs.Symmetry.{Member}
 use Rattle.heesch_cert.specs.declared.header.Header.{Header}
 use Rattle.heesch_cert.specs.declared.entry.Entry.{Entry}
 use Rattle.heesch_cert.specs.declared.verdict.Verdict.{Verdict}
-use Rattle.heesch_cert.specs.declared.verdict.Verdict.TheVariants as verdicts
+use Rattle.heesch_cert.specs.TrueEntry.{last_number}
 use Rattle.heesch_cert.specs.declared.entry.Layers.{Layers}
 use Rattle.heesch_cert.specs.declared.tiling.Tiling.{Tiling}
 use Rattle.heesch_cert.specs.declared.tiling.Classes.{Classes}
@@ -44,15 +44,6 @@ abbrev pub proof_lines : Proof → List Line
 proof_lines p = map step_line p.steps ++ last_line p.last ∷ []
 
 -- ---- evidence
-
--- the last number of the verdict's line
-abbrev pub last_number : Verdict → ℕ
-last_number (verdicts.Tiles kind domain classes) = classes
-last_number (verdicts.Heesch h m) = m
-last_number (verdicts.Levels h) = h
-last_number (verdicts.Holes h) = h
-last_number (verdicts.Turns h phase at) = at
-last_number (verdicts.Size h phase at) = at
 
 -- a line for each layer
 abbrev pub layer_lines : List (List Iso) → List Line

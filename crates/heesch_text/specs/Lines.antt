@@ -9,11 +9,12 @@ use Rattle.heesch_text.specs.declared.line.Line.{Line}
 use Rattle.heesch_text.specs.declared.line.Line.TheVariants as lines
 use Rattle.heesch_text.specs.Fields.{spaced, cells_text, iso_text, place_text, lit_text, triple_text}
 use Rattle.heesch_grid.specs.Names.{grid_word}
-use Rattle.heesch_text.specs.Names.{version_text, kind_text, phase_text, subject_text, outcome_text, bare_text}
+use Rattle.heesch_text.specs.Names.{version_text, kind_text, phase_text, outcome_text, bare_text}
+use Rattle.heesch_cert.specs.Sizes.{subject_word}
 
 -- `heesch` or `brief`, the version, the grid and the subject
 abbrev pub title_text : Header → List ℕ
-title_text h = (if h.brief then codes "brief" else codes "heesch") ++ version_text h.limits.version ++ grid_word h.grid ++ codes " " ++ subject_text h.subject
+title_text h = (if h.brief then codes "brief" else codes "heesch") ++ version_text h.limits.version ++ grid_word h.grid ++ codes " " ++ subject_word h.subject
 
 -- each limit behind its name
 abbrev pub limits_text : Limits → List ℕ

@@ -1,13 +1,11 @@
--- The words that name a version, the kind of a tiling, a subject and the end of a search.
-use Rattle.std.specs.Prelude.{ℕ, List, codes, decimal}
+-- The words that name a version, the kind of a tiling and the end of a search.
+use Rattle.std.specs.Prelude.{ℕ, List, codes}
 use Rattle.heesch_cert.specs.declared.verdict.Kind.{Kind}
 use Rattle.heesch_cert.specs.declared.verdict.Kind.TheVariants.{Translation, HalfTurn, Periodic}
 use Rattle.heesch_cert.specs.declared.verdict.Phase.{Phase}
 use Rattle.heesch_cert.specs.declared.verdict.Phase.TheVariants.{Free, Bare}
 use Rattle.heesch_cnf.specs.declared.version.Version.{Version}
 use Rattle.heesch_cnf.specs.declared.version.Version.TheVariants.{One, Two}
-use Rattle.heesch_cert.specs.declared.header.Subject.{Subject}
-use Rattle.heesch_cert.specs.declared.header.Subject.TheVariants.{Size, Given}
 use Rattle.heesch_text.specs.declared.line.Outcome.{Outcome}
 use Rattle.heesch_text.specs.declared.line.Outcome.TheVariants.{Refuted, Spent, Size as TooLarge}
 use Rattle.heesch_text.specs.declared.line.BareOutcome.{BareOutcome}
@@ -28,11 +26,6 @@ kind_text Periodic = codes "periodic"
 abbrev pub phase_text : Phase → List ℕ
 phase_text Free = codes "free"
 phase_text Bare = codes "bare"
-
--- the size of all the polyforms, or `given`
-abbrev pub subject_text : Subject → List ℕ
-subject_text (Size n) = decimal n
-subject_text Given = codes "given"
 
 -- how a search ended
 abbrev pub outcome_text : Outcome → List ℕ

@@ -20,7 +20,6 @@ ghost use Rattle.heesch_text.specs.Catalogue.{
   cover_lines,
   after_layers,
   evidence_lines,
-  last_number,
 };
 
 use crate::line::{BareOutcome, Outcome};
@@ -58,7 +57,7 @@ pub fn append_evidence(
             append_coronas(free, out)?;
             append_after_layers(
                 number_of(free.layers.len() + 1)?,
-                last_of(verdict),
+                verdict.last_number(),
                 wall,
                 bare,
                 wider,
@@ -110,24 +109,6 @@ fn append_after_layers(
     append_bare(level, count_wider(wider)?, last, bare, out)?;
     append_wider(wider, out)?;
     append_triples(triples, out)
-}
-
-/// The last number of the verdict's line.
-fn last_of(verdict: Verdict) -> u32
-    ensures { result ≡ last_number verdict }
-{
-    match verdict {
-        Verdict::Tiles {
-            kind: _,
-            domain: _,
-            classes,
-        } => classes,
-        Verdict::Heesch { h: _, m } => m,
-        Verdict::Levels { h } => h,
-        Verdict::Holes { h } => h,
-        Verdict::Turns { h: _, phase: _, at } => at,
-        Verdict::Size { h: _, phase: _, at } => at,
-    }
 }
 
 fn append_cover(tiling: &Tiling, classes: &Classes, out: &mut Vec<u8>) -> Result<(), NoMemory>

@@ -3,7 +3,8 @@ ghost use Rattle.std.specs.Prelude.{◌≡◌, ◌++◌, length, take, OnOk, cod
 ghost use Rattle.std.specs.List.{AllByRecursion};
 ghost use Rattle.heesch_text.specs.declared.line.Line.TheVariants as lines;
 ghost use Rattle.heesch_cert.specs.declared.verdict.Verdict.TheVariants as verdicts;
-ghost use Rattle.heesch_text.specs.Names.{version_text, phase_text, subject_text};
+ghost use Rattle.heesch_text.specs.Names.{version_text, phase_text};
+ghost use Rattle.heesch_cert.specs.Sizes.{subject_word};
 ghost use Rattle.heesch_text.specs.Lines.{line_text, title_text, limits_text, verdict_text};
 ghost use Rattle.heesch_text.specs.Fields.{spaced};
 ghost use Rattle.heesch_text.specs.Naturals.{IsNatural, HasNaturals};
@@ -32,7 +33,7 @@ fn append_version(version: Version, out: &mut Vec<u8>) -> Result<(), NoMemory>
 }
 
 fn append_subject(subject: Subject, out: &mut Vec<u8>) -> Result<(), NoMemory>
-    ensures ok { OnOk result (out.new.items ≡ out.old.items ++ subject_text subject) }
+    ensures ok { OnOk result (out.new.items ≡ out.old.items ++ subject_word subject) }
     ensures kept { take (length out.old.items) out.new.items ≡ out.old.items }
 {
     match subject {

@@ -153,10 +153,10 @@ pub fn area_of<G: Grid>(count: u32) -> Option<u32>
     ensures found { IfSome result (IsAreaOf G.geometry count) }
     ensures none { IfNone result (NoAreaOf G.geometry count) }
 {
-    if count % G::PER == 0 {
-        return Some(count / G::PER);
+    if count % G::PER != 0 {
+        return None;
     }
-    None
+    Some(count / G::PER)
 }
 
 /// The first triple by which the shape alone is a cover.

@@ -10,7 +10,7 @@ use Rattle.std.proofs.lemmas.List.Folds.{list_any_more}
 use Rattle.std.proofs.lemmas.Grind.{flat_map-append}
 use Rattle.heesch_cnf.specs.declared.literal.Lit.{Lit}
 use Rattle.heesch_grid.specs.declared.Cell.{Cell}
-use Rattle.heesch_grid.specs.Cells.{has, meet}
+use Rattle.heesch_grid.specs.Cells.{has, meet, set_of}
 use Rattle.heesch_grid.specs.Clauses.{clause_of, no_variable, is_numbered}
 use Rattle.heesch_grid.specs.CoronaFormula.{exclusion_clauses}
 use Rattle.heesch_grid.specs.Geometry.{Geometry}
@@ -21,7 +21,7 @@ use Rattle.heesch_tiling.specs.Counting.{window_size, in_window}
 use Rattle.heesch_cert.specs.Literals.{literals}
 use Rattle.heesch_torus.specs.Covering.{having, AreCovering, AreNumbers}
 use Rattle.heesch_torus.specs.Formula.{AddsClauses, pair_clause, marked_among, marked_clauses}
-use Rattle.heesch_torus.specs.Marks.{Marks, set_numbered}
+use Rattle.heesch_torus.specs.Marks.{Marks}
 use Rattle.heesch_torus.proofs.Numbering.{range_more, in_range_below, map_agree, map_twice, numbers_between, covering_numbers, one_longer, adds_then}
 
 abbrev Entry : Type 0
@@ -73,18 +73,18 @@ module _ (sets : List (List Cell)) where
           let next : suc (v - (n + 1)) ≡ v - n = omega arith in
           h ∙ ap (λ k. has (slice_index_or (s ∷ sets) k []) c) next
 
-  pub listed : (v : ℕ) (c : Cell) → 1 ≤ v → v < length sets + 1 → list_any (λ w. w == v) (having c sets) ≡ has (set_numbered sets v) c
+  pub listed : (v : ℕ) (c : Cell) → 1 ≤ v → v < length sets + 1 → list_any (λ w. w == v) (having c sets) ≡ has (set_of sets v) c
   listed v c low high = listed_from 1 v sets c low (omega arith)
 
-  pub meeting_more : (cells : List Cell) (i number : ℕ) (c : Cell) (old now new : List ℕ) → i < length cells → c ≡ get_or cells i c → length old ≡ length sets + 1 → Marks (λ v. meet (take i cells) (set_numbered sets v)) number old now → Marks (λ v. list_any (λ w. w == v) (having c sets)) number now new → Marks (λ v. meet (take (i + 1) cells) (set_numbered sets v)) number old new
+  pub meeting_more : (cells : List Cell) (i number : ℕ) (c : Cell) (old now new : List ℕ) → i < length cells → c ≡ get_or cells i c → length old ≡ length sets + 1 → Marks (λ v. meet (take i cells) (set_of sets v)) number old now → Marks (λ v. list_any (λ w. w == v) (having c sets)) number now new → Marks (λ v. meet (take (i + 1) cells) (set_of sets v)) number old new
   meeting_more cells i number c old now new less is all m k = record {
     same = k.same ∙ m.same;
     each = λ v low l.
-        let more : meet (take (i + 1) cells) (set_numbered sets v) ≡ (meet (take i cells) (set_numbered sets v) || list_any (λ w. w == v) (having c sets)) =
-        list_any_more (has (set_numbered sets v)) cells i c less ∙ ap (λ b. meet (take i cells) (set_numbered sets v) || b) (ap (has (set_numbered sets v)) (sym is) ∙ sym (listed v c low (subst (λ n. v < n) all l))) in
+        let more : meet (take (i + 1) cells) (set_of sets v) ≡ (meet (take i cells) (set_of sets v) || list_any (λ w. w == v) (having c sets)) =
+        list_any_more (has (set_of sets v)) cells i c less ∙ ap (λ b. meet (take i cells) (set_of sets v) || b) (ap (has (set_of sets v)) (sym is) ∙ sym (listed v c low (subst (λ n. v < n) all l))) in
         k.each v low (subst (λ n. v < n) (sym m.same) l)
         ∙ ap (λ x. cond (list_any (λ w. w == v) (having c sets)) number x) (m.each v low l)
-        ∙ twice (meet (take i cells) (set_numbered sets v)) (list_any (λ w. w == v) (having c sets)) number (slice_index old v)
+        ∙ twice (meet (take i cells) (set_of sets v)) (list_any (λ w. w == v) (having c sets)) number (slice_index old v)
         ∙ sym (ap (λ b. cond b number (slice_index old v)) more);
   }
 
@@ -214,14 +214,14 @@ filter_numbers test p n (s ∷ sets) e =
 abbrev pub pairs_with : List (List Cell) → Entry → List (List Lit)
 pairs_with sets u = map (λ (v : Entry). clause_of literals (λ x. is_numbered u.0 x || is_numbered v.0 x) no_variable sets) (filter (λ (v : Entry). nat_lt u.0 v.0 && meet u.1 v.1) (enumerate_from 1 sets))
 
-module _ (sets : List (List Cell)) (u : Entry) (marks : List ℕ) (some : 1 ≤ u.0) (last : u.0 ≤ length sets) (all : length marks ≡ length sets + 1) (marked : (v : ℕ) → u.0 < v → v < length marks → (slice_index marks v == u.0) ≡ meet u.1 (set_numbered sets v)) where
+module _ (sets : List (List Cell)) (u : Entry) (marks : List ℕ) (some : 1 ≤ u.0) (last : u.0 ≤ length sets) (all : length marks ≡ length sets + 1) (marked : (v : ℕ) → u.0 < v → v < length marks → (slice_index marks v == u.0) ≡ meet u.1 (set_of sets v)) where
   abbrev meets : Entry → Bool
   meets v = nat_lt u.0 v.0 && meet u.1 v.1
 
   abbrev is_marked : ℕ → Bool
   is_marked v = slice_index marks v == u.0
 
-  entry_set : (x : Entry) → Contains (enumerate_from 1 sets) x → x.1 ≡ set_numbered sets x.0
+  entry_set : (x : Entry) → Contains (enumerate_from 1 sets) x → x.1 ≡ set_of sets x.0
   entry_set x m = sym (at (x.0 - 1) sets (entry_at sets 1 x m).1)
     where
       at : (k : ℕ) (sets : List (List Cell)) → slice_get sets k ≡ Some x.1 → slice_index_or sets k [] ≡ x.1
@@ -267,20 +267,20 @@ module _ (sets : List (List Cell)) (u : Entry) (marks : List ℕ) (some : 1 ≤ 
 
 -- ---- all pairs, one variable more
 
-module _ (sets : List (List Cell)) (i : ℕ) (less : i < length sets) (old new : List ℕ) (all : length old ≡ length sets + 1) (low : (v : ℕ) → 1 ≤ v → v < length old → slice_index old v ≤ i) (marks : Marks (λ v. meet (set_numbered sets (i + 1)) (set_numbered sets v)) (i + 1) old new) where
+module _ (sets : List (List Cell)) (i : ℕ) (less : i < length sets) (old new : List ℕ) (all : length old ≡ length sets + 1) (low : (v : ℕ) → 1 ≤ v → v < length old → slice_index old v ≤ i) (marks : Marks (λ v. meet (set_of sets (i + 1)) (set_of sets v)) (i + 1) old new) where
   pub low_more : (v : ℕ) → 1 ≤ v → v < length new → slice_index new v ≤ i + 1
   low_more v some l =
       let below : v < length old = subst (λ n. v < n) marks.same l in
-      by_test (meet (set_numbered sets (i + 1)) (set_numbered sets v)) (marks.each v some below) (low v some below)
+      by_test (meet (set_of sets (i + 1)) (set_of sets v)) (marks.each v some below) (low v some below)
     where
       by_test : (b : Bool) → slice_index new v ≡ cond b (i + 1) (slice_index old v) → slice_index old v ≤ i → slice_index new v ≤ i + 1
       by_test true e h = omega arith
       by_test false e h = omega arith
 
-  marked_now : (v : ℕ) → 1 ≤ v → v < length new → (slice_index new v == (i + 1)) ≡ meet (set_numbered sets (i + 1)) (set_numbered sets v)
+  marked_now : (v : ℕ) → 1 ≤ v → v < length new → (slice_index new v == (i + 1)) ≡ meet (set_of sets (i + 1)) (set_of sets v)
   marked_now v some l =
       let below : v < length old = subst (λ n. v < n) marks.same l in
-      by_test (meet (set_numbered sets (i + 1)) (set_numbered sets v)) (marks.each v some below) (low v some below)
+      by_test (meet (set_of sets (i + 1)) (set_of sets v)) (marks.each v some below) (low v some below)
     where
       by_test : (b : Bool) → slice_index new v ≡ cond b (i + 1) (slice_index old v) → slice_index old v ≤ i → (slice_index new v == (i + 1)) ≡ b
       by_test true e h = eq-eqb (slice_index new v) (i + 1) e
@@ -292,11 +292,11 @@ module _ (sets : List (List Cell)) (i : ℕ) (less : i < length sets) (old new :
       let long = length-enumerate_from 1 sets in
       let next : 1 + i ≡ i + 1 = omega arith in
       let place : i + 1 - 1 ≡ i = omega arith in
-      let entry : get_or (enumerate_from 1 sets) i d ≡ (i + 1, set_numbered sets (i + 1)) =
+      let entry : get_or (enumerate_from 1 sets) i d ≡ (i + 1, set_of sets (i + 1)) =
       get_or-enumerate_from 1 sets i d less ∙ (λ j. (next j, slice_index_or sets (sym place j) [])) in
       let size = marks.same ∙ all in
-      let these : pairs_with sets (i + 1, set_numbered sets (i + 1)) ≡ marked_clauses new (i + 1) =
-      pairs_marked sets (i + 1, set_numbered sets (i + 1)) new (omega arith) (omega arith) size (λ v later below. marked_now v (omega arith) below) in
+      let these : pairs_with sets (i + 1, set_of sets (i + 1)) ≡ marked_clauses new (i + 1) =
+      pairs_marked sets (i + 1, set_of sets (i + 1)) new (omega arith) (omega arith) size (λ v later below. marked_now v (omega arith) below) in
       let more : flat_map (pairs_with sets) (take (i + 1) (enumerate_from 1 sets)) ≡ flat_map (pairs_with sets) (take i (enumerate_from 1 sets)) ++ marked_clauses new (i + 1) =
       ap (flat_map (pairs_with sets)) (take_more (enumerate_from 1 sets) i d (omega arith))
       ∙ flat_map-append (pairs_with sets) (take i (enumerate_from 1 sets)) (get_or (enumerate_from 1 sets) i d ∷ [])

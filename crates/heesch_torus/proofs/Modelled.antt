@@ -23,7 +23,7 @@ use Rattle.heesch_grid.proofs.CellFacts.{has-false, meet-is}
 use Rattle.heesch_grid.proofs.ClauseFacts.{reason, entries_rising}
 use Rattle.heesch_grid.proofs.WindowFacts.{map_member, member_map, member_flat_map}
 use Rattle.heesch_tiling.specs.Counting.{residue, tile_cells, tile_residues, residues, times_in}
-use Rattle.heesch_tiling.proofs.Areas.{times_some}
+use Rattle.heesch_tiling.proofs.Areas.{fills, times_some}
 use Rattle.heesch_tiling.proofs.Covers.{covers}
 use Rattle.heesch_tiling.proofs.Tallies.{times_append}
 use Rattle.heesch_cnf.specs.Clauses.{assignment_of}
@@ -31,8 +31,8 @@ use Rattle.heesch_cnf.specs.Clauses.{Satisfies as LogSatisfies}
 use Rattle.heesch_cert.specs.Literals.{literals}
 use Rattle.heesch_cert.proofs.Bridge.{log_satisfied}
 use Rattle.heesch_torus.specs.Formula.{reduced_cells}
-use Rattle.heesch_torus.specs.Answer.{AreChosenPlaces}
-use Rattle.heesch_torus.specs.Chosen.{chosen, chosen_places}
+use Rattle.heesch_torus.specs.Answer.{AreChosenPlaces, IsChosenCover}
+use Rattle.heesch_torus.specs.Chosen.{chosen, chosen_places, chosen_tiling}
 use Rattle.heesch_torus.specs.Variables.{TorusVariable, sets_of, HasIsometry, AreVariables}
 use Rattle.heesch_torus.proofs.Repeating.{Shorter, fits}
 use Rattle.heesch_torus.proofs.Images.{from_tile, in_tile, tile_count}
@@ -285,10 +285,17 @@ module _ (g : Geometry) (law : IsGrid g) (shape : List Cell) (form : IsPolyform 
         subst (λ b. IsIsometry g b × IsWithinTriple t b) x.2 (h.holds.1.is_isometry, h.holds.0));
   }
 
+-- where these places are a periodic cover, the tiling by them is chosen
+pub chosen_cover : (g : Geometry) (law : IsGrid g) (shape : List Cell) (form : IsPolyform g shape) (t : Triple) (triple : IsTriple t) (vars : List TorusVariable) (are : AreVariables g shape t vars) (values : List Bool) → IsPeriodicCover g shape t (chosen_places values vars) → IsChosenCover g shape t (chosen_tiling t values vars)
+chosen_cover g law shape form t triple vars are values cover = record {
+  triple = refl;
+  cover = cover;
+  count = (fills g law shape form t triple (chosen_places values vars) cover.isometries cover).area;
+  chosen = are_chosen g law shape form t triple vars are values (reduced_cells g t) (reduced_listed g t law triple);
+}
+
 -- and so of a model in the solver's words
-pub tiles_by_model : (g : Geometry) (law : IsGrid g) (shape : List Cell) (form : IsPolyform g shape) (t : Triple) (triple : IsTriple t) (vars : List TorusVariable) (are : AreVariables g shape t vars) (values : List Bool) (places : List Iso) (clauses : List (List Lit)) → places ≡ chosen_places values vars → clauses ≡ torus_clauses literals (reduced_cells g t) (sets_of vars) → LogSatisfies (assignment_of values) clauses → AreChosenPlaces g shape t places × IsPeriodicCover g shape t places
-tiles_by_model g law shape form t triple vars are values places clauses e is model =
-    let listed = reduced_listed g t law triple in
+pub tiles_by_model : (g : Geometry) (law : IsGrid g) (shape : List Cell) (form : IsPolyform g shape) (t : Triple) (triple : IsTriple t) (vars : List TorusVariable) (are : AreVariables g shape t vars) (values : List Bool) (clauses : List (List Lit)) → clauses ≡ torus_clauses literals (reduced_cells g t) (sets_of vars) → LogSatisfies (assignment_of values) clauses → IsChosenCover g shape t (chosen_tiling t values vars)
+tiles_by_model g law shape form t triple vars are values clauses is model =
     let all : Satisfies literals (assignment_of values) (torus_clauses literals (reduced_cells g t) (sets_of vars)) = subst (λ cs. Satisfies literals (assignment_of values) cs) is (log_satisfied (assignment_of values) clauses model) in
-    subst (λ ps. AreChosenPlaces g shape t ps × IsPeriodicCover g shape t ps) (sym e)
-    (are_chosen g law shape form t triple vars are values (reduced_cells g t) listed, model_covers g law shape form t triple vars are values (reduced_cells g t) listed all)
+    chosen_cover g law shape form t triple vars are values (model_covers g law shape form t triple vars are values (reduced_cells g t) (reduced_listed g t law triple) all)

@@ -24,7 +24,7 @@ use Rattle.heesch_grid.proofs.ReductionFacts.{translated_twice}
 use Rattle.heesch_grid.proofs.WindowFacts.{map_member, member_map}
 use Rattle.heesch_tiling.specs.Counting.{spot}
 use Rattle.heesch_tiling.proofs.Spots.{below_quotient, spots_in_order}
-use Rattle.heesch_torus.specs.Variables.{TorusVariable, torus_variable, sets_of, Adds, HasIsometry, AreVariables}
+use Rattle.heesch_torus.specs.Variables.{TorusVariable, torus_variable, sets_of, Adds, AddsFirst, HasIsometry, AreVariables}
 use Rattle.heesch_torus.specs.Trying.{tried, IsNewFrom, Tries, IsTried, HasTried}
 
 -- ---- isometries by their numbers
@@ -111,10 +111,13 @@ module _ (g : Geometry) (shape : List Cell) (t : Triple) where
   one_set : (by : Iso) (r s : List Cell) → GivesResidues g shape t r by → GivesResidues g shape t s by → r ≡ s
   one_set by r s p q = same_listing cell_before cell_before-irreflexive cell_before-asymmetric (IsReducedFrom g t (image g by shape)) r s p.lists q.lists
 
-  pub tries_known : (by : Iso) (old : List TorusVariable) (s : List Cell) → GivesResidues g shape t s by → Contains (sets_of old) s → Tries g shape t by old old
+  pub tries_none : (by : Iso) (old : List TorusVariable) → ((r : List Cell) → ¬ GivesResidues g shape t r by) → Tries g shape t by old old
+  tries_none by old none = record { kept = λ x m. m; only = λ x m. inl m; gives = λ r k. absurd (none r k); few = omega arith }
+
+  tries_known : (by : Iso) (old : List TorusVariable) (s : List Cell) → GivesResidues g shape t s by → Contains (sets_of old) s → Tries g shape t by old old
   tries_known by old s h m = record { kept = λ x m. m; only = λ x m. inl m; gives = λ r k. subst (λ z. Contains (sets_of old) z) (one_set by s r h k) m; few = omega arith }
 
-  pub tries_new : (by : Iso) (old new : List TorusVariable) (s : List Cell) → GivesResidues g shape t s by → (¬ Contains (sets_of old) s) → Adds (torus_variable s by) old new → Tries g shape t by old new
+  tries_new : (by : Iso) (old new : List TorusVariable) (s : List Cell) → GivesResidues g shape t s by → (¬ Contains (sets_of old) s) → Adds (torus_variable s by) old new → Tries g shape t by old new
   tries_new by old new s h fresh a = record {
     kept = λ x m. (a.members x).1 (inr m);
     only = λ x m. elim ((a.members x).0 m) [
@@ -124,6 +127,10 @@ module _ (g : Geometry) (shape : List Cell) (t : Triple) where
     gives = λ r k. subst (λ z. Contains (sets_of new) z) (one_set by s r h k) (set_of new (torus_variable s by) ((a.members (torus_variable s by)).1 (inl refl)));
     few = let longer = a.longer in omega arith;
   }
+
+  pub tries_first : (by : Iso) (old new : List TorusVariable) (s : List Cell) → GivesResidues g shape t s by → AddsFirst (torus_variable s by) old new → Tries g shape t by old new
+  tries_first by old new s h (inl k) = subst (Tries g shape t by old) (sym k.1) (tries_known by old s h k.0)
+  tries_first by old new s h (inr k) = tries_new by old new s h k.0 k.1
 
   kept_sets : (by : Iso) (old new : List TorusVariable) → Tries g shape t by old new → (r : List Cell) → Contains (sets_of old) r → Contains (sets_of new) r
   kept_sets by old new h r m = let x = of_set old r m in subst (λ z. Contains (sets_of new) z) x.2 (set_of new x.0 (h.kept x.0 x.1))

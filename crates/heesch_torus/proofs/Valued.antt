@@ -26,10 +26,10 @@ use Rattle.heesch_grid.proofs.SortFacts.{sorted, sorted_list, sorted_has, has_so
 use Rattle.heesch_grid.proofs.GrowthOfLists.{NoRepeat, sorted_length, not_has}
 use Rattle.heesch_tiling.specs.Counting.{tile_residues, times_in}
 use Rattle.heesch_grid.proofs.WindowFacts.{map_member, member_map}
-use Rattle.heesch_tiling.proofs.Areas.{fills, times_first, times_more, times_some}
+use Rattle.heesch_tiling.proofs.Areas.{times_first, times_more, times_some}
 use Rattle.heesch_tiling.proofs.Distinct.{OnePasses, one_passes}
-use Rattle.heesch_torus.specs.Answer.{IsChosenCover, AreChosenPlaces}
-use Rattle.heesch_torus.specs.Chosen.{chosen, chosen_places}
+use Rattle.heesch_torus.specs.Answer.{IsChosenCover}
+use Rattle.heesch_torus.specs.Chosen.{chosen, chosen_places, chosen_tiling}
 use Rattle.heesch_torus.specs.Covers.{HasAllPoints, HasMaskAmong, IsTileMask, AreExactMasks, AreValuesOf}
 use Rattle.heesch_torus.specs.Formula.{reduced_cells}
 use Rattle.heesch_torus.specs.Masks.{IsMaskOf, HasDouble}
@@ -37,7 +37,7 @@ use Rattle.heesch_torus.specs.Variables.{TorusVariable, sets_of, HasIsometry, Ar
 use Rattle.heesch_torus.proofs.Beside.{index_of, bit_cases, with_bit_filter}
 use Rattle.heesch_torus.proofs.Images.{from_tile, in_tile, tile_count}
 use Rattle.heesch_torus.proofs.Masking.{one_mask, double_unmasked}
-use Rattle.heesch_torus.proofs.Modelled.{Numbered, TwoOf, two_of, of_variable, member_some, tile_times, with_cell, once_covers, are_chosen}
+use Rattle.heesch_torus.proofs.Modelled.{Numbered, TwoOf, two_of, of_variable, member_some, tile_times, with_cell, once_covers, chosen_cover}
 use Rattle.heesch_torus.proofs.Numbering.{reduced_listed}
 
 -- ---- a list in which no cell stands twice
@@ -169,15 +169,8 @@ module _ (g : Geometry) (law : IsGrid g) (shape : List Cell) (form : IsPolyform 
     pub valued_covers : IsPeriodicCover g shape t (chosen_places values vars)
     valued_covers = once_covers g law shape form t triple vars are values (reduced_cells g t) (reduced_listed g t law triple) covered not_twice
 
-  pub valued_tiling : (vars : List TorusVariable) → AreVariables g shape t vars → (masks : List ℕ) (full : ℕ) → HasAllPoints g t full → length (reduced_cells g t) ≤ 64 → AreExactMasks g shape t full masks → (values : List Bool) → AreValuesOf g shape t masks vars values → (places : List Iso) → places ≡ chosen_places values vars → IsChosenCover g shape t (record { triple = t; places = places })
-  valued_tiling vars are masks full all few exact values of places e =
-      let cover : IsPeriodicCover g shape t places = subst (IsPeriodicCover g shape t) (sym e) (valued_covers vars are masks full all few exact values of) in
-      record {
-        triple = refl;
-        cover = cover;
-        count = (fills g law shape form t triple places cover.isometries cover).area;
-        chosen = subst (AreChosenPlaces g shape t) (sym e) (are_chosen g law shape form t triple vars are values (reduced_cells g t) (reduced_listed g t law triple));
-      }
+  pub valued_tiling : (vars : List TorusVariable) → AreVariables g shape t vars → (masks : List ℕ) (full : ℕ) → HasAllPoints g t full → length (reduced_cells g t) ≤ 64 → AreExactMasks g shape t full masks → (values : List Bool) → AreValuesOf g shape t masks vars values → IsChosenCover g shape t (chosen_tiling t values vars)
+  valued_tiling vars are masks full all few exact values of = chosen_cover g law shape form t triple vars are values (valued_covers vars are masks full all few exact values of)
 
 -- ---- one value more
 

@@ -1,11 +1,13 @@
 -- Masks of tiles: bit k is that of the k-th reduced cell, in cell order.
-use Rattle.std.specs.Prelude.{◌≡◌, ◌≤◌, ◌<◌, ◌+◌, ◌-◌, ◌*◌, ◌⊎◌, ℕ, Some, List, length, slice_index, Contains}
+use Rattle.std.specs.Prelude.{◌≡◌, ◌≤◌, ◌<◌, ◌+◌, ◌-◌, ◌*◌, ◌⊎◌, ℕ, true, Some, List, length, slice_index, Contains}
 use Rattle.std.specs.List.{slice_get}
 use Rattle.std.specs.Int.{bit_at}
 use Rattle.heesch_grid.specs.declared.Cell.{Cell}
 use Rattle.heesch_grid.specs.declared.isometries.Iso.{Iso}
+use Rattle.heesch_grid.specs.Cells.{has}
 use Rattle.heesch_grid.specs.Geometry.{Geometry, IsCell, IsIsometry}
-use Rattle.heesch_grid.specs.Lattice.{Triple, IsReduced}
+use Rattle.heesch_grid.specs.Vectors.{IsWithin}
+use Rattle.heesch_grid.specs.Lattice.{Triple, IsTriple, IsReduced}
 use Rattle.heesch_tiling.specs.Counting.{window_size, in_window, tile_residues, times_in}
 use Rattle.heesch_torus.specs.Formula.{reduced_cells}
 use Rattle.heesch_torus.specs.Trying.{tried}
@@ -15,6 +17,13 @@ pub record ArePoints (g : Geometry) (t : Triple) (numbers : List ℕ) (count : �
   pub all : length numbers ≡ window_size g t
   pub each : (n : ℕ) → n < window_size g t → IsCell g (in_window g t n) → slice_get (reduced_cells g t) (slice_index numbers n) ≡ Some (in_window g t n)
   pub count_is : count ≡ length (reduced_cells g t)
+
+-- the cells of the shape lie in the grid near 0, and the reduced cells of the triple, at most 64, have these numbers
+pub record IsMaskable (g : Geometry) (shape : List Cell) (t : Triple) (numbers : List ℕ) : Type 0 where
+  pub triple : IsTriple t
+  pub points : ArePoints g t numbers (length (reduced_cells g t))
+  pub few : length (reduced_cells g t) ≤ 64
+  pub cells : (c : Cell) → has shape c ≡ true → IsCell g c × IsWithin 100000 c
 
 -- the mask has the bit of a reduced cell as often as the tile has the cell: once or not at all
 pub record IsMaskOf (g : Geometry) (shape : List Cell) (t : Triple) (by : Iso) (mask : ℕ) : Type 0 where

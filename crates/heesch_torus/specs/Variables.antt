@@ -25,6 +25,10 @@ pub record Adds (x : TorusVariable) (old new : List TorusVariable) : Type 0 wher
   pub members : (y : TorusVariable) → Contains new y ↔ ((x ≡ y) ⊎ Contains old y)
   pub longer : length new ≡ suc (length old)
 
+-- the variable is one more, unless its residue set was there before
+abbrev pub AddsFirst : TorusVariable → List TorusVariable → List TorusVariable → Type 0
+AddsFirst x old new = (Contains (sets_of old) x.cells × (new ≡ old)) ⊎ ((¬ Contains (sets_of old) x.cells) × Adds x old new)
+
 -- the isometry is that of the residue set
 abbrev pub HasIsometry : Geometry → List Cell → Triple → TorusVariable → Type 0
 HasIsometry g shape t x = IsIsometryOf g shape t x.cells x.by

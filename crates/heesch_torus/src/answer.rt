@@ -6,9 +6,9 @@ ghost use Rattle.heesch_grid.specs.Vectors.{IsWithin};
 ghost use Rattle.heesch_torus.specs.Domain.{HasDomain};
 ghost use Rattle.heesch_torus.specs.Answer.{IsTorusAnswer};
 
-use crate::formula::{FormulaWithVariables, formula_with_variables};
+use crate::formula::formula_with_variables;
 use crate::outcome::{Outcome, solve};
-use crate::places::chosen_places;
+use crate::places::chosen_tiling;
 use heesch_cert::Tiling;
 use heesch_cnf::Log;
 use heesch_grid::Grid;
@@ -51,14 +51,12 @@ pub fn search<G: Grid>(
     requires few { turns ≤ 1000000 }
     ensures { IfOk result (IsTorusAnswer G.geometry shape.now triple turns) }
 {
-    let FormulaWithVariables { variables, formula } = formula_with_variables(alloc, shape, triple)?;
+    let (formula, variables) = formula_with_variables(alloc, shape, triple)?;
     let outcome = solve(alloc, formula, turns)?;
     match outcome {
         Outcome::Model { values } => {
-            let places = chosen_places(alloc, variables.as_slice(), values.as_slice())?;
-            Ok(TorusAnswer::Tiles {
-                tiling: Tiling { triple, places },
-            })
+            let tiling = chosen_tiling(alloc, triple, variables.as_slice(), values.as_slice())?;
+            Ok(TorusAnswer::Tiles { tiling })
         }
         Outcome::Refuted { log } => Ok(TorusAnswer::None { log }),
         Outcome::Spent { log } => Ok(TorusAnswer::Spent { log }),

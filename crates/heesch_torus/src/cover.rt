@@ -2,22 +2,19 @@
 ghost use Rattle.std.specs.Prelude.{◌≡◌, ◌↔◌, ◌<◌, ◌≤◌, ◌+◌, ◌*◌, ◌^◌, true, length, IfOk};
 ghost use Rattle.heesch_grid.specs.declared.Cell.{Cell};
 ghost use Rattle.heesch_grid.specs.Cells.{has};
-ghost use Rattle.heesch_grid.specs.Geometry.{IsCell};
-ghost use Rattle.heesch_grid.specs.Lattice.{IsTriple};
 ghost use Rattle.heesch_grid.specs.Polyform.{IsPolyform};
 ghost use Rattle.heesch_grid.specs.Vectors.{IsWithin};
 ghost use Rattle.heesch_tiling.specs.Counting.{IsInRange};
 ghost use Rattle.heesch_torus.specs.Answer.{IsChosenCover};
 ghost use Rattle.heesch_torus.specs.Covers.{IsCoverAnswer, HasAllPoints, HasMaskAmong, HasExactMasks, AreValuesOf, IsFillingAt, IsTorusFilling};
 ghost use Rattle.heesch_torus.specs.Domain.{HasDomain};
-ghost use Rattle.heesch_torus.specs.Formula.{reduced_cells};
-ghost use Rattle.heesch_torus.specs.Masks.{ArePoints, HasMasksFrom};
+ghost use Rattle.heesch_torus.specs.Masks.{IsMaskable, HasMasksFrom};
 ghost use Rattle.heesch_torus.specs.Variables.{AreVariables};
 
 use crate::filling::{Filling, fill_beside};
 use crate::found::Variable;
 use crate::masks::{add_masks, mask_of};
-use crate::places::chosen_places;
+use crate::places::chosen_tiling;
 use crate::points::{all_points, points_of};
 use crate::variables::variables_of;
 use heesch_cert::Tiling;
@@ -49,11 +46,8 @@ fn fill_at<G: Grid>(
     full: u64,
     nodes: &mut u32,
 ) -> Result<Filling, NoMemory>
-    requires triple { IsTriple triple }
+    requires maskable { IsMaskable G.geometry cells.now triple numbers.now }
     requires small { triple.p * triple.q ≤ 384 }
-    requires points { ArePoints G.geometry triple numbers.now (length (reduced_cells G.geometry triple)) }
-    requires few { length (reduced_cells G.geometry triple) ≤ 64 }
-    requires cells { (c : Cell) → has cells.now c ≡ true → IsCell G.geometry c × IsWithin 100000 c }
     requires turn { turn < G.geometry.turns }
     requires masks { HasMasksFrom G.geometry cells.now triple turn masks.now }
     requires full { HasAllPoints G.geometry triple full }
@@ -84,12 +78,9 @@ fn fill_torus<G: Grid>(
     full: u64,
     nodes: u32,
 ) -> Result<Filling, NoMemory>
-    requires triple { IsTriple triple }
+    requires maskable { IsMaskable G.geometry cells.now triple numbers.now }
     requires small { triple.p * triple.q ≤ 384 }
     requires form { IsPolyform G.geometry cells.now }
-    requires points { ArePoints G.geometry triple numbers.now (length (reduced_cells G.geometry triple)) }
-    requires few { length (reduced_cells G.geometry triple) ≤ 64 }
-    requires near { (c : Cell) → has cells.now c ≡ true → IsWithin 100000 c }
     requires full { HasAllPoints G.geometry triple full }
     ensures { IfOk result (IsTorusFilling G.geometry cells.now triple full nodes) }
 {
@@ -116,10 +107,7 @@ fn is_among<G: Grid>(
     masks: &[u64],
     by: Iso,
 ) -> bool
-    requires triple { IsTriple triple }
-    requires points { ArePoints G.geometry triple numbers.now (length (reduced_cells G.geometry triple)) }
-    requires few { length (reduced_cells G.geometry triple) ≤ 64 }
-    requires cells { (c : Cell) → has cells.now c ≡ true → IsCell G.geometry c × IsWithin 100000 c }
+    requires maskable { IsMaskable G.geometry cells.now triple numbers.now }
     requires range { IsInRange G.geometry by }
     ensures { (result ≡ true) ↔ HasMaskAmong G.geometry cells.now triple masks.now by }
 {
@@ -138,11 +126,8 @@ fn values_of<G: Grid>(
     masks: &[u64],
     variables: &[Variable],
 ) -> Result<Seq<bool>, NoMemory>
-    requires triple { IsTriple triple }
+    requires maskable { IsMaskable G.geometry cells.now triple numbers.now }
     requires small { triple.p * triple.q ≤ 384 }
-    requires points { ArePoints G.geometry triple numbers.now (length (reduced_cells G.geometry triple)) }
-    requires few { length (reduced_cells G.geometry triple) ≤ 64 }
-    requires cells { (c : Cell) → has cells.now c ≡ true → IsCell G.geometry c × IsWithin 100000 c }
     requires variables { AreVariables G.geometry cells.now triple variables.now }
     ensures { IfOk result (AreValuesOf G.geometry cells.now triple masks.now variables.now) }
 {
@@ -161,20 +146,16 @@ fn cover_of<G: Grid>(
     triple: Triple,
     masks: &[u64],
 ) -> Result<Tiling, NoMemory>
-    requires triple { IsTriple triple }
+    requires maskable { IsMaskable G.geometry cells.now triple numbers.now }
     requires small { triple.p * triple.q ≤ 384 }
     requires form { IsPolyform G.geometry cells.now }
     requires size { length cells.now ≤ 32 }
-    requires points { ArePoints G.geometry triple numbers.now (length (reduced_cells G.geometry triple)) }
-    requires few { length (reduced_cells G.geometry triple) ≤ 64 }
-    requires near { (c : Cell) → has cells.now c ≡ true → IsWithin 100000 c }
     requires exact { HasExactMasks G.geometry cells.now triple masks.now }
     ensures { IfOk result (IsChosenCover G.geometry cells.now triple) }
 {
     let variables = variables_of::<G>(alloc, cells, triple)?;
     let values = values_of::<G>(alloc, numbers, cells, triple, masks, variables.as_slice())?;
-    let places = chosen_places(alloc, variables.as_slice(), values.as_slice())?;
-    Ok(Tiling { triple, places })
+    chosen_tiling(alloc, triple, variables.as_slice(), values.as_slice())
 }
 
 /// Searches for a cover of a triple by masks, for so many nodes, and keeps no log.

@@ -23,13 +23,6 @@ use heesch_lattice::Triple;
 use heesch_shape::Shape;
 use std::alloc::Global;
 
-/// A torus formula, and the variables that it is over.
-#[derive(Drop)]
-pub(crate) struct FormulaWithVariables {
-    pub(crate) variables: Vec<Variable>,
-    pub(crate) formula: FlatFormula,
-}
-
 /// The formula over these variables.
 fn formula_of<G: Grid>(
     alloc: Global,
@@ -63,18 +56,18 @@ pub(crate) fn formula_with_variables<G: Grid>(
     alloc: Global,
     shape: &Shape<G>,
     triple: Triple,
-) -> Result<FormulaWithVariables, NoMemory>
+) -> Result<(FlatFormula, Vec<Variable>), NoMemory>
     requires near { (c : Cell) → has shape.now c ≡ true → IsWithin 100000 c }
     requires domain { HasDomain G.geometry (length shape.now) triple }
     ensures form { IfOk result (λ f. IsPolyform G.geometry shape.now) }
-    ensures variables { IfOk result (λ f. AreVariables G.geometry shape.now triple f.variables.items) }
-    ensures vars { IfOk result (λ f. f.formula.vars ≡ length f.variables.items) }
-    ensures clauses { IfOk result (λ f. f.formula.clauses ≡ torus_clauses literals (reduced_cells G.geometry triple) (sets_of f.variables.items)) }
-    ensures few { IfOk result (λ f. length f.formula.clauses ≤ 30000000) }
+    ensures variables { IfOk result (λ f. AreVariables G.geometry shape.now triple f.1.items) }
+    ensures vars { IfOk result (λ f. f.0.vars ≡ length f.1.items) }
+    ensures clauses { IfOk result (λ f. f.0.clauses ≡ torus_clauses literals (reduced_cells G.geometry triple) (sets_of f.1.items)) }
+    ensures few { IfOk result (λ f. length f.0.clauses ≤ 30000000) }
 {
     let variables = variables_of::<G>(alloc, shape.cells(), triple)?;
     let formula = formula_of::<G>(alloc, triple, variables.as_slice())?;
-    Ok(FormulaWithVariables { variables, formula })
+    Ok((formula, variables))
 }
 
 /// The torus formula of a shape and a triple. Its variables are the residue sets: the sets of
@@ -98,6 +91,6 @@ pub fn torus_formula<G: Grid>(
     ensures is { IfOk result (λ f. IsFormulaOf G.geometry shape.now triple f.vars f.clauses) }
     ensures model { IfOk result (λ f. HasModelWhereCover G.geometry shape.now triple f.clauses) }
 {
-    let made = formula_with_variables(alloc, shape, triple)?;
-    Ok(made.formula)
+    let (formula, _) = formula_with_variables(alloc, shape, triple)?;
+    Ok(formula)
 }

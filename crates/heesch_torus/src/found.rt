@@ -1,8 +1,8 @@
 //! Residue sets with their isometries, as they are found.
-ghost use Rattle.std.specs.Prelude.{◌≡◌, ◌↔◌, [], true, Contains, IfOk, OnOk};
+ghost use Rattle.std.specs.Prelude.{◌≡◌, [], IfOk, OnOk};
 ghost use Rattle.heesch_grid.specs.Cells.{cells_before};
 ghost use Rattle.heesch_grid.specs.Listing.{IsRising};
-ghost use Rattle.heesch_torus.specs.Variables.{sets_of, torus_variable, Adds};
+ghost use Rattle.heesch_torus.specs.Variables.{sets_of, torus_variable, AddsFirst};
 
 use crate::residues::Residues;
 use heesch_grid::Iso;
@@ -51,18 +51,13 @@ impl Found {
         }
     }
 
-    /// Whether the residue set was found.
-    pub(crate) fn has(&self, set: &Residues) -> bool
-        ensures { (result ≡ true) ↔ Contains (sets_of self.now) set.now.items }
+    /// One more residue set, unless it was found before.
+    pub(crate) fn add(&mut self, set: Residues, by: Iso) -> Result<(), NoMemory>
+        ensures { OnOk result (AddsFirst (torus_variable set.items by) self.old self.new) }
     {
-        self.sets.contains_key(set)
-    }
-
-    /// One more residue set.
-    pub(crate) fn insert(&mut self, set: Residues, by: Iso) -> Result<(), NoMemory>
-        requires { ¬ Contains (sets_of self.old) set.items }
-        ensures { OnOk result (Adds (torus_variable set.items by) self.old self.new) }
-    {
+        if self.sets.contains_key(&set) {
+            return Ok(());
+        }
         self.sets.insert(set, by)?;
         Ok(())
     }

@@ -1,13 +1,7 @@
 //! The masks of tiles: the sets of their reduced cells.
-ghost use Rattle.std.specs.Prelude.{◌≡◌, ◌<◌, ◌≤◌, ◌+◌, ◌*◌, true, length, IfSome, IfNone, OnOk};
-ghost use Rattle.heesch_grid.specs.declared.Cell.{Cell};
-ghost use Rattle.heesch_grid.specs.Cells.{has};
-ghost use Rattle.heesch_grid.specs.Geometry.{IsCell};
-ghost use Rattle.heesch_grid.specs.Lattice.{IsTriple};
-ghost use Rattle.heesch_grid.specs.Vectors.{IsWithin};
+ghost use Rattle.std.specs.Prelude.{◌<◌, ◌≤◌, ◌*◌, IfSome, IfNone, OnOk};
 ghost use Rattle.heesch_tiling.specs.Counting.{IsInRange};
-ghost use Rattle.heesch_torus.specs.Formula.{reduced_cells};
-ghost use Rattle.heesch_torus.specs.Masks.{ArePoints, IsMaskOf, HasDouble, AddsMasks};
+ghost use Rattle.heesch_torus.specs.Masks.{IsMaskable, IsMaskOf, HasDouble, AddsMasks};
 
 use crate::points::point_of;
 use crate::variables::{isometry_at, translation_count};
@@ -22,10 +16,7 @@ pub(crate) fn mask_of<G: Grid>(
     triple: Triple,
     by: Iso,
 ) -> Option<u64>
-    requires triple { IsTriple triple }
-    requires points { ArePoints G.geometry triple numbers.now (length (reduced_cells G.geometry triple)) }
-    requires few { length (reduced_cells G.geometry triple) ≤ 64 }
-    requires cells { (c : Cell) → has cells.now c ≡ true → IsCell G.geometry c × IsWithin 100000 c }
+    requires maskable { IsMaskable G.geometry cells.now triple numbers.now }
     requires range { IsInRange G.geometry by }
     ensures found { IfSome result (IsMaskOf G.geometry cells.now triple by) }
     ensures none { IfNone result (HasDouble G.geometry cells.now triple by) }
@@ -49,11 +40,8 @@ pub(crate) fn add_masks<G: Grid>(
     triple: Triple,
     turn: u32,
 ) -> Result<(), NoMemory>
-    requires triple { IsTriple triple }
+    requires maskable { IsMaskable G.geometry cells.now triple numbers.now }
     requires small { triple.p * triple.q ≤ 384 }
-    requires points { ArePoints G.geometry triple numbers.now (length (reduced_cells G.geometry triple)) }
-    requires few { length (reduced_cells G.geometry triple) ≤ 64 }
-    requires cells { (c : Cell) → has cells.now c ≡ true → IsCell G.geometry c × IsWithin 100000 c }
     requires turn { turn < G.geometry.turns }
     ensures { OnOk result (AddsMasks G.geometry cells.now triple turn (triple.p * triple.q) masks.old.items masks.new.items) }
 {

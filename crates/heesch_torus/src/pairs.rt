@@ -2,12 +2,12 @@
 ghost use Rattle.std.specs.Prelude.{◌≡◌, ◌<◌, ◌≤◌, ◌+◌, ◌-◌, ◌*◌, ◌^◌, ◌∷◌, [], ◌==◌, length, replicate, All, OnOk};
 ghost use Rattle.std.specs.List.{list_any};
 ghost use Rattle.heesch_cert.specs.Literals.{literals};
-ghost use Rattle.heesch_grid.specs.Cells.{meet};
+ghost use Rattle.heesch_grid.specs.Cells.{meet, set_of};
 ghost use Rattle.heesch_grid.specs.CoronaFormula.{exclusion_clauses};
 ghost use Rattle.heesch_grid.specs.Lattice.{IsTriple};
 ghost use Rattle.heesch_torus.specs.Covering.{AreCovering};
 ghost use Rattle.heesch_torus.specs.Formula.{AddsClauses, pair_clause, marked_clauses};
-ghost use Rattle.heesch_torus.specs.Marks.{Marks, set_numbered};
+ghost use Rattle.heesch_torus.specs.Marks.{Marks};
 ghost use Rattle.heesch_torus.specs.Variables.{sets_of, AreReducedSets};
 
 use crate::found::Variable;
@@ -41,7 +41,7 @@ fn mark_meeting<G: Grid>(
     requires sets { AreReducedSets G.geometry triple (sets_of variables.now) }
     requires covering { AreCovering G.geometry triple (sets_of variables.now) lists.now }
     requires all { length marks.old ≡ length variables.now + 1 }
-    ensures { Marks (λ v. meet (set_numbered (sets_of variables.now) (at + 1)) (set_numbered (sets_of variables.now) v)) (at + 1) marks.old marks.new }
+    ensures { Marks (λ v. meet (set_of (sets_of variables.now) (at + 1)) (set_of (sets_of variables.now) v)) (at + 1) marks.old marks.new }
 {
     let number = at as u32 + 1;
     let variable = &variables[at];

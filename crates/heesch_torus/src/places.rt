@@ -1,20 +1,22 @@
-//! The places of a model.
+//! The tiling of a model.
 ghost use Rattle.std.specs.Prelude.{◌≡◌, length, IfOk};
-ghost use Rattle.heesch_torus.specs.Chosen.{chosen_places};
+ghost use Rattle.heesch_torus.specs.Chosen.{chosen_tiling};
 
 use crate::found::Variable;
-use heesch_cert::Isos;
+use heesch_cert::{Isos, Tiling};
 use heesch_io::NoMemory;
+use heesch_lattice::Triple;
 use std::alloc::Global;
 
-/// The isometries of the variables that are true, in number order.
-pub(crate) fn chosen_places(
+/// The tiling by the isometries of the variables that are true, in number order.
+pub(crate) fn chosen_tiling(
     alloc: Global,
+    triple: Triple,
     variables: &[Variable],
     values: &[bool],
-) -> Result<Isos, NoMemory>
+) -> Result<Tiling, NoMemory>
     requires { length values.now ≡ length variables.now }
-    ensures { IfOk result (λ places. places ≡ chosen_places values.now variables.now) }
+    ensures { IfOk result (λ tiling. tiling ≡ chosen_tiling triple values.now variables.now) }
 {
     let mut places = Isos::new(alloc);
     for (at, variable) in variables.iter().enumerate() {
@@ -22,5 +24,5 @@ pub(crate) fn chosen_places(
             places.push(variable.by)?;
         }
     }
-    Ok(places)
+    Ok(Tiling { triple, places })
 }

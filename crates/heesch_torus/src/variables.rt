@@ -5,9 +5,8 @@ ghost use Rattle.heesch_grid.specs.Cells.{has};
 ghost use Rattle.heesch_grid.specs.Lattice.{IsTriple};
 ghost use Rattle.heesch_grid.specs.Polyform.{IsPolyform};
 ghost use Rattle.heesch_grid.specs.Vectors.{IsWithin};
-ghost use Rattle.heesch_tiling.specs.Counting.{IsInRange};
 ghost use Rattle.heesch_torus.specs.Variables.{AreVariables};
-ghost use Rattle.heesch_torus.specs.Trying.{tried, Tries, HasTried};
+ghost use Rattle.heesch_torus.specs.Trying.{tried, HasTried};
 
 use crate::found::{Found, Variable};
 use crate::residues::residues_of;
@@ -35,29 +34,6 @@ pub(crate) fn isometry_at(triple: Triple, turn: u32, k: u32) -> Iso
     }
 }
 
-/// Adds the residue set of an isometry, where it has one that wasn't found before.
-fn try_isometry<G: Grid>(
-    found: &mut Found,
-    cells: &[Cell],
-    triple: Triple,
-    by: Iso,
-) -> Result<(), NoMemory>
-    requires triple { IsTriple triple }
-    requires form { IsPolyform G.geometry cells.now }
-    requires few { length cells.now ≤ 32 }
-    requires near { (c : Cell) → has cells.now c ≡ true → IsWithin 100000 c }
-    requires range { IsInRange G.geometry by }
-    ensures { OnOk result (Tries G.geometry cells.now triple by found.old found.new) }
-{
-    let Some(residues) = residues_of::<G>(cells, triple, by) else {
-        return Ok(());
-    };
-    if found.has(&residues) {
-        return Ok(());
-    }
-    found.insert(residues, by)
-}
-
 /// Adds the residue sets of the isometries of a turn.
 fn try_turn<G: Grid>(
     found: &mut Found,
@@ -75,7 +51,10 @@ fn try_turn<G: Grid>(
     ensures { OnOk result (HasTried G.geometry cells.now triple (turn + 1) 0 found.new) }
 {
     for k in 0..translation_count(triple) {
-        try_isometry::<G>(found, cells, triple, isometry_at(triple, turn, k))?;
+        let by = isometry_at(triple, turn, k);
+        if let Some(residues) = residues_of::<G>(cells, triple, by) {
+            found.add(residues, by)?;
+        }
     }
     Ok(())
 }

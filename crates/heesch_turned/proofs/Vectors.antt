@@ -3,14 +3,14 @@ use Rattle.std.proofs.Common.{◌≡◌, refl, sym, ap, subst, ◌∙◌, ℕ, z
 use Rattle.std.specs.Prelude.{ℤ, pos, negsuc, neg_ℤ, ◌+ℤ◌, ◌*ℤ◌}
 use Rattle.std.proofs.lemmas.Int.{ints}
 use Rattle.heesch_grid.specs.declared.Cell.{Cell}
-use Rattle.heesch_grid.specs.Cells.{cell}
+use Rattle.heesch_grid.specs.Cells.{cell, origin}
 use Rattle.heesch_grid.specs.Geometry.{Geometry, IsGrid, moved}
 use Rattle.heesch_grid.specs.Lattice.{Triple, IsTriple, translated, DiffersByLattice}
 use Rattle.heesch_grid.specs.Pairs.{Cell-eta}
 use Rattle.heesch_grid.specs.Vectors.{IsWithin, plus, times}
 use Rattle.heesch_grid.proofs.Images.{read, turn_times, turn_within}
 use Rattle.heesch_grid.proofs.ReductionFacts.{translated_twice, translated_none, translated_back}
-use Rattle.heesch_turned.specs.Turned.{origin, CarriesInto, CarriesVectors}
+use Rattle.heesch_turned.specs.Turned.{CarriesInto, CarriesVectors}
 
 -- the ends of a lattice's two vectors, from (0, 0)
 abbrev pub first_end : Geometry → Triple → Cell

@@ -1,15 +1,11 @@
 -- Lattices that a turn carries to each other, and the covers by them.
-use Rattle.std.specs.Prelude.{ℕ, ◌<◌, pos, List}
+use Rattle.std.specs.Prelude.{ℕ, ◌<◌, List}
 use Rattle.heesch_grid.specs.declared.Cell.{Cell}
 use Rattle.heesch_grid.specs.declared.isometries.Iso.{Iso}
-use Rattle.heesch_grid.specs.Cells.{cell}
+use Rattle.heesch_grid.specs.Cells.{origin}
 use Rattle.heesch_grid.specs.Geometry.{Geometry, IsGrid, moved}
 use Rattle.heesch_grid.specs.Lattice.{Triple, IsTriple, DiffersByLattice}
 use Rattle.heesch_grid.specs.Tiling.{IsPeriodicCover}
-
--- the pair (0, 0)
-abbrev pub origin : Cell
-origin = cell (pos 0) (pos 0)
 
 -- pairs that differ by a vector of the first lattice differ, when they are turned, by one of the second
 abbrev pub CarriesInto : Geometry → ℕ → Triple → Triple → Type 0

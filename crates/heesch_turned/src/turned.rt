@@ -1,10 +1,10 @@
 //! Whether a turn carries one lattice onto another.
 ghost use Rattle.std.specs.Prelude.{◌≡◌, ◌<◌, pos, true, ◌↔◌};
-ghost use Rattle.heesch_grid.specs.Cells.{cell};
+ghost use Rattle.heesch_grid.specs.Cells.{cell, origin};
 ghost use Rattle.heesch_grid.specs.Geometry.{moved};
 ghost use Rattle.heesch_grid.specs.Lattice.{IsTriple};
 ghost use Rattle.heesch_grid.specs.Vectors.{IsWithin};
-ghost use Rattle.heesch_turned.specs.Turned.{origin, CarriesVectors, TurnsOnto};
+ghost use Rattle.heesch_turned.specs.Turned.{CarriesVectors, TurnsOnto};
 
 use heesch_grid::{Cell, Grid, Iso};
 use heesch_lattice::Triple;

@@ -4,7 +4,7 @@ use Rattle.heesch_cert.specs.declared.header.Subject.{Subject}
 use Rattle.heesch_cert.specs.declared.header.Subject.TheVariants.{Size, Given}
 use Rattle.heesch_cert.specs.declared.limits.Limits.{Limits}
 use Rattle.heesch_cert.specs.Limits.{AreLimits}
-use Rattle.heesch_cert.specs.Sizes.{most_cells, HasGrid, IsSubject}
+use Rattle.heesch_cert.specs.Sizes.{most_cells, HasGrid, IsSubject, subject_word}
 use Rattle.heesch_cnf.specs.declared.version.Version.{Version}
 use Rattle.heesch_cnf.specs.declared.version.Version.TheVariants.{Two}
 use Rattle.heesch_grid.specs.declared.GridName.{GridName}
@@ -17,11 +17,6 @@ use Rattle.heesch_words.specs.Options.{AreOptions, HasWorkersAlone, HasSizeAndVe
 -- the shapes of so many cells are listed: version 2 has the larger ranges
 abbrev pub IsSize : GridName → ℕ → Type 0
 IsSize grid n = (1 ≤ n) × (n ≤ most_cells Two grid)
-
--- the word of a subject: its number of cells, or `given`
-abbrev pub subject_word : Subject → List ℕ
-subject_word (Size n) = decimal n
-subject_word Given = codes "given"
 
 -- the numbers of a sample: cells, shapes and seed
 pub record IsSample (n count seed : ℕ) : Type 0 where

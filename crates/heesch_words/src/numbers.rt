@@ -1,3 +1,4 @@
+//! Numbers that words write.
 ghost use Rattle.std.specs.Prelude.{◌≡◌, ◌≢◌, ◌≤◌, ℕ, decimal, IfOk, OnErr};
 
 use crate::Usage;

@@ -1,3 +1,4 @@
+//! What words may ask for.
 ghost use Rattle.std.specs.Prelude.{◌≡◌, ◌∷◌, ℕ, Bool, false, if◌then◌else◌, map, string_bytes, codes, IfOk, OnErr, ◌≢◌, []};
 ghost use Rattle.heesch_cert.specs.declared.header.Subject.{Subject};
 ghost use Rattle.heesch_cert.specs.declared.limits.Limits.{Limits};

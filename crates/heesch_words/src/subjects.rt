@@ -3,8 +3,7 @@
 ghost use Rattle.std.specs.Prelude.{◌≡◌, ◌≢◌, IfOk, OnErr};
 ghost use Rattle.heesch_cert.specs.declared.header.Subject.{Subject};
 ghost use Rattle.heesch_grid.specs.Names.{grid_word};
-ghost use Rattle.heesch_cert.specs.Sizes.{IsSubject};
-ghost use Rattle.heesch_words.specs.Requests.{subject_word};
+ghost use Rattle.heesch_cert.specs.Sizes.{IsSubject, subject_word};
 
 use crate::Usage;
 use crate::numbers::number;

@@ -14,7 +14,7 @@ use Rattle.heesch_grid.specs.Lattice.{Triple, IsTriple}
 use Rattle.heesch_grid.specs.Symmetry.{Member, greatest_class}
 use Rattle.heesch_lattice.specs.Reduction.{IsSmallTriple}
 use Rattle.heesch_cert.specs.Reduced.{IsReducedPlace}
-use Rattle.heesch_near.specs.Statements.{IsNearPlace}
+use Rattle.heesch_written.specs.Near.{IsNearPlace}
 use Rattle.heesch_text.specs.Catalogue.{tile_lines}
 use Rattle.heesch_line.specs.Forms.{IsPlace}
 use Rattle.heesch_written.proofs.Proven.{IsLineIf}

@@ -1,8 +1,8 @@
 -- The laws, without premises.
-use Rattle.heesch_near.proofs.Shapes.{shapes_are_near}
-use Rattle.heesch_near.proofs.Coronas.{coronas_are_near}
-use Rattle.heesch_near.proofs.Holes.{holes_are_near}
-use Rattle.heesch_near.proofs.Classes.{classes_are_near}
+use Rattle.heesch_written.proofs.Shapes.{shapes_are_near}
+use Rattle.heesch_written.proofs.Coronas.{coronas_are_near}
+use Rattle.heesch_written.proofs.Holes.{holes_are_near}
+use Rattle.heesch_written.proofs.Classes.{classes_are_near}
 use Rattle.heesch_written.specs.Statements.{TrueEntriesHaveLines, TrueEntriesHaveBriefLines}
 use Rattle.heesch_written.proofs.Written.{lines_hold, brief_lines_hold}
 

@@ -21,7 +21,7 @@ use Rattle.heesch_cert.specs.declared.proof.Step.TheVariants as steps
 use Rattle.heesch_cert.specs.declared.proof.Proof.{Proof}
 use Rattle.heesch_cert.specs.Formulas.{IsCountedFormula}
 use Rattle.heesch_cert.specs.Proofs.{line_of_step, log_of, IsLawfulStep, IsLearnStep, HasNoCut, RefutesCoronas, IsSpentOnCoronas, RefutesTorus, IsSpentOnTorus, SettlesTriple}
-use Rattle.heesch_near.specs.Statements.{IsNearHole, HolesAreNear}
+use Rattle.heesch_written.specs.Near.{IsNearHole, HolesAreNear}
 use Rattle.heesch_text.specs.declared.line.Line.{Line}
 use Rattle.heesch_text.specs.declared.line.Line.TheVariants as lines
 use Rattle.heesch_text.specs.Catalogue.{step_line, last_line, proof_lines}

@@ -22,7 +22,7 @@ use Rattle.heesch_cert.specs.declared.entry.TripleProof.{TripleProof}
 use Rattle.heesch_cert.specs.Limits.{AreLimits}
 use Rattle.heesch_cert.specs.Proofs.{SettlesTriple}
 use Rattle.heesch_cert.specs.TrueEntry.{IsUndecided, IsBareRefuted, IsBelow, FitsVerdict, first_number, WallShows, OpenShows, BareShows, IsSearchedTriple, TriplesShow}
-use Rattle.heesch_near.specs.Statements.{IsNearPlace, IsNearLayer, CoronasAreNear, HolesAreNear}
+use Rattle.heesch_written.specs.Near.{IsNearPlace, IsNearLayer, CoronasAreNear, HolesAreNear}
 use Rattle.heesch_text.specs.Catalogue.{proof_lines, layer_lines, wall_lines, bare_lines, wider_lines, triple_lines}
 use Rattle.heesch_line.specs.Forms.{IsVerdict, IsPlace}
 use Rattle.heesch_written.proofs.Lists.{all_append, all_weaker, all_of_map}

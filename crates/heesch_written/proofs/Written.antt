@@ -16,9 +16,9 @@ use Rattle.heesch_cert.specs.declared.entry.Evidence.{Evidence}
 use Rattle.heesch_cert.specs.declared.entry.Evidence.TheVariants as evidences
 use Rattle.heesch_cert.specs.Limits.{AreLimits}
 use Rattle.heesch_cert.specs.Reduced.{HasReducedCover}
-use Rattle.heesch_cert.specs.TrueEntry.{FormFits, FitsVerdict, ClassesHold, CoverHolds, FreeHolds, WallHolds, OpenHolds, BareHolds, TriplesHold, first_number, last_number as last_sought}
-use Rattle.heesch_near.specs.Statements.{ShapesAreNear, CoronasAreNear, HolesAreNear, ClassesAreNear}
-use Rattle.heesch_text.specs.Catalogue.{layer_lines, wall_lines, bare_lines, wider_lines, wider_count, triple_lines, after_layers, last_number, evidence_lines, brief_lines}
+use Rattle.heesch_cert.specs.TrueEntry.{FormFits, FitsVerdict, ClassesHold, CoverHolds, FreeHolds, WallHolds, OpenHolds, BareHolds, TriplesHold, first_number, last_number}
+use Rattle.heesch_written.specs.Near.{ShapesAreNear, CoronasAreNear, HolesAreNear, ClassesAreNear}
+use Rattle.heesch_text.specs.Catalogue.{layer_lines, wall_lines, bare_lines, wider_lines, wider_count, triple_lines, after_layers, evidence_lines, brief_lines}
 use Rattle.heesch_text.specs.Naturals.{HasNaturals}
 use Rattle.heesch_line.specs.Forms.{IsVerdict, IsLine}
 use Rattle.heesch_written.specs.Statements.{TrueEntriesHaveLines, TrueEntriesHaveBriefLines}
@@ -81,7 +81,7 @@ module _ (coronas : CoronasAreNear) (holes : HolesAreNear) (near_classes : Class
             (all_append IsLineIf (walls ++ bares) (wider_lines wider)
             (all_append IsLineIf walls bares
             (wall_holds g law n shape low high is_free holes limits (first_number verdict + 1) (omega arith) level wall b.next wall_shows)
-            (bare_holds g limits shape (last_sought verdict) level (wider_count wider) (last_number verdict) bare bare_shows.1))
+            (bare_holds g limits shape (last_number verdict) level (wider_count wider) (last_number verdict) bare bare_shows.1))
             (wider_holds g law n shape low high is_free coronas wider b.few wider_shows))
             (triples_hold g law limits are shape cells_few verdict triples triples_show)),
       )

@@ -9,6 +9,7 @@ use heesch_rup::LogAnswer;
 use std::alloc::Global;
 use std::process::Abort;
 use std::test::Fail;
+use std::thread::Threads;
 
 /// The eight clauses of three literals on three variables.
 const ALL_EIGHT: [&[i32]; 8] = [
@@ -22,14 +23,14 @@ const ALL_EIGHT: [&[i32]; 8] = [
     &[-1, -2, -3],
 ];
 
-/// What the solver finds of these clauses over so many variables within so many turns, and its log.
-fn solved(
-    rt: &impl Abort,
+/// What the solver finds of these clauses over so many variables within so many turns, its log, and what is judged of it.
+fn solved<R: Abort + Threads + Sync>(
+    rt: &R,
     alloc: Global,
     vars: u32,
     clauses: &[&[i32]],
     turns: u32,
-) -> Result<(Found, Log), Fail>
+) -> Result<(Found, Log, (LogAnswer, Option<bool>)), Fail>
     requires some { 1 ≤ turns }
     requires few { turns ≤ 1000 }
 {
@@ -37,28 +38,20 @@ fn solved(
     assert!(rt; formula.clauses.len() < 1000);
     let mut solver = Solver::open(alloc, formula, turns)?;
     let found = solver.next()?;
-    Ok((found, solver.into_log()))
+    let log = solver.into_log();
+    let answer = judged(rt, alloc, &formula_of(rt, alloc, vars, clauses)?, &log)?;
+    Ok((found, log, answer))
 }
 
-#[test]
-fn one_turn_is_spent(rt: HostRuntime) -> Result<(), Fail> {
-    let alloc = rt.alloc();
-    let (found, log) = solved(&rt, alloc, 3, &ALL_EIGHT, 1)?;
-    assert!(rt; matches!(&found, Found::Spent));
-    assert_eq!(rt; log.lines.len(), 1);
-    let formula = formula_of(&rt, alloc, 3, &ALL_EIGHT)?;
-    let answer = judged(&rt, alloc, &formula, &log)?;
-    assert_eq!(rt; answer, (LogAnswer::Open, Some(true)));
-    Ok(())
-}
-
+/// One turn is spent behind a first line; 27 are enough.
 #[test]
 fn eight_clauses_are_refuted(rt: HostRuntime) -> Result<(), Fail> {
-    let alloc = rt.alloc();
-    let (found, log) = solved(&rt, alloc, 3, &ALL_EIGHT, 27)?;
+    let (found, log, answer) = solved(&rt, rt.alloc(), 3, &ALL_EIGHT, 1)?;
+    assert!(rt; matches!(&found, Found::Spent));
+    assert_eq!(rt; log.lines.len(), 1);
+    assert_eq!(rt; answer, (LogAnswer::Open, Some(true)));
+    let (found, _log, answer) = solved(&rt, rt.alloc(), 3, &ALL_EIGHT, 27)?;
     assert!(rt; matches!(&found, Found::Refuted));
-    let formula = formula_of(&rt, alloc, 3, &ALL_EIGHT)?;
-    let answer = judged(&rt, alloc, &formula, &log)?;
     assert_eq!(rt; answer, (LogAnswer::Refuted, Some(true)));
     Ok(())
 }
@@ -89,9 +82,9 @@ fn a_given_clause_refutes(rt: HostRuntime) -> Result<(), Fail> {
 
 #[test]
 fn an_empty_clause_refutes_at_once(rt: HostRuntime) -> Result<(), Fail> {
-    let alloc = rt.alloc();
-    let (found, log) = solved(&rt, alloc, 1, &[&[1], &[], &[]], 1)?;
+    let (found, log, answer) = solved(&rt, rt.alloc(), 1, &[&[1], &[], &[]], 1)?;
     assert!(rt; matches!(&found, Found::Refuted));
+    assert_eq!(rt; answer, (LogAnswer::Refuted, Some(true)));
     assert_eq!(rt; log.lines.len(), 0);
     let Some(hints) = &log.last else {
         panic!(rt; "no final line");

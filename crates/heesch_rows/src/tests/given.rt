@@ -1,46 +1,8 @@
-//! `heesch classify GRID given`: shapes from input.
+//! `heesch classify GRID given`: faults of the shapes, and a source that fails.
 use super::running::{first_other, room, run_over};
 use heesch_app::Status;
 use heesch_io::MemorySource;
 use std::test::Fail;
-
-#[test]
-fn given_shapes_are_classified_in_their_order(rt: HostRuntime) -> Result<(), Fail> {
-    let rows = [
-        (
-            "classify square given",
-            "0,0 1,0 2,0 0,1 2,1 0,2 1,2",
-            Status::Done,
-            "heesch 2 square given turns 20000 levels 3 domain 4 size 60000000\nshape 0,0 1,0 2,0 0,1 2,1 0,2 1,2\nverdict heesch 0 nontiler 1\ncoronas 0\nwall 1 refuted\nempty 9\nbare 1 same\nend 1\n",
-        ),
-        (
-            "classify square given --brief",
-            "0,0 1,0 2,0 0,1 2,1 0,2 1,2\n",
-            Status::Done,
-            "brief 2 square given turns 20000 levels 3 domain 4 size 60000000\nshape 0,0 1,0 2,0 0,1 2,1 0,2 1,2\nverdict heesch 0 nontiler 1\nend 1\n",
-        ),
-        (
-            "classify hex given",
-            "1,0 2,0 0,1 2,1 0,2 1,2\n",
-            Status::Done,
-            "heesch 2 hex given turns 20000 levels 3 domain 4 size 60000000\nshape 1,0 2,0 0,1 2,1 0,2 1,2\nverdict heesch 0 nontiler 1\ncoronas 0\nwall 1 refuted\nempty 7\nbare 1 same\nend 1\n",
-        ),
-        (
-            "classify square given",
-            "5,5 5,6 6,6 7,6 7,5\n",
-            Status::Done,
-            "heesch 2 square given turns 20000 levels 3 domain 4 size 60000000\nshape 0,0 1,0 2,0 0,1 2,1\nverdict tiles halfturn domain 2 classes 1\nlattice 10 1 3\ntile 0 0 0 class 1 by 0 0 0\ntile 2 5 0 class 1 by 2 5 0\nend 1\n",
-        ),
-        (
-            "classify square given",
-            "",
-            Status::Done,
-            "heesch 2 square given turns 20000 levels 3 domain 4 size 60000000\nend 0\n",
-        ),
-    ];
-    assert_eq!(rt; first_other(&rt, rt.alloc(), &rows)?, None);
-    Ok(())
-}
 
 /// 33 cells in a row.
 const MANY_CELLS: &str =

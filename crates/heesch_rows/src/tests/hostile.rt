@@ -2,11 +2,9 @@
 use super::checks::{CORONA, holed};
 use super::running::{first_other, room, run_over};
 use heesch_app::Status;
-use heesch_io::{MemorySource, NoMemory};
+use heesch_io::MemorySource;
 use heesch_made::TRIANGLE;
-use std::alloc::Global;
 use std::test::Fail;
-use std::thread::Threads;
 
 /// What `check` tells of the first bytes of the catalogue of the triangle, where these are fewer than so many.
 const FRONTS: [(usize, &str); 6] = [
@@ -52,105 +50,53 @@ const HEADER: &str = "invalid header\n";
 
 const ENTRY: &str = "invalid entry 1\n";
 
-/// A part of a text, and another in its place.
-type Alteration<'a> = (&'a str, &'a str);
-
-/// The first of the alterations of a text of which `check` doesn't tell this, with what happened.
-fn first_lost<T: Threads + Sync>(
-    rt: &T,
-    alloc: Global,
-    text: &str,
-    told: &str,
-    alterations: &[Alteration],
-) -> Result<Option<String>, NoMemory> {
-    for (old, new) in alterations {
-        let altered = text.replacen(alloc, *old, *new, 1)?;
-        let rows = [("check", altered.as_str(), Status::Invalid, told)];
-        if let Some(other) = first_other(rt, alloc, &rows)? {
-            return Ok(Some(other));
-        }
-    }
-    Ok(None)
-}
-
-/// One line of a valid text that says what stands in it, and another in its place.
+/// Of a valid text one part, in a line that says what stands in it, in a tiling, in a refutation or in a corona, and another
+/// in its place.
 #[test]
 fn an_altered_line_is_found(rt: HostRuntime) -> Result<(), Fail> {
     let alloc = rt.alloc();
-    let other_form = [("heesch 1", "brief 1")];
-    assert_eq!(rt; first_lost(&rt, alloc, SQUARE, HEADER, &other_form)?, None);
-    let other_sizes = [
-        ("iamond 1 turns", "iamond 16 turns"),
-        ("iamond 1 turns", "kite 1 turns"),
-        ("60000000", "60000001"),
-    ];
-    assert_eq!(rt;
-        first_lost(&rt, alloc, TRIANGLE, HEADER, &other_sizes)?,
-        None
-    );
-    let other_grid = [("2 square given", "1 kite given")];
-    assert_eq!(rt;
-        first_lost(&rt, alloc, &holed(alloc)?, HEADER, &other_grid)?,
-        None
-    );
-    let other_shapes = [
-        ("shape 1,1", "shape 1,1 1,1"),
-        ("shape 1,1", MANY_CELLS),
-        ("halfturn domain 2", "halfturn domain 4294967295"),
-        ("classes 1", "classes 4294967296"),
-        ("domain 4 size", "domain 1 size"),
-    ];
-    assert_eq!(rt;
-        first_lost(&rt, alloc, TRIANGLE, ENTRY, &other_shapes)?,
-        None
-    );
-    Ok(())
-}
-
-/// One line of a tiling, and another in its place.
-#[test]
-fn an_altered_tiling_is_found(rt: HostRuntime) -> Result<(), Fail> {
-    let alloc = rt.alloc();
-    let alterations = [
-        ("lattice 1 1 0", "lattice 1 4097 0"),
-        ("tile 3 0 0", "tile 3 100001 0"),
-        ("tile 3 0 0", "tile 12 0 0"),
-        ("tile 3 0 0", "tile 3 100000 100000"),
-        ("0 0 0 class 1", "0 0 0 class 0"),
-        ("tile 3 0 0 class 1 by 1 0 -1\n", ""),
-        ("by 1 0 -1", "by 3 0 0"),
-        ("tile 0 0 0", "tile 0 0  0"),
-        ("by 0 0 0", "by 0 0 -0"),
-    ];
-    assert_eq!(rt;
-        first_lost(&rt, alloc, TRIANGLE, ENTRY, &alterations)?,
-        None
-    );
-    let other_turn = [("tile 0 0 0", "tile 8 0 0")];
-    assert_eq!(rt; first_lost(&rt, alloc, SQUARE, ENTRY, &other_turn)?, None);
-    Ok(())
-}
-
-/// One line of a refutation or of a corona, and another in its place.
-#[test]
-fn an_altered_refutation_is_found(rt: HostRuntime) -> Result<(), Fail> {
-    let alloc = rt.alloc();
-    let alterations = [
-        ("empty 9", "empty 8"),
-        ("empty 9", "empty 0"),
-        ("empty 9", "empty 4294967295"),
-        ("empty 9", "empty 9 9"),
-        ("empty 9", "cut 1 : 1,1 :\nempty 9"),
-        ("bare 1 same", "bare 2 same"),
-        ("bare 1 same\n", ""),
-        ("nontiler 1", "nontiler 2"),
-    ];
-    assert_eq!(rt;
-        first_lost(&rt, alloc, &holed(alloc)?, ENTRY, &alterations)?,
-        None
-    );
-    let missing_tile = [(" 1,0,1\n", "\n")];
-    assert_eq!(rt; first_lost(&rt, alloc, CORONA, ENTRY, &missing_tile)?, None);
+    let holed = holed(alloc)?;
+    let holed = holed.as_str();
+    for (text, old, new, told) in [
+        (SQUARE, "heesch 1", "brief 1", HEADER),
+        (TRIANGLE, "iamond 1 turns", "iamond 16 turns", HEADER),
+        (TRIANGLE, "iamond 1 turns", "kite 1 turns", HEADER),
+        (TRIANGLE, "60000000", "60000001", HEADER),
+        (holed, "2 square given", "1 kite given", HEADER),
+        (TRIANGLE, "shape 1,1", "shape 1,1 1,1", ENTRY),
+        (TRIANGLE, "shape 1,1", MANY_CELLS, ENTRY),
+        (
+            TRIANGLE,
+            "halfturn domain 2",
+            "halfturn domain 4294967295",
+            ENTRY,
+        ),
+        (TRIANGLE, "classes 1", "classes 4294967296", ENTRY),
+        (TRIANGLE, "domain 4 size", "domain 1 size", ENTRY),
+        (TRIANGLE, "lattice 1 1 0", "lattice 1 4097 0", ENTRY),
+        (TRIANGLE, "tile 3 0 0", "tile 3 100001 0", ENTRY),
+        (TRIANGLE, "tile 3 0 0", "tile 12 0 0", ENTRY),
+        (TRIANGLE, "tile 3 0 0", "tile 3 100000 100000", ENTRY),
+        (TRIANGLE, "0 0 0 class 1", "0 0 0 class 0", ENTRY),
+        (TRIANGLE, "tile 3 0 0 class 1 by 1 0 -1\n", "", ENTRY),
+        (TRIANGLE, "by 1 0 -1", "by 3 0 0", ENTRY),
+        (TRIANGLE, "tile 0 0 0", "tile 0 0  0", ENTRY),
+        (TRIANGLE, "by 0 0 0", "by 0 0 -0", ENTRY),
+        (SQUARE, "tile 0 0 0", "tile 8 0 0", ENTRY),
+        (holed, "empty 9", "empty 8", ENTRY),
+        (holed, "empty 9", "empty 0", ENTRY),
+        (holed, "empty 9", "empty 4294967295", ENTRY),
+        (holed, "empty 9", "empty 9 9", ENTRY),
+        (holed, "empty 9", "cut 1 : 1,1 :\nempty 9", ENTRY),
+        (holed, "bare 1 same", "bare 2 same", ENTRY),
+        (holed, "bare 1 same\n", "", ENTRY),
+        (holed, "nontiler 1", "nontiler 2", ENTRY),
+        (CORONA, " 1,0,1\n", "\n", ENTRY),
+    ] {
+        let altered = text.replacen(alloc, old, new, 1)?;
+        let rows = [("check", altered.as_str(), Status::Invalid, told)];
+        assert_eq!(rt; first_other(&rt, alloc, &rows)?, None, "{new} for {old}");
+    }
     Ok(())
 }
 

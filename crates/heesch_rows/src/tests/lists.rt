@@ -1,5 +1,4 @@
-//! `heesch list`: what is written, and what is refused.
-use super::FIVE_TETROMINOES;
+//! `heesch list`: how much is written, and what is refused.
 use super::running::{first_other, written};
 use heesch_app::Status;
 use std::test::Fail;
@@ -11,32 +10,6 @@ const COUNTS: [(&str, [usize; 10]); 4] = [
     ("iamond", [1, 1, 1, 3, 4, 12, 24, 66, 160, 448]),
     ("kite", [1, 2, 4, 10, 27, 85, 262, 873, 0, 0]),
 ];
-
-#[test]
-fn small_lists_are_written(rt: HostRuntime) -> Result<(), Fail> {
-    let rows = [
-        ("list square 1", "", Status::Done, "0,0\n"),
-        ("list square 4", "", Status::Done, FIVE_TETROMINOES),
-        (
-            "list square 4 --workers 3",
-            "",
-            Status::Done,
-            FIVE_TETROMINOES,
-        ),
-        (
-            "list hex 3",
-            "",
-            Status::Done,
-            "0,0 1,0 2,0\n0,0 1,0 0,1\n0,0 1,0 1,1\n",
-        ),
-        ("list iamond 1", "", Status::Done, "1,1\n"),
-        ("list iamond 3", "", Status::Done, "1,1 4,1 2,2\n"),
-        ("list kite 1", "", Status::Done, "1,1\n"),
-        ("list kite 2", "", Status::Done, "1,1 4,1\n4,1 5,2\n"),
-    ];
-    assert_eq!(rt; first_other(&rt, rt.alloc(), &rows)?, None);
-    Ok(())
-}
 
 #[test]
 fn lists_have_the_known_lengths(rt: HostRuntime) -> Result<(), Fail> {

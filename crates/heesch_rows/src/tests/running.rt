@@ -7,10 +7,10 @@ use std::alloc::Global;
 use std::thread::Threads;
 
 /// A run: its words, what the source gives, how it has to end, and what the sink has to hold then.
-pub type Row<'a> = (&'a str, &'a str, Status, &'a str);
+pub(crate) type Row<'a> = (&'a str, &'a str, Status, &'a str);
 
 /// How a run of these words ended, and what the sink holds after it. The source is empty.
-pub fn run_into<T: Threads + Sync>(
+pub(crate) fn run_into<T: Threads + Sync>(
     rt: &T,
     alloc: Global,
     line: &str,
@@ -20,7 +20,7 @@ pub fn run_into<T: Threads + Sync>(
 }
 
 /// How a run of these words over a source ended, and what the sink holds after it.
-pub fn run_over<T: Threads + Sync>(
+pub(crate) fn run_over<T: Threads + Sync>(
     rt: &T,
     alloc: Global,
     line: &str,
@@ -31,7 +31,7 @@ pub fn run_over<T: Threads + Sync>(
 }
 
 /// The same of a run whose tickets pass a gate.
-pub fn run_past<T: Threads + Sync, H: Gate + Sync>(
+pub(crate) fn run_past<T: Threads + Sync, H: Gate + Sync>(
     rt: &T,
     alloc: Global,
     line: &str,
@@ -45,12 +45,16 @@ pub fn run_past<T: Threads + Sync, H: Gate + Sync>(
 }
 
 /// What the words write, or nothing where they don't end Done. The source is empty.
-pub fn written<T: Threads + Sync>(rt: &T, alloc: Global, line: &str) -> Result<Vec<u8>, NoMemory> {
+pub(crate) fn written<T: Threads + Sync>(
+    rt: &T,
+    alloc: Global,
+    line: &str,
+) -> Result<Vec<u8>, NoMemory> {
     written_over(rt, alloc, line, bytes_of(alloc, "")?)
 }
 
 /// What the words write over a source, or nothing where they don't end Done.
-pub fn written_over<T: Threads + Sync>(
+pub(crate) fn written_over<T: Threads + Sync>(
     rt: &T,
     alloc: Global,
     line: &str,
@@ -65,7 +69,7 @@ pub fn written_over<T: Threads + Sync>(
 }
 
 /// The first row that doesn't run so, with what happened; None where all do. What writes nothing has to make no call.
-pub fn first_other<T: Threads + Sync>(
+pub(crate) fn first_other<T: Threads + Sync>(
     rt: &T,
     alloc: Global,
     rows: &[Row],
@@ -85,12 +89,12 @@ pub fn first_other<T: Threads + Sync>(
 }
 
 /// A source of these bytes, which gives at most 5 a call.
-pub fn bytes_of(alloc: Global, text: &str) -> Result<MemorySource, NoMemory> {
+pub(crate) fn bytes_of(alloc: Global, text: &str) -> Result<MemorySource, NoMemory> {
     let bytes = text.as_bytes().to_vec(alloc)?;
     Ok(MemorySource::new(bytes, 5, Vec::new(alloc)))
 }
 
 /// A sink with so much room.
-pub fn room(alloc: Global, bytes: usize) -> Result<MemorySink, NoMemory> {
+pub(crate) fn room(alloc: Global, bytes: usize) -> Result<MemorySink, NoMemory> {
     MemorySink::new(alloc, bytes, bytes.max(1), Vec::new(alloc))
 }

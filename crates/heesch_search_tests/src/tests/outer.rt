@@ -6,14 +6,14 @@ ghost use Rattle.heesch_outer.specs.Found.{IsNearAnswer};
 use super::made::{CROSSING, HOLED, LEAST, seq};
 use heesch_audit::{EntryAnswer, audit, is_near};
 use heesch_cert::{
-    Bare, Classes, Cut, Entry, Evidence, Kind, Layers, Limits, Member, Phase, Proof, Step, Tiling,
-    Verdict, Wall,
+    Bare, Classes, Cut, Entry, Evidence, Kind, Layers, Limits, Phase, Proof, Step, Tiling, Verdict,
+    Wall,
 };
-use heesch_grid::{Cell, Grid, Iamond, Iso, Square};
+use heesch_grid::{Cell, Grid, Iamond, Square};
 use heesch_io::Seq;
 use heesch_lattice::Triple;
 use heesch_levels::{LevelAnswer, WallAnswer, level, wall};
-use heesch_made::{canonical_of, cells};
+use heesch_made::{canonical_of, cells, isos, members};
 use heesch_outer::{OuterAnswer, check_outer, outer};
 use heesch_shape::Shape;
 use std::alloc::Global;
@@ -32,14 +32,14 @@ fn no_layers(alloc: Global) -> Layers
     }
 }
 
-/// The answer for the entry, which has to be true, and whether the check accepts it and refuses the other one.
+/// The answer for the entry, which has to be true; the check has to accept it, and to refuse the other one.
 fn checked_answer<G: Grid, T: Threads + Sync>(
     rt: &T,
     alloc: Global,
     entry: &Entry,
     other: &OuterAnswer,
     limits: Limits,
-) -> Result<(OuterAnswer, bool), Fail>
+) -> Result<OuterAnswer, Fail>
     requires { IsNearAnswer other.now }
 {
     if !limits.valid() || !is_near(entry) {
@@ -49,9 +49,13 @@ fn checked_answer<G: Grid, T: Threads + Sync>(
         return Err(Fail::new("not true"));
     }
     let answer = outer::<G>(alloc, entry, limits)?;
-    let accepted = check_outer::<G, T>(rt, alloc, entry, &answer, limits)?;
-    let refused = !check_outer::<G, T>(rt, alloc, entry, other, limits)?;
-    Ok((answer, accepted && refused))
+    if !check_outer::<G, T>(rt, alloc, entry, &answer, limits)? {
+        return Err(Fail::new("the answer is refused"));
+    }
+    if check_outer::<G, T>(rt, alloc, entry, other, limits)? {
+        return Err(Fail::new("another answer is accepted"));
+    }
+    Ok(answer)
 }
 
 /// The same answer with a cut of level 1 added to its proof.
@@ -114,14 +118,7 @@ fn enclosed_cell(rt: HostRuntime) -> Result<(), Fail> {
         Bare::Same,
         None,
     )?;
-    let (answer, checked) = checked_answer::<Square, _>(
-        &rt,
-        alloc,
-        &entry,
-        &with_cut(alloc, 9)?,
-        LEAST,
-    )?;
-    assert!(rt; checked);
+    let answer = checked_answer::<Square, _>(&rt, alloc, &entry, &with_cut(alloc, 9)?, LEAST)?;
     match &answer {
         OuterAnswer::Same { proof } => {
             assert!(rt; proof.steps.is_empty());
@@ -192,9 +189,8 @@ fn count_outer<G: Grid, T: Threads + Sync>(
     let none = OuterAnswer::More {
         layers: no_layers(alloc),
     };
-    let (answer, checked) = checked_answer::<G, T>(rt, alloc, &entry, &none, limits)?;
-    match answer {
-        OuterAnswer::More { layers } if checked => Ok(layers.layers.len()),
+    match checked_answer::<G, T>(rt, alloc, &entry, &none, limits)? {
+        OuterAnswer::More { layers } => Ok(layers.layers.len()),
         _ => Err(Fail::new("no outer coronas")),
     }
 }
@@ -235,40 +231,22 @@ fn unknown_number(rt: HostRuntime) -> Result<(), Fail> {
         Bare::Absent,
         None,
     )?;
-    let (answer, checked) = checked_answer::<Iamond, _>(
-        &rt,
-        alloc,
-        &entry,
-        &OuterAnswer::Tiles,
-        limits,
-    )?;
-    assert!(rt; checked);
-    match answer {
-        OuterAnswer::Unknown => Ok(()),
-        _ => Err(Fail::new("known")),
-    }
+    let answer = checked_answer::<Iamond, _>(&rt, alloc, &entry, &OuterAnswer::Tiles, limits)?;
+    assert!(rt; matches!(&answer, OuterAnswer::Unknown));
+    Ok(())
 }
 
 /// A square tiles.
 #[test]
 fn square_that_tiles(rt: HostRuntime) -> Result<(), Fail> {
     let alloc = rt.alloc();
-    let no_move = Iso {
-        turn: 0,
-        da: 0,
-        db: 0,
-    };
     let tiling = Tiling {
         triple: Triple { p: 1, q: 1, s: 0 },
-        places: seq(alloc, &[no_move])?,
-    };
-    let member = Member {
-        class: 1,
-        by: no_move,
+        places: seq(alloc, &isos![0, 0, 0])?,
     };
     let classes = Classes {
         count: 1,
-        members: seq(alloc, &[member])?,
+        members: seq(alloc, &members![1, 0, 0, 0])?,
     };
     let entry = Entry {
         cells: seq(alloc, &cells![0, 0])?,
@@ -279,16 +257,7 @@ fn square_that_tiles(rt: HostRuntime) -> Result<(), Fail> {
         },
         evidence: Evidence::Cover { tiling, classes },
     };
-    let (answer, checked) = checked_answer::<Square, _>(
-        &rt,
-        alloc,
-        &entry,
-        &OuterAnswer::Unknown,
-        LEAST,
-    )?;
-    assert!(rt; checked);
-    match answer {
-        OuterAnswer::Tiles => Ok(()),
-        _ => Err(Fail::new("no tiling")),
-    }
+    let answer = checked_answer::<Square, _>(&rt, alloc, &entry, &OuterAnswer::Unknown, LEAST)?;
+    assert!(rt; matches!(&answer, OuterAnswer::Tiles));
+    Ok(())
 }

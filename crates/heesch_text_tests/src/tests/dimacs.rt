@@ -1,5 +1,6 @@
 //! Clause texts and model texts worked by hand.
 use heesch_cnf::{FlatFormula, Formula, is_clause};
+use heesch_dimacs::ModelStop::{NotText, Stranger};
 use heesch_dimacs::{ModelStop, first_false, read_model, write_cnf, write_flat_cnf};
 use heesch_io::{NoMemory, Seq};
 use heesch_made::lits;
@@ -75,47 +76,35 @@ fn models_are_read(rt: HostRuntime) -> Result<(), Fail> {
     Ok(())
 }
 
-/// Texts that are no model texts over eight variables, with the first line at fault.
+/// The first line at fault of texts that are no model texts, or that name variables above eight or one twice.
 #[test]
-fn faults_are_found(rt: HostRuntime) -> Result<(), Fail> {
+fn faults_and_strangers_are_found(rt: HostRuntime) -> Result<(), Fail> {
     let alloc = rt.alloc();
-    for (text, line) in [
-        (b"".as_slice(), 1),
-        (b"s UNSATISFIABLE\n".as_slice(), 1),
-        (b"s SATISFIABLE".as_slice(), 1),
-        (b"s SATISFIABLE\r\nv 0\r\n".as_slice(), 1),
-        (b"c\ns SATISFIABLE\n".as_slice(), 3),
-        (b"s SATISFIABLE\ns SATISFIABLE\nv 0\n".as_slice(), 2),
-        (b"s SATISFIABLE\nv 1\n".as_slice(), 3),
-        (b"s SATISFIABLE\nv 1 0".as_slice(), 2),
-        (b"s SATISFIABLE\nv 1 0 2\n".as_slice(), 2),
-        (b"s SATISFIABLE\nv 1 0\nv 0\n".as_slice(), 3),
-        (b"s SATISFIABLE\nv 01 0\n".as_slice(), 2),
-        (b"s SATISFIABLE\nv  1 0\n".as_slice(), 2),
-        (b"s SATISFIABLE\nv 1 0 \n".as_slice(), 2),
-        (b"s SATISFIABLE\nv +1 0\n".as_slice(), 2),
-        (b"s SATISFIABLE\nv 4294967296 0\n".as_slice(), 2),
-        (b"s SATISFIABLE\nv 9 x 0\n".as_slice(), 2),
-        (b"s SATISFIABLE\nx\nv 0\n".as_slice(), 2),
+    for (text, stop) in [
+        ("", NotText { line: 1 }),
+        ("s UNSATISFIABLE\n", NotText { line: 1 }),
+        ("s SATISFIABLE", NotText { line: 1 }),
+        ("s SATISFIABLE\r\nv 0\r\n", NotText { line: 1 }),
+        ("c\ns SATISFIABLE\n", NotText { line: 3 }),
+        ("s SATISFIABLE\ns SATISFIABLE\nv 0\n", NotText { line: 2 }),
+        ("s SATISFIABLE\nv 1\n", NotText { line: 3 }),
+        ("s SATISFIABLE\nv 1 0", NotText { line: 2 }),
+        ("s SATISFIABLE\nv 1 0 2\n", NotText { line: 2 }),
+        ("s SATISFIABLE\nv 1 0\nv 0\n", NotText { line: 3 }),
+        ("s SATISFIABLE\nv 01 0\n", NotText { line: 2 }),
+        ("s SATISFIABLE\nv  1 0\n", NotText { line: 2 }),
+        ("s SATISFIABLE\nv 1 0 \n", NotText { line: 2 }),
+        ("s SATISFIABLE\nv +1 0\n", NotText { line: 2 }),
+        ("s SATISFIABLE\nv 4294967296 0\n", NotText { line: 2 }),
+        ("s SATISFIABLE\nv 9 x 0\n", NotText { line: 2 }),
+        ("s SATISFIABLE\nx\nv 0\n", NotText { line: 2 }),
+        ("s SATISFIABLE\nv 9 0\n", Stranger { line: 2 }),
+        ("s SATISFIABLE\nv 1\nv 1 0\n", Stranger { line: 3 }),
+        ("s SATISFIABLE\nv 1 -1 0\n", Stranger { line: 2 }),
+        ("s SATISFIABLE\nv 4294967295\nx\n", Stranger { line: 2 }),
     ] {
-        let stop = read(alloc, text, 8)?.err();
-        assert_eq!(rt; stop, Some(ModelStop::NotText { line }));
-    }
-    Ok(())
-}
-
-/// Variables above eight, or named twice.
-#[test]
-fn strangers_are_found(rt: HostRuntime) -> Result<(), Fail> {
-    let alloc = rt.alloc();
-    for (text, line) in [
-        (b"s SATISFIABLE\nv 9 0\n".as_slice(), 2),
-        (b"s SATISFIABLE\nv 1\nv 1 0\n".as_slice(), 3),
-        (b"s SATISFIABLE\nv 1 -1 0\n".as_slice(), 2),
-        (b"s SATISFIABLE\nv 4294967295\nx\n".as_slice(), 2),
-    ] {
-        let stop = read(alloc, text, 8)?.err();
-        assert_eq!(rt; stop, Some(ModelStop::Stranger { line }));
+        let found = read(alloc, text.as_bytes(), 8)?.err();
+        assert_eq!(rt; found, Some(stop), "at {text}");
     }
     Ok(())
 }

@@ -37,31 +37,6 @@ fn the_formula_of_one_cell(rt: HostRuntime) -> Result<(), Fail> {
     Ok(())
 }
 
-/// The first fault of an input to `formula`.
-#[test]
-fn faults_of_shapes(rt: HostRuntime) -> Result<(), Fail> {
-    let alloc = rt.alloc();
-    for (input, size, line, number) in [
-        (b"".as_slice(), 8, 1, 13),
-        (b"\n".as_slice(), 8, 1, 1),
-        (b"0,0 ".as_slice(), 8, 1, 6),
-        (b"0,0 0,0\n0,0\n".as_slice(), 8, 1, 4),
-        (b"0,0 2,0".as_slice(), 8, 1, 5),
-        (b"0,0\n\n".as_slice(), 7, 1, 14),
-        (b"0,0\n\n".as_slice(), 8, 2, 13),
-    ] {
-        let stop = asked(alloc, GridName::Square, size, input).err();
-        assert_eq!(rt;
-            stop,
-            Some(LineStop::Fault {
-                line,
-                fault: number
-            })
-        );
-    }
-    Ok(())
-}
-
 /// The one corona of the single square, and assignments that are none.
 #[test]
 fn the_coronas_of_one_cell(rt: HostRuntime) -> Result<(), Fail> {
@@ -87,26 +62,41 @@ fn the_coronas_of_one_cell(rt: HostRuntime) -> Result<(), Fail> {
     Ok(())
 }
 
-/// The first fault of an input to `answer`.
+/// The two sides of an exchange.
+#[derive(Clone, Copy)]
+enum Side {
+    Formula,
+    Answer,
+}
+
+/// The line and the number of the first fault of an input.
 #[test]
-fn faults_of_models(rt: HostRuntime) -> Result<(), Fail> {
+fn the_first_fault_is_named(rt: HostRuntime) -> Result<(), Fail> {
     let alloc = rt.alloc();
-    for (input, size, line, number) in [
-        (b"".as_slice(), 8, 1, 13),
-        (b"0,0".as_slice(), 8, 1, 6),
-        (b"0,0 2,0\nx\n".as_slice(), 8, 1, 5),
-        (b"0,0\nx\n".as_slice(), 7, 1, 14),
-        (b"0,0\n".as_slice(), 8, 2, 6),
-        (b"0,0\ns SATISFIABLE\nv 9 0\n".as_slice(), 8, 3, 15),
-        (b"0,0\ns SATISFIABLE\nv 1\n".as_slice(), 8, 4, 6),
+    for (side, input, size, line, fault) in [
+        (Side::Formula, "", 8, 1, 13),
+        (Side::Formula, "\n", 8, 1, 1),
+        (Side::Formula, "0,0 ", 8, 1, 6),
+        (Side::Formula, "0,0 0,0\n0,0\n", 8, 1, 4),
+        (Side::Formula, "0,0 2,0", 8, 1, 5),
+        (Side::Formula, "0,0\n\n", 7, 1, 14),
+        (Side::Formula, "0,0\n\n", 8, 2, 13),
+        (Side::Answer, "", 8, 1, 13),
+        (Side::Answer, "0,0", 8, 1, 6),
+        (Side::Answer, "0,0 2,0\nx\n", 8, 1, 5),
+        (Side::Answer, "0,0\nx\n", 7, 1, 14),
+        (Side::Answer, "0,0\n", 8, 2, 6),
+        (Side::Answer, "0,0\ns SATISFIABLE\nv 9 0\n", 8, 3, 15),
+        (Side::Answer, "0,0\ns SATISFIABLE\nv 1\n", 8, 4, 6),
     ] {
-        let stop = answered(alloc, size, input).err();
+        let found = match side {
+            Side::Formula => asked(alloc, GridName::Square, size, input.as_bytes()),
+            Side::Answer => answered(alloc, size, input.as_bytes()),
+        };
         assert_eq!(rt;
-            stop,
-            Some(LineStop::Fault {
-                line,
-                fault: number
-            })
+            found.err(),
+            Some(LineStop::Fault { line, fault }),
+            "at {input}"
         );
     }
     Ok(())

@@ -4,14 +4,10 @@ use heesch_line::{LineFault, ListLine, ListStop, read_line, read_list};
 use std::alloc::Global;
 use std::test::Fail;
 
-/// Whether the bytes are a line.
-fn is_line(alloc: Global, bytes: &[u8]) -> bool {
-    read_line(alloc, bytes).is_ok()
-}
-
+/// Lines of worked texts, and texts that are no lines.
 #[test]
-fn lines_of_worked_texts_are_read(rt: HostRuntime) -> Result<(), Fail> {
-    let lines = [
+fn lines_are_read_and_other_texts_refused(rt: HostRuntime) -> Result<(), Fail> {
+    let worked = [
         "heesch 1 iamond 1 turns 20000 levels 3 domain 4 size 60000000",
         "brief 1 square given turns 20000 levels 3 domain 4 size 12",
         "heesch 2 square 14 turns 20000 levels 3 domain 4 size 60000000",
@@ -42,15 +38,7 @@ fn lines_of_worked_texts_are_read(rt: HostRuntime) -> Result<(), Fail> {
         "spent",
         "end 4294967295",
     ];
-    for line in lines {
-        assert!(rt; is_line(rt.alloc(), line.as_bytes()), "at {line}");
-    }
-    Ok(())
-}
-
-#[test]
-fn other_lines_are_refused(rt: HostRuntime) -> Result<(), Fail> {
-    let lines = [
+    let others = [
         "",
         "end 01",
         "end -0",
@@ -81,12 +69,14 @@ fn other_lines_are_refused(rt: HostRuntime) -> Result<(), Fail> {
         "heesch 3 square 12 turns 20000 levels 3 domain 4 size 60000000",
         "heesch 1 square 4 turns 20000 levels 7 domain 4 size 60000000",
     ];
-    for line in lines {
-        assert_eq!(rt;
-            read_line(rt.alloc(), line.as_bytes()).err(),
-            Some(LineFault::NotALine),
-            "at {line}"
-        );
+    for (lines, fault) in [
+        (worked.as_slice(), None),
+        (others.as_slice(), Some(LineFault::NotALine)),
+    ] {
+        for line in lines {
+            let found = read_line(rt.alloc(), line.as_bytes()).err();
+            assert_eq!(rt; found, fault, "at {line}");
+        }
     }
     Ok(())
 }

@@ -1,13 +1,13 @@
 use Rattle.std.proofs.Common.{◌≡◌, ◌∙◌, ℕ, Bool, true, false, sym, subst, rules, true≢false}
 use Rattle.std.specs.Prelude.{◌↔◌, IfOk, IsTrue}
+use Rattle.std.proofs.lemmas.Result.{IfOk-weaker}
 use Rattle.heesch_cert.specs.declared.limits.Limits.{Limits}
 use Rattle.heesch_cert.specs.declared.entry.Bare.{Bare}
 use Rattle.heesch_cert.specs.Proofs.{IsTooLarge}
-use Rattle.heesch_cert.specs.TrueEntry.{BareShows, SameWhereNoCut}
+use Rattle.heesch_cert.specs.TrueEntry.{BareShows}
 use Rattle.heesch_audit.specs.Ends.{EndsCoronas}
-use Rattle.heesch_audit.proofs.Ends.{bare_by, bare_near, not_asked}
-use Rattle.heesch_audit.proofs.Equal.{granted, refused}
-use Rattle.heesch_audit.proofs.Proofs.{if_ok_more}
+use Rattle.heesch_audit.proofs.Ends.{bare_answered, bare_by, bare_near, not_asked}
+use Rattle.heesch_audit.proofs.Equal.{granted, refused, through}
 use Rattle.heesch_audit.proofs.walls.bare_holds.Goals as goal
 
 pub returns-then-not-fits_same : goal.returns-then-not-fits_same
@@ -45,15 +45,11 @@ is_ended_by-requires-clause-near g c κs within = bare_near c.in-Some.ended.end 
 
 pub returns : goal.returns
 returns g c =
-    let geometry = g.G.Grid.geometry in
     let limits = c.args.at_hand.limits in
-    let shape = c.args.shape.now in
-    let m = c.args.m in
     let ended = c.in-Some.ended in
     let same : c.fits_same.result ≡ true = search rules in
     let holds : c.has_no_cut.result ≡ true = search rules in
-    let both = bare_by geometry limits shape m ended.end ended.proof.now c.args.bare.now c.in-Some.ensures in
-    if_ok_more (λ (yes : Bool). IsTrue yes ↔ EndsCoronas ended.end geometry limits shape m ended.proof.now) (λ (yes : Bool). IsTrue yes ↔ (SameWhereNoCut c.args.wall.now c.args.bare.now × BareShows geometry limits shape m c.args.bare.now))
-    (λ yes h. ((λ t. (c.fits_same.ensures.0 same, both.1 (h.0 t, c.has_no_cut.ensures.0 holds))), (λ s. h.1 (both.0 s.1).0))) c.is_ended_by.result
-    (subst (λ (l : Limits). IfOk c.is_ended_by.result (λ (yes : Bool). IsTrue yes ↔ EndsCoronas ended.end geometry l shape m ended.proof.now)) c.in_ok-formula.ensures.limits
-    (subst (λ (k : ℕ). IfOk c.is_ended_by.result (λ (yes : Bool). IsTrue yes ↔ EndsCoronas ended.end geometry c.in_ok-formula.formula.limits shape k ended.proof.now)) c.in_ok-formula.ensures.level c.is_ended_by.ensures))
+    let answered = bare_answered g.G.Grid.geometry limits c.args.shape.now c.args.m ended.end ended.proof.now c.args.wall.now c.args.bare.now c.in-Some.ensures (c.fits_same.ensures.0 same) (c.has_no_cut.ensures.0 holds) in
+    let ends = λ (l : Limits) (k : ℕ) (yes : Bool). IsTrue yes ↔ EndsCoronas ended.end g.G.Grid.geometry l c.args.shape.now k ended.proof.now in
+    IfOk-weaker c.is_ended_by.result _ _ (λ yes h. through h answered)
+    (subst (λ (l : Limits). IfOk c.is_ended_by.result (ends l c.args.m)) c.in_ok-formula.ensures.limits (subst (λ (k : ℕ). IfOk c.is_ended_by.result (ends c.in_ok-formula.formula.limits k)) c.in_ok-formula.ensures.level c.is_ended_by.ensures))

@@ -1,9 +1,9 @@
 use Rattle.std.proofs.Common.{◌+◌, ◌<◌, false, not, ◌&&◌, ◌||◌, length, take, sym, ap, ◌∙◌, arith}
 use Rattle.std.specs.List.{list_any}
 use Rattle.std.proofs.lemmas.List.Folds.{list_any-append}
-use Rattle.heesch_grid.specs.Cells.{has}
+use Rattle.heesch_grid.specs.Cells.{has, set_of}
 use Rattle.heesch_grid.specs.Corona.{cells_of}
-use Rattle.heesch_corona.specs.Searches.{set_of, is_gap}
+use Rattle.heesch_corona.specs.Searches.{is_gap}
 use Rattle.heesch_corona.proofs.Leasts.{least_same, cell_joins}
 use Rattle.heesch_corona.proofs.Members.{cells_more}
 use Rattle.heesch_corona.proofs.gaps.least_gap.Goals as goal

@@ -1,6 +1,5 @@
 use Rattle.std.proofs.Common.{◌≡◌, ℕ, ◌<◌, ◌≤◌, false, length}
-use Rattle.heesch_grid.specs.Cells.{meet}
-use Rattle.heesch_corona.specs.Searches.{set_of}
+use Rattle.heesch_grid.specs.Cells.{meet, set_of}
 use Rattle.heesch_corona.proofs.meetings.first_meeting.Given as goal
 
 abbrev pub invariant-loop-at : goal.invariant-loop-at

@@ -1,5 +1,6 @@
 use Rattle.std.proofs.Common.{◌≡◌, ℕ, ◌<◌, ◌≤◌, true}
-use Rattle.heesch_corona.specs.Searches.{set_of, does_reach}
+use Rattle.heesch_corona.specs.Searches.{does_reach}
+use Rattle.heesch_grid.specs.Cells.{set_of}
 use Rattle.heesch_corona.proofs.touching.loose_among.Given as goal
 
 abbrev pub invariant-loop-at : goal.invariant-loop-at

@@ -2,7 +2,7 @@ use Rattle.std.proofs.Common.{◌≡◌, ◌<◌, List, length, get_or, pos, tru
 use Rattle.std.proofs.lemmas.List.Elements.{All-contains}
 use Rattle.heesch_grid.specs.declared.Cell.{Cell}
 use Rattle.heesch_grid.specs.declared.isometries.Iso.{Iso}
-use Rattle.heesch_grid.specs.Cells.{cell, has}
+use Rattle.heesch_grid.specs.Cells.{has, origin}
 use Rattle.heesch_grid.specs.Geometry.{IsAround, apply}
 use Rattle.heesch_grid.specs.Vectors.{IsWithin}
 use Rattle.heesch_grid.proofs.CellFacts.{has-is}
@@ -13,9 +13,6 @@ use Rattle.heesch_place.specs.Steps.{IsFirstOf}
 use Rattle.heesch_place.proofs.Moves.{first_of}
 use Rattle.heesch_encode.proofs.MovedRings.{reach_within}
 use Rattle.heesch_encode.proofs.around.turned_ring.Goals as goal
-
-abbrev zero_cell : Cell
-zero_cell = cell (pos 0) (pos 0)
 
 pub image-tile-requires-clause-within : goal.image-tile-requires-clause-within
 image-tile-requires-clause-within g c =
@@ -35,9 +32,9 @@ returns g c =
     record {
       turned = tile;
       list = c.image-tile.ensures.list;
-      first = subst (λ zs. IsFirstOf zs (get_or read 0 zero_cell)) e (first_of read zero_cell some);
+      first = subst (λ zs. IsFirstOf zs (get_or read 0 origin)) e (first_of read origin some);
       ring = c.in_ok-write_ring.ensures.listed;
-      near = s.within (get_or read 0 zero_cell) (subst (λ zs. has zs (get_or read 0 zero_cell) ≡ true) e (has_at read 0 zero_cell some));
+      near = s.within (get_or read 0 origin) (subst (λ zs. has zs (get_or read 0 origin) ≡ true) e (has_at read 0 origin some));
       within = λ d m.
           let a = All-contains (IsAround geometry tile) c.write_ring.new.ring.items d c.in_ok-write_ring.ensures.listed.only m in
           reach_within geometry g.met.G.Grid.laws a.member d a.touching (s.within a.member (has-is tile a.member a.inside));

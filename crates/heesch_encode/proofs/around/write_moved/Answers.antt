@@ -1,13 +1,14 @@
-use Rattle.std.proofs.Common.{◌≡◌, ◌<◌, List, map, length, get_or, pos, true, sym, ap, ◌∙◌, subst, arith, Contains}
+use Rattle.std.proofs.Common.{◌≡◌, ◌+◌, ◌<◌, List, map, length, get_or, true, sym, ap, ◌∙◌, subst, arith, Contains}
 use Rattle.std.proofs.lemmas.List.{take_all}
 use Rattle.std.proofs.lemmas.List.Elements.{Contains-get_or}
 use Rattle.heesch_grid.specs.declared.Cell.{Cell}
 use Rattle.heesch_grid.specs.declared.isometries.Iso.{Iso}
 use Rattle.heesch_grid.specs.Polyform.{IsCellSet}
-use Rattle.heesch_grid.specs.Cells.{cell, cell_before, has}
+use Rattle.heesch_grid.specs.Cells.{cell_before, has, origin}
 use Rattle.heesch_grid.specs.Geometry.{IsAround}
 use Rattle.heesch_grid.specs.Listing.{ListsExactly}
-use Rattle.heesch_grid.specs.Vectors.{plus}
+use Rattle.heesch_grid.specs.Vectors.{IsWithin, plus}
+use Rattle.heesch_grid.proofs.Images.{wider}
 use Rattle.heesch_grid.proofs.ListFacts.{same_listing}
 use Rattle.heesch_grid.proofs.CellFacts.{cell_before-irreflexive, cell_before-asymmetric}
 use Rattle.heesch_shape.proofs.Loops.{has_at}
@@ -15,50 +16,63 @@ use Rattle.heesch_place.specs.Steps.{IsFirstOf}
 use Rattle.heesch_place.proofs.Moves.{first_of}
 use Rattle.heesch_encode.specs.Rings.{IsTurnedRing}
 use Rattle.heesch_encode.proofs.MovedRings.{placed_ring}
+use Rattle.heesch_encode.proofs.around.write_moved.Given as given
 use Rattle.heesch_encode.proofs.around.write_moved.Goals as goal
+use Rattle.heesch_encode.proofs.around.write_moved.Goals.{After-cells, After-index-rings-iso}
 
-abbrev zero_cell : Cell
-zero_cell = cell (pos 0) (pos 0)
+-- the ring that is read is that of the placement's turn
+turned_ring : (g : given.Over) (c : After-index-rings-iso g) → IsTurnedRing g.G.Grid.geometry c.args.universe.now.shape c.iso.result.turn c.index-rings-iso.result
+turned_ring g c =
+    let turn = c.iso.result.turn in
+    let by = ap (λ (i : Iso). i.turn) c.iso.ensures in
+    let less : turn < length c.args.rings.now = omega (arith, by, c.placement_of-place.ensures.least.is_isometry, c.requires.rings.count) in
+    subst (IsTurnedRing g.G.Grid.geometry c.args.universe.now.shape turn) (sym c.index-rings-iso.is) (c.requires.rings.each turn c.index-rings-iso.result less)
 
-pub step_between-step-requires-clause-to : goal.step_between-step-requires-clause-to
-step_between-step-requires-clause-to g c =
+-- and the first cell of the tile lies where cells of shapes do
+first_near : (g : given.Over) (c : After-cells g) → IsWithin 1000000 (get_or c.cells.result.now 0 origin)
+first_near g c =
     let read : List Cell = c.cells.result.now in
     let s = c.cells.ensures.shape in
     let some : 0 < length read = subst (λ zs. 0 < length zs) (sym c.cells.ensures.cells) s.polyform.some in
-    s.within (get_or read 0 zero_cell) (subst (λ zs. has zs (get_or read 0 zero_cell) ≡ true) c.cells.ensures.cells (has_at read 0 zero_cell some))
+    s.within (get_or read 0 origin) (subst (λ zs. has zs (get_or read 0 origin) ≡ true) c.cells.ensures.cells (has_at read 0 origin some))
 
-pub moved-requires-clause-within : goal.moved-requires-clause-within
-moved-requires-clause-within g c =
-    let rings = c.args.rings.now in
-    let turned = c.index-rings-iso.result in
+pub difference-step-requires-clause-from : goal.difference-step-requires-clause-from
+difference-step-requires-clause-from g c =
+    wider 1000000 2000000 _ (omega arith) (turned_ring g (goal.at.difference-step-requires-clause-from g c).After-index-rings-iso).near
+
+pub difference-step-requires-clause-to : goal.difference-step-requires-clause-to
+difference-step-requires-clause-to g c = wider 1000000 2000000 _ (omega arith) (first_near g (goal.at.difference-step-requires-clause-to g c).After-cells)
+
+pub moved-requires-clause-from : goal.moved-requires-clause-from
+moved-requires-clause-from g c =
     let items : List Cell = c.as_slice-c-items.result.now in
-    let met = g.met.G.Grid in
-    let least = c.placement_of-place.ensures.least in
-    let by = ap (λ (i : Iso). i.turn) c.iso.ensures in
-    let less : c.iso.result.turn < length rings = omega (arith, by, least.is_isometry, c.requires.rings.count) in
-    let r : IsTurnedRing g.G.Grid.geometry c.args.universe.now.shape c.iso.result.turn turned = subst (IsTurnedRing g.G.Grid.geometry c.args.universe.now.shape c.iso.result.turn) (sym c.index-rings-iso.is) (c.requires.rings.each c.iso.result.turn turned less) in
-    r.within (get_or items c.loop-c.c-index zero_cell) (subst (λ zs. Contains zs (get_or items c.loop-c.c-index zero_cell)) c.as_slice-c-items.ensures.value (Contains-get_or items c.loop-c.c-index zero_cell c.loop-c-test.true))
+    let r = turned_ring g (goal.at.moved-requires-clause-from g c).After-index-rings-iso in
+    wider 1000004 2000000 _ (omega arith)
+    (r.within (get_or items c.loop-c.c-index origin) (subst (λ zs. Contains zs (get_or items c.loop-c.c-index origin)) c.as_slice-c-items.ensures.value (Contains-get_or items c.loop-c.c-index origin c.loop-c-test.true)))
+
+pub moved-requires-clause-step : goal.moved-requires-clause-step
+moved-requires-clause-step g c =
+    let at = goal.at.moved-requires-clause-step g c in
+    wider (1000000 + 1000000) 3000000 _ (omega arith) (c.difference-step.ensures.within 1000000 1000000 (turned_ring g at.After-index-rings-iso).near (first_near g at.After-cells))
 
 pub returns : goal.returns
 returns g c =
     let geometry = g.G.Grid.geometry in
     let shape = c.args.universe.now.shape in
-    let rings = c.args.rings.now in
+    let at = goal.at.returns g c in
     let turned = c.index-rings-iso.result in
     let items : List Cell = c.as_slice-c-items.result.now in
-    let step = c.step_between-step.result in
-    let least = c.placement_of-place.ensures.least in
+    let step = c.difference-step.result in
     let place = c.placement_of-place.result.now in
     let by = ap (λ (i : Iso). i.turn) c.iso.ensures in
-    let less : c.iso.result.turn < length rings = omega (arith, by, least.is_isometry, c.requires.rings.count) in
-    let r : IsTurnedRing geometry shape place.by.turn turned = subst (λ k. IsTurnedRing geometry shape k turned) by (subst (IsTurnedRing geometry shape c.iso.result.turn) (sym c.index-rings-iso.is) (c.requires.rings.each c.iso.result.turn turned less)) in
+    let r : IsTurnedRing geometry shape place.by.turn turned = subst (λ k. IsTurnedRing geometry shape k turned) by (turned_ring g at.After-index-rings-iso) in
     let read : List Cell = c.cells.result.now in
     let s = c.cells.ensures.shape in
     let e : read ≡ place.tile = c.cells.ensures.cells ∙ c.shape.ensures in
     let some : 0 < length read = subst (λ zs. 0 < length zs) (sym c.cells.ensures.cells) s.polyform.some in
-    let first : IsFirstOf place.tile (get_or read 0 zero_cell) = subst (λ zs. IsFirstOf zs (get_or read 0 zero_cell)) e (first_of read zero_cell some) in
+    let first : IsFirstOf place.tile (get_or read 0 origin) = subst (λ zs. IsFirstOf zs (get_or read 0 origin)) e (first_of read origin some) in
     let whole : c.loop-c.ring.items ≡ map (plus step) turned.ring.items = c.loop-c.invariant ∙ ap (map (plus step)) (take_all c.loop-c.c-index items (omega (arith, c.loop-c-test.false)) ∙ c.as_slice-c-items.ensures.value) in
-    let placed : ListsExactly cell_before (IsAround geometry place.tile) c.loop-c.ring.items = subst (ListsExactly cell_before (IsAround geometry place.tile)) (sym whole) (placed_ring geometry g.met.G.Grid.laws shape place.tile place.by turned (get_or read 0 zero_cell) step r least.gives first c.step_between-step.ensures.leads) in
+    let placed : ListsExactly cell_before (IsAround geometry place.tile) c.loop-c.ring.items = subst (ListsExactly cell_before (IsAround geometry place.tile)) (sym whole) (placed_ring geometry g.met.G.Grid.laws shape place.tile place.by turned (get_or read 0 origin) step r c.placement_of-place.ensures.least.gives first c.difference-step.ensures.is) in
     record {
       listed = λ x number. subst (λ (zs : List Cell). ListsExactly cell_before (IsAround geometry zs) c.loop-c.ring.items) (c.placement_of-place.ensures.tile x number) placed;
       given = λ x around number gives. same_listing cell_before cell_before-irreflexive cell_before-asymmetric (IsAround geometry x.tile) c.loop-c.ring.items (around x.tile)

@@ -15,14 +15,14 @@ take_family-requires-clause-vars g c =
 pub returns-in_err-take_family-clause-taken : goal.returns-in_err-take_family-clause-taken
 returns-in_err-take_family-clause-taken g c =
     let geometry = g.G.Grid.geometry in
-    let vars = c.args.universe.now.vars in
-    let shape = c.args.shape.now in
-    let j = c.args.level in
+    let vars = c.args.plan.now.universe.now.vars in
+    let shape = c.args.plan.now.shape.now in
+    let j = c.args.plan.now.level in
     let p = err_from_is_err_and c.from_residual-in_err-take_family.result c.from_residual-in_err-take_family.ensures.1 in
     let e = c.in_err-take_family.field-0.0 in
-    let a = c.args.collector.now in
+    let a = c.args.desk.now.collector in
     let b = c.take_first.new.collector in
-    let d = c.take_family.new.collector in
+    let d = c.take_family.new.desk.collector in
     λ around gives.
     let first : Clauses = first_clauses literals around shape vars in
     let covering : Clauses = covering_clauses literals around shape j vars in
@@ -39,13 +39,13 @@ take_family-requires-2-clause-vars g c =
 pub returns-clause-taken : goal.returns-clause-taken
 returns-clause-taken g c =
     let geometry = g.G.Grid.geometry in
-    let vars = c.args.universe.now.vars in
-    let shape = c.args.shape.now in
-    let j = c.args.level in
-    let a = c.args.collector.now in
+    let vars = c.args.plan.now.universe.now.vars in
+    let shape = c.args.plan.now.shape.now in
+    let j = c.args.plan.now.level in
+    let a = c.args.desk.now.collector in
     let b = c.take_first.new.collector in
-    let d = c.take_family.new.collector in
-    let f = c.take_family-2.new.collector in
+    let d = c.take_family.new.desk.collector in
+    let f = c.take_family-2.new.desk.collector in
     λ around gives.
     let first : Clauses = first_clauses literals around shape vars in
     let covering : Clauses = covering_clauses literals around shape j vars in

@@ -5,4 +5,4 @@ use Rattle.heesch_encode.proofs.Pieces.{covering_piece}
 use Rattle.heesch_encode.proofs.families.take_covering.Given as goal
 
 abbrev pub invariant-loop-c : goal.invariant-loop-c
-invariant-loop-c g l = Takes l.fn.collector l.collector (flat_map (covering_piece l.shape l.universe.vars l.var l.of) (take l.c-index l.c-items))
+invariant-loop-c g l = Takes l.fn.collector l.collector (flat_map (covering_piece l.plan.shape.now l.plan.universe.now.vars l.var l.of) (take l.c-index l.c-items))

@@ -23,31 +23,31 @@ take_of-requires-clause-vars g c =
 
 pub returns-in_err-take_of-clause-taken : goal.returns-in_err-take_of-clause-taken
 returns-in_err-take_of-clause-taken g c =
-    let vars = c.args.universe.now.vars in
+    let vars = c.args.plan.now.universe.now.vars in
     let i = c.loop-i.i in
     let less = below i vars c.count-i-end.result c.count-i-end.ensures.count c.loop-i-test.true in
     let p = err_from_is_err_and c.from_residual.result c.from_residual.ensures.1 in
     let e = c.in_err-take_of.field-0.0 in
     λ around gives.
     let here = c.in_err-take_of.ensures.taken around (get_or vars (i + 1 - 1) no_entry.1) gives (some_at vars (i + 1) (omega arith) (omega arith)) in
-    rw (p.1, p.2) (variable_stopped (clauses_at c.args.family g.G.Grid.geometry around c.args.shape.now c.args.level vars) vars i less c.args.collector.now c.loop-i.collector c.take_of.new.collector (c.loop-i.invariant.taken around gives) e here)
+    rw (p.1, p.2) (variable_stopped (clauses_at c.args.family g.G.Grid.geometry around c.args.plan.now.shape.now c.args.plan.now.level vars) vars i less c.args.desk.now.collector c.loop-i.desk.collector c.take_of.new.desk.collector (c.loop-i.invariant.taken around gives) e here)
 
 pub loop-i-preserved : goal.loop-i-preserved
 loop-i-preserved g c =
-    let vars = c.args.universe.now.vars in
+    let vars = c.args.plan.now.universe.now.vars in
     let i = c.loop-i.i in
     let less = below i vars c.count-i-end.result c.count-i-end.ensures.count c.loop-i-test.true in
     record {
       unmarked = c.in_ok-take_of.ensures.unmarked;
       taken = λ around gives.
           let here = c.in_ok-take_of.ensures.taken around (get_or vars (i + 1 - 1) no_entry.1) gives (some_at vars (i + 1) (omega arith) (omega arith)) in
-          variable_taken (clauses_at c.args.family g.G.Grid.geometry around c.args.shape.now c.args.level vars) vars i less c.args.collector.now c.loop-i.collector c.take_of.new.collector (c.loop-i.invariant.taken around gives) here;
+          variable_taken (clauses_at c.args.family g.G.Grid.geometry around c.args.plan.now.shape.now c.args.plan.now.level vars) vars i less c.args.desk.now.collector c.loop-i.desk.collector c.take_of.new.desk.collector (c.loop-i.invariant.taken around gives) here;
     }
 
 pub returns-clause-taken : goal.returns-clause-taken
 returns-clause-taken g c =
-    let entries : List (ℕ × Variable) = enumerate_from 1 c.args.universe.now.vars in
-    let long = length-enumerate_from 1 c.args.universe.now.vars in
+    let entries : List (ℕ × Variable) = enumerate_from 1 c.args.plan.now.universe.now.vars in
+    let long = length-enumerate_from 1 c.args.plan.now.universe.now.vars in
     let whole : take c.loop-i.i entries ≡ entries = take_all c.loop-i.i entries (omega (arith, long, c.loop-i-test.false, c.count-i-end.ensures.count)) in
     λ around gives.
-    subst (λ zs. Takes c.args.collector.now c.loop-i.collector (flat_map (clauses_at c.args.family g.G.Grid.geometry around c.args.shape.now c.args.level c.args.universe.now.vars) zs)) whole (c.loop-i.invariant.taken around gives)
+    subst (λ zs. Takes c.args.desk.now.collector c.loop-i.desk.collector (flat_map (clauses_at c.args.family g.G.Grid.geometry around c.args.plan.now.shape.now c.args.plan.now.level c.args.plan.now.universe.now.vars) zs)) whole (c.loop-i.invariant.taken around gives)

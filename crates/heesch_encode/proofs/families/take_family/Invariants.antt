@@ -10,6 +10,6 @@ use Rattle.heesch_encode.proofs.families.take_family.Given as goal
 
 abbrev pub invariant-loop-i : goal.invariant-loop-i
 invariant-loop-i g l = record {
-  unmarked : AreUnmarked (length l.universe.vars) l.desk.marks.words.items;
-  taken : (around : List Cell → List Cell) → GivesCellsAround g.G.Grid.geometry around → Takes l.fn.collector l.collector (flat_map (clauses_at l.family g.G.Grid.geometry around l.shape l.level l.universe.vars) (take l.i (enumerate_from 1 l.universe.vars)));
+  unmarked : AreUnmarked (length l.plan.universe.now.vars) l.desk.marks.words.items;
+  taken : (around : List Cell → List Cell) → GivesCellsAround g.G.Grid.geometry around → Takes l.fn.desk.collector l.desk.collector (flat_map (clauses_at l.family g.G.Grid.geometry around l.plan.shape.now l.plan.level l.plan.universe.now.vars) (take l.i (enumerate_from 1 l.plan.universe.now.vars)));
 }

@@ -5,4 +5,4 @@ use Rattle.heesch_encode.proofs.Pieces.{first_piece}
 use Rattle.heesch_encode.proofs.families.take_first.Given as goal
 
 abbrev pub invariant-loop-c : goal.invariant-loop-c
-invariant-loop-c g l = Takes l.fn.collector l.collector (flat_map (first_piece l.universe.vars) (take l.c-index l.c-items))
+invariant-loop-c g l = Takes l.fn.collector l.collector (flat_map (first_piece l.plan.universe.now.vars) (take l.c-index l.c-items))

@@ -1,12 +1,11 @@
-use Rattle.std.proofs.Common.{◌≡◌, ◌<◌, ◌*◌, ◌∙◌, All, pos, filter, length, get_or, sym, ap, subst, arith}
+use Rattle.std.proofs.Common.{◌≡◌, ◌<◌, ◌*◌, ◌∙◌, All, filter, length, get_or, sym, ap, subst, arith}
 use Rattle.std.specs.Prelude.{nat_lt, flat_map}
 use Rattle.std.proofs.lemmas.List.{take_all}
-use Rattle.heesch_grid.specs.declared.Cell.{Cell}
-use Rattle.heesch_grid.specs.Cells.{cell}
 use Rattle.heesch_grid.specs.Listing.{IsRising}
 use Rattle.heesch_grid.specs.CoronaFormula.{covers}
 use Rattle.heesch_encode.specs.Marks.{Changes}
 use Rattle.heesch_encode.specs.Meeting.{covering_after}
+use Rattle.heesch_grid.specs.Cells.{origin}
 use Rattle.heesch_encode.proofs.ClauseLists.{numbers_rising}
 use Rattle.heesch_encode.proofs.Marking.{changes_none, changes_size}
 use Rattle.heesch_encode.proofs.Rings.{after_rising, after_small, changes_pieces}
@@ -14,18 +13,15 @@ use Rattle.heesch_encode.proofs.meeting.change_meeting.Given as given
 use Rattle.heesch_encode.proofs.meeting.change_meeting.Goals as goal
 use Rattle.heesch_encode.proofs.meeting.change_meeting.Goals.{After-numbers_after}
 
-abbrev zero_cell : Cell
-zero_cell = cell (pos 0) (pos 0)
-
 -- the numbers that are looked up for a cell
-found : (g : given.Over) (c : After-numbers_after g) → c.numbers_after.result.now ≡ covering_after c.args.universe.now.vars c.args.above c.args.most (get_or c.args.cells.now c.loop-c.c-index zero_cell)
+found : (g : given.Over) (c : After-numbers_after g) → c.numbers_after.result.now ≡ covering_after c.args.universe.now.vars c.args.above c.args.most (get_or c.args.cells.now c.loop-c.c-index origin)
 found g c = c.numbers_after.ensures ∙ ap (filter (nat_lt c.args.above)) c.covered_by.ensures
 
 pub loop-c-init : goal.loop-c-init
 loop-c-init g c = changes_none c.args.change c.args.marks.now.words.items
 
 pub numbers_after-requires-clause-rising : goal.numbers_after-requires-clause-rising
-numbers_after-requires-clause-rising g c = subst (IsRising nat_lt) (sym c.covered_by.ensures) (numbers_rising c.args.universe.now.vars (covers c.args.most (get_or c.args.cells.now c.loop-c.c-index zero_cell)))
+numbers_after-requires-clause-rising g c = subst (IsRising nat_lt) (sym c.covered_by.ensures) (numbers_rising c.args.universe.now.vars (covers c.args.most (get_or c.args.cells.now c.loop-c.c-index origin)))
 
 pub change-requires-clause-rising : goal.change-requires-clause-rising
 change-requires-clause-rising g c = subst (IsRising nat_lt) (sym (found g (goal.at.change-requires-clause-rising g c).After-numbers_after)) (after_rising c.args.universe.now.vars c.args.above c.args.most _)
@@ -42,7 +38,7 @@ change-requires-clause-room g c =
 pub loop-c-preserved : goal.loop-c-preserved
 loop-c-preserved g c =
     let vars = c.args.universe.now.vars in
-    changes_pieces c.args.change (covering_after vars c.args.above c.args.most) c.args.cells.now c.loop-c.c-index zero_cell c.args.marks.now.words.items c.loop-c.marks.words.items c.change.new.self.words.items c.loop-c-test.true c.loop-c.invariant
+    changes_pieces c.args.change (covering_after vars c.args.above c.args.most) c.args.cells.now c.loop-c.c-index origin c.args.marks.now.words.items c.loop-c.marks.words.items c.change.new.self.words.items c.loop-c-test.true c.loop-c.invariant
     (subst (Changes c.args.change c.loop-c.marks.words.items c.change.new.self.words.items) (found g (goal.at.loop-c-preserved g c).After-numbers_after) c.change.ensures)
 
 pub returns : goal.returns

@@ -1,6 +1,5 @@
 use Rattle.std.proofs.Common.{◌≡◌, ◌+◌, ◌-◌, ◌/◌, ◌≤◌, length, get_or, arith}
-use Rattle.heesch_grid.specs.CoronaFormula.{Variable}
-use Rattle.heesch_place.specs.Universes.{IsNumbered}
+use Rattle.heesch_grid.specs.CoronaFormula.{Variable, IsNumbered}
 use Rattle.heesch_encode.proofs.Numbered.{no_entry}
 use Rattle.heesch_encode.proofs.Pieces.{some_at, numbered_order}
 use Rattle.heesch_encode.proofs.meeting.last_below.Given as given

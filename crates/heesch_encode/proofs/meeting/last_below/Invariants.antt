@@ -1,6 +1,5 @@
 use Rattle.std.proofs.Common.{ℕ, ◌-◌, ◌<◌, ◌≤◌, length}
-use Rattle.heesch_grid.specs.CoronaFormula.{Variable}
-use Rattle.heesch_place.specs.Universes.{IsNumbered}
+use Rattle.heesch_grid.specs.CoronaFormula.{Variable, IsNumbered}
 use Rattle.heesch_encode.proofs.meeting.last_below.Given as goal
 
 abbrev pub invariant-loop-low : goal.invariant-loop-low

@@ -1,4 +1,4 @@
-use Rattle.std.proofs.Common.{◌≡◌, List, length, subst}
+use Rattle.std.proofs.Common.{◌≡◌, ℕ, List, length, subst}
 use Rattle.std.specs.Prelude.{flat_map, nat_lt}
 use Rattle.heesch_grid.specs.declared.Cell.{Cell}
 use Rattle.heesch_grid.specs.Listing.{ListsExactly}
@@ -10,15 +10,13 @@ use Rattle.heesch_encode.proofs.meeting.list_supporting.Goals as goal
 
 pub returns-clause-listed : goal.returns-clause-listed
 returns-clause-listed g c =
-    let geometry = g.G.Grid.geometry in
     let vars = c.args.universe.now.vars in
-    let level = c.args.level in
     let tile = c.args.tile.now in
-    let above = c.last_below-above.result in
     let marked = c.change_meeting.new.marks.words.items in
     let left = c.change_meeting-2.new.marks.words.items in
     let ns = c.read_off.new.numbers.items in
-    let unmarks : Unmarking marked left (flat_map (covering_after vars above level) tile) = subst (λ (cells : List Cell). Unmarking marked left (flat_map (covering_after vars above level) cells)) c.cells.ensures.cells c.change_meeting-2.ensures in
-    on_ok (ListsExactly nat_lt (IsMarked left) ns) (ns ≡ supporting geometry vars level tile) c.read_off.result
-    (supporting_is geometry g.met.G.Grid.laws tile c.args.ring.now c.requires.ring vars above level (length vars) c.args.marks.now.words.items marked left ns c.last_below-above.ensures.low c.last_below-above.ensures.high c.requires.unmarked c.change_meeting.ensures unmarks)
+    let numbers : List Cell → List ℕ = flat_map (covering_after vars c.last_below-above.result c.args.level) in
+    let unmarks = subst (λ (cells : List Cell). Unmarking marked left (numbers cells)) c.cells.ensures.cells c.change_meeting-2.ensures in
+    on_ok (ListsExactly nat_lt (IsMarked left) ns) (ns ≡ supporting g.G.Grid.geometry vars c.args.level tile) c.read_off.result
+    (supporting_is g.G.Grid.geometry g.met.G.Grid.laws tile c.args.ring.now c.requires.ring vars c.last_below-above.result c.args.level (length vars) c.args.marks.now.words.items marked left ns c.last_below-above.ensures.low c.last_below-above.ensures.high c.requires.unmarked c.change_meeting.ensures unmarks)
     c.read_off.ensures.read

@@ -1,14 +1,11 @@
-use Rattle.std.proofs.Common.{◌≡◌, ◌++◌, filter, get_or, take, pos, sym, ap, ◌∙◌, arith}
+use Rattle.std.proofs.Common.{◌≡◌, ◌++◌, filter, get_or, take, sym, ap, ◌∙◌, arith}
 use Rattle.std.proofs.lemmas.List.{take_all, get_or_default}
 use Rattle.heesch_grid.specs.declared.Cell.{Cell}
-use Rattle.heesch_grid.specs.Cells.{cell}
 use Rattle.heesch_encode.specs.Owners.{is_first_of_some, is_first_holder}
+use Rattle.heesch_grid.specs.Cells.{origin}
 use Rattle.heesch_encode.proofs.Rising.{filter_keeps, filter_skips}
 use Rattle.heesch_encode.proofs.owned.add_owned.Goals as goal
 use Rattle.heesch_encode.proofs.owned.add_owned.Goals.{then-is_first+in_ok-add, else-is_first}
-
-abbrev zero_cell : Cell
-zero_cell = cell (pos 0) (pos 0)
 
 pub loop-c-preserved : goal.loop-c-preserved
 loop-c-preserved g c =
@@ -16,8 +13,8 @@ loop-c-preserved g c =
     let n = c.args.var in
     let items = c.cells-c-items.result.now in
     let i = c.loop-c.c-index in
-    let at : Cell = get_or items i zero_cell in
-    let read : get_or items i at ≡ at = get_or_default items i at zero_cell c.loop-c-test.true in
+    let at : Cell = get_or items i origin in
+    let read : get_or items i at ≡ at = get_or_default items i at origin c.loop-c-test.true in
     let tested : c.is_first.result ≡ is_first_holder vars n at = c.is_first.ensures ∙ ap (is_first_of_some n) c.holders_of.ensures in
     elim c.if-is_first.branch [
       | then-is_first+in_ok-add w ↦

@@ -1,9 +1,8 @@
-use Rattle.std.proofs.Common.{◌≡◌, ◌<◌, ◌++◌, length, take, get_or, true, pos, sym, ap, ◌∙◌, subst, arith}
+use Rattle.std.proofs.Common.{◌≡◌, ◌<◌, ◌++◌, length, take, get_or, true, sym, ap, ◌∙◌, subst, arith}
 use Rattle.std.specs.Prelude.{flat_map}
 use Rattle.std.proofs.lemmas.List.{take_all}
 use Rattle.std.proofs.lemmas.List.Filters.{dedup_is}
-use Rattle.heesch_grid.specs.declared.Cell.{Cell}
-use Rattle.heesch_grid.specs.Cells.{cell, same_cell, cell_before, has}
+use Rattle.heesch_grid.specs.Cells.{same_cell, cell_before, has, origin}
 use Rattle.heesch_grid.specs.Geometry.{IsAround}
 use Rattle.heesch_grid.specs.Listing.{ListsExactly}
 use Rattle.heesch_grid.proofs.ListFacts.{same_listing}
@@ -15,13 +14,10 @@ use Rattle.heesch_encode.proofs.ring.write_ring.Given as given
 use Rattle.heesch_encode.proofs.ring.write_ring.Goals as goal
 use Rattle.heesch_encode.proofs.ring.write_ring.Goals.{After-dedup}
 
-abbrev zero_cell : Cell
-zero_cell = cell (pos 0) (pos 0)
-
 pub add_touching-requires-clause-within : goal.add_touching-requires-clause-within
 add_touching-requires-clause-within g c =
     let read = c.cells-c-items.result.now in
-    c.cells-c-items.ensures.shape.within (get_or read c.loop-c.c-index zero_cell) (subst (λ zs. has zs (get_or read c.loop-c.c-index zero_cell) ≡ true) c.cells-c-items.ensures.cells (has_at read c.loop-c.c-index zero_cell c.loop-c-test.true))
+    c.cells-c-items.ensures.shape.within (get_or read c.loop-c.c-index origin) (subst (λ zs. has zs (get_or read c.loop-c.c-index origin) ≡ true) c.cells-c-items.ensures.cells (has_at read c.loop-c.c-index origin c.loop-c-test.true))
 
 pub loop-c-preserved : goal.loop-c-preserved
 loop-c-preserved g c =
@@ -30,7 +26,7 @@ loop-c-preserved g c =
     let i = c.loop-c.c-index in
     let e = c.cells-c-items.ensures.cells in
     let less : i < length tile = subst (λ zs. i < length zs) e c.loop-c-test.true in
-    c.in_ok-add_touching.ensures ∙ (λ k. c.loop-c.invariant k ++ outer geometry tile (get_or (e k) i zero_cell)) ∙ sym (pieces_more (outer geometry tile) tile i zero_cell less)
+    c.in_ok-add_touching.ensures ∙ (λ k. c.loop-c.invariant k ++ outer geometry tile (get_or (e k) i origin)) ∙ sym (pieces_more (outer geometry tile) tile i origin less)
 
 -- the cells, sorted and each kept once, are those around the tile
 listed : (g : given.Over) (c : After-dedup g) → ListsExactly cell_before (IsAround g.G.Grid.geometry c.args.tile.now) c.dedup.new.self.items

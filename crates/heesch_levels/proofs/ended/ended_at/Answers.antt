@@ -1,4 +1,4 @@
-use Rattle.std.proofs.Common.{◌∙◌, sym, ap, subst, ◌≤◌}
+use Rattle.std.proofs.Common.{◌∙◌, sym, ap, subst, ◌≤◌, rules}
 use Rattle.heesch_grid.specs.Polyform.{IsPolyform}
 use Rattle.heesch_place.specs.Universes.{Levels}
 use Rattle.heesch_levels.proofs.LevelFacts.{at_once_from}
@@ -17,3 +17,6 @@ returns-clause-ended g c =
       ends = run.ending;
       at_once = at_once_from c.in_ok-search.search.solver c.run.new.self.solver c.in_ok-ending.ending run.at_once run.on.same c.in_ok-search.ensures.no_lines;
     }
+
+pub run-requires-clause-search : goal.run-requires-clause-search
+run-requires-clause-search g c = c.in_ok-search.ensures.search _ _ _ (search rules)

@@ -16,9 +16,9 @@ loop-k-preserved c =
     let step = c.narrow_word-cleared.ensures in
     let was = c.loop-k.invariant in
     record {
-      bits = narrowed_then allowed old mid new to from count was.bits (narrowed_one allowed mid new to from count k c.loop-k-test.true step.here step.other);
-      fewer = fewer_then c.loop-k.cleared c.narrow_word-cleared.result old mid new was.fewer was.same step.fewer step.same;
-      same = same_then c.loop-k.cleared c.narrow_word-cleared.result old mid new was.same step.same;
+      bits = narrowed_then was.bits (narrowed_one allowed mid new to from count k c.loop-k-test.true step.here step.other);
+      fewer = fewer_then c.loop-k.cleared c.narrow_word-cleared.result was.fewer was.same step.fewer step.same;
+      same = same_then c.loop-k.cleared c.narrow_word-cleared.result was.same step.same;
       settled = λ h.
           let both = or_false c.loop-k.cleared c.narrow_word-cleared.result h in
           let same : mid ≡ old = was.same both.0 in

@@ -5,9 +5,7 @@ use Rattle.heesch_region.proofs.Strips.{narrowed_then, inner_strip}
 use Rattle.heesch_region.proofs.flood.flood.Goals as goal
 
 pub loop-window-preserved : goal.loop-window-preserved
-loop-window-preserved g c =
-    let w = c.args.window in
-    narrowed_then g.G.Grid.geometry (is_marked w c.args.taken.now) (is_marked w c.args.kept.now) (is_marked w c.loop-window.kept) (is_marked w c.sweep.new.kept) c.loop-window.invariant c.sweep.ensures.narrowed
+loop-window-preserved g c = narrowed_then c.loop-window.invariant c.sweep.ensures.narrowed
 
 pub returns-clause-settled : goal.returns-clause-settled
 returns-clause-settled g c d e m a =

@@ -1,21 +1,13 @@
-use Rattle.std.proofs.Common.{◌≡◌, ◌+◌, ◌*◌, ◌-◌, ◌<◌, ◌≤◌, ℕ, true, false, Some, length, inl, inr, sym, ap, ◌∙◌, subst, arith}
+use Rattle.std.proofs.Common.{◌≡◌, ◌+◌, ◌*◌, ◌-◌, ◌<◌, ◌≤◌, ℕ, List, Some, length, sym, ap, ◌∙◌, subst, arith}
 use Rattle.std.specs.List.{slice_get}
-use Rattle.std.proofs.lemmas.Bool.{cases_Bool}
-use Rattle.std.specs.Prelude.{nat_lt}
 use Rattle.heesch_grid.specs.declared.Cell.{Cell}
 use Rattle.heesch_grid.specs.Geometry.{IsCell}
 use Rattle.heesch_region.specs.Bits.{AreNarrowed, AreSettled}
-use Rattle.heesch_region.specs.Windows.{size, place, is_marked}
+use Rattle.heesch_region.specs.Windows.{size, place}
 use Rattle.heesch_region.proofs.Places.{inside-is}
-use Rattle.heesch_region.proofs.Rows.{fewer_then, same_then, or_false}
+use Rattle.heesch_region.proofs.Rows.{fewer_then, same_then, settled_then}
 use Rattle.heesch_region.proofs.Strips.{neighbour_of, neighbour_in, words_there, reads, narrowed_cells, settled_cells, settled_none, narrowed_then}
 use Rattle.heesch_region.proofs.flood.narrow_strip.Goals as goal
-
-below : (m n : ℕ) → nat_lt m n ≡ true → m < n
-below m n h = grind arith
-
-above : (m n : ℕ) → nat_lt m n ≡ false → n ≤ m
-above m n h = grind arith
 
 some : {x y : Cell} → Some x ≡ Some y → x ≡ y
 some e = cc
@@ -56,27 +48,18 @@ loop-i-preserved g c =
     let n = c.args.strip in
     let d = c.adjacent.result in
     let taken = c.args.taken.now in
-    let old = c.args.kept.now in
     let mid = c.loop-i.kept in
     let new = c.narrow-cleared.new.words in
     let was = c.loop-i.invariant in
     let step = c.narrow-cleared.ensures in
     let a = neighbour_of geometry law w c.requires.unit n c.requires.from c.requires.to c.first-first.result c.first-first.ensures.is (sym c.is_cell.ensures ∙ c.if-not-is_cell.false) c.loop-i.i d c.adjacent.ensures in
     let at = c.place-from.ensures.is in
+    let settled : List ℕ → ℕ → Type 0 = λ ws m. AreSettled taken ws (n * w.words + 1) m (64 * (w.words - 2)) in
     record {
-      narrowed = narrowed_then geometry (is_marked w taken) (is_marked w old) (is_marked w mid) (is_marked w new) was.narrowed (narrowed_cells geometry law w c.requires.unit n c.requires.from c.requires.to d a taken mid new (subst (λ m. AreNarrowed taken (n * w.words + 1) m (w.words - 2) mid new) at step.bits));
-      fewer = fewer_then c.loop-i.cleared c.narrow-cleared.result old mid new was.fewer was.same step.fewer step.same;
-      same = same_then c.loop-i.cleared c.narrow-cleared.result old mid new was.same step.same;
-      settled = λ h k e l is.
-          let both = or_false c.loop-i.cleared c.narrow-cleared.result h in
-          let same : mid ≡ old = was.same both.0 in
-          elim (cases_Bool (nat_lt k c.loop-i.i)) [
-            | inl t ↦ was.settled both.0 k e (below k c.loop-i.i t) is
-            | inr f ↦
-                let last : k ≡ c.loop-i.i = let m = above k c.loop-i.i f in omega (arith, m, l) in
-                let here : e ≡ d = some (sym is ∙ ap (slice_get (geometry.adjacent c.first-first.result)) last ∙ c.adjacent.ensures) in
-                subst (λ ws. AreSettled taken ws (n * w.words + 1) (place w e) (64 * (w.words - 2))) same (subst (λ m. AreSettled taken mid (n * w.words + 1) m (64 * (w.words - 2))) (at ∙ ap (place w) (sym here)) (step.settled both.1))
-          ];
+      narrowed = narrowed_then was.narrowed (narrowed_cells geometry law w c.requires.unit n c.requires.from c.requires.to d a taken mid new (subst (λ m. AreNarrowed taken (n * w.words + 1) m (w.words - 2) mid new) at step.bits));
+      fewer = fewer_then c.loop-i.cleared c.narrow-cleared.result was.fewer was.same step.fewer step.same;
+      same = same_then c.loop-i.cleared c.narrow-cleared.result was.same step.same;
+      settled = settled_then c.loop-i.cleared c.narrow-cleared.result (λ ws k. (e : Cell) → slice_get (geometry.adjacent c.first-first.result) k ≡ Some e → settled ws (place w e)) c.loop-i.i was.same was.settled (λ still e is. subst (settled mid) (at ∙ ap (place w) (some (sym c.adjacent.ensures ∙ is))) (step.settled still));
     }
 
 pub returns-clause-settled : goal.returns-clause-settled
@@ -88,4 +71,4 @@ returns-clause-settled g c e =
     let is = c.first-first.ensures.is in
     let first_in : IsCell geometry first = sym c.is_cell.ensures ∙ c.if-not-is_cell.false in
     let count : c.ADJACENT-i-end.result ≡ geometry.adjacent_count = c.ADJACENT-i-end.ensures ∙ g.met.G.Grid.sizes.adjacent_is in
-    settled_cells geometry law w c.requires.unit c.args.strip c.requires.from c.requires.to c.args.taken.now c.args.kept.now c.requires.cells (λ k d l at. c.loop-i.invariant.settled e k d (omega (arith, l, count, c.loop-i-test.false)) (ap (λ f. slice_get (geometry.adjacent f) k) is ∙ at))
+    settled_cells geometry law w c.requires.unit c.args.strip c.requires.from c.requires.to c.args.taken.now c.args.kept.now c.requires.cells (λ k d l at. c.loop-i.invariant.settled e k (omega (arith, l, count, c.loop-i-test.false)) d (ap (λ f. slice_get (geometry.adjacent f) k) is ∙ at))

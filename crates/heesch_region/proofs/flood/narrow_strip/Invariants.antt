@@ -11,5 +11,5 @@ invariant-loop-i g l = record {
   narrowed : IsNarrowed g.G.Grid.geometry (is_marked l.window l.taken) (is_marked l.window l.initial.kept) (is_marked l.window l.kept);
   fewer : l.cleared ≡ true → sum l.kept < sum l.initial.kept;
   same : l.cleared ≡ false → l.kept ≡ l.initial.kept;
-  settled : l.cleared ≡ false → (k : ℕ) (d : Cell) → k < l.i → slice_get (g.G.Grid.geometry.adjacent l.first) k ≡ Some d → AreSettled l.taken l.initial.kept (l.strip * l.window.words + 1) (place l.window d) (64 * (l.window.words - 2));
+  settled : l.cleared ≡ false → (k : ℕ) → k < l.i → (d : Cell) → slice_get (g.G.Grid.geometry.adjacent l.first) k ≡ Some d → AreSettled l.taken l.initial.kept (l.strip * l.window.words + 1) (place l.window d) (64 * (l.window.words - 2));
 }

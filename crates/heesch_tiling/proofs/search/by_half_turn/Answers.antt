@@ -41,6 +41,5 @@ pub returns-clause-none : goal.returns-clause-none
 returns-clause-none g c =
     let geometry = g.G.Grid.geometry in
     let xs = c.cells-cells.result.now in
-    let left = subst (IsSearch c.in_ok-area.area (HasShift geometry xs)) c.in-None.ensures.steps.0 c.loop-triple.invariant in
     subst (NoTilingByHalfTurn geometry) c.cells-cells.ensures.cells
-    (never_by_half_turn geometry g.met.G.Grid.laws xs c.in_ok-area.area (area_is g (goal.at.returns-clause-none g c).In_ok-area).0 left)
+    (never_by_half_turn geometry g.met.G.Grid.laws xs c.in_ok-area.area (area_is g (goal.at.returns-clause-none g c).In_ok-area).0 (subst (IsSearch c.in_ok-area.area (HasShift geometry xs)) c.in-None.ensures.steps.0 c.loop-triple.invariant))

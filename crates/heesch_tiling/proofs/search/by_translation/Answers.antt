@@ -29,6 +29,5 @@ pub returns-clause-none : goal.returns-clause-none
 returns-clause-none g c =
     let geometry = g.G.Grid.geometry in
     let xs = c.cells-cells.result.now in
-    let left = subst (IsSearch c.in_ok-area.area (CoversAlone geometry xs)) c.in-None.ensures.steps.0 c.loop-triple.invariant in
     subst (NoTilingByTranslation geometry) c.cells-cells.ensures.cells
-    (never_by_translation geometry g.met.G.Grid.laws xs c.in_ok-area.area (of_area g (goal.at.returns-clause-none g c).In_ok-area) left)
+    (never_by_translation geometry g.met.G.Grid.laws xs c.in_ok-area.area (of_area g (goal.at.returns-clause-none g c).In_ok-area) (subst (IsSearch c.in_ok-area.area (CoversAlone geometry xs)) c.in-None.ensures.steps.0 c.loop-triple.invariant))

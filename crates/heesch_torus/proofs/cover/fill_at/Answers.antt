@@ -9,7 +9,7 @@ pub fill_beside-requires-clause-within : goal.fill_beside-requires-clause-within
 fill_beside-requires-clause-within g c = within_full g.G.Grid.geometry c.args.cells.now c.args.triple c.args.full c.requires.full (unmoved c.args.turn) c.in-Some.first c.in-Some.ensures.found
 
 pub returns-in_default-clause-answer : goal.returns-in_default-clause-answer
-returns-in_default-clause-answer g c = λ first is found inside fills. double_unmasked g.G.Grid.geometry c.args.cells.now c.args.triple g.met.G.Grid.laws c.requires.triple (unmoved c.args.turn) first c.in_default.ensures.none is
+returns-in_default-clause-answer g c = λ first is found inside fills. double_unmasked g.G.Grid.geometry c.args.cells.now c.args.triple g.met.G.Grid.laws c.requires.maskable.triple (unmoved c.args.turn) first c.in_default.ensures.none is
 
 pub returns-in_ok-push-in-Filled-clause-answer : goal.returns-in_ok-push-in-Filled-clause-answer
 returns-in_ok-push-in-Filled-clause-answer g c =

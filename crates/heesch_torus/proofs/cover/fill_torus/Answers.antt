@@ -1,5 +1,4 @@
 use Rattle.std.proofs.Common.{◌≡◌, ℕ, List, length, ◌-◌, ◌*◌, ◌^◌, ◌<◌, All, Contains, subst, arith}
-use Rattle.heesch_tiling.proofs.Steps.{cells_near}
 use Rattle.heesch_torus.specs.Beside.{FillBeside}
 use Rattle.heesch_torus.specs.Masks.{IsMaskOf, HasMasksFrom}
 use Rattle.heesch_torus.specs.Covers.{unmoved, IsFillingAt}
@@ -7,42 +6,36 @@ use Rattle.heesch_torus.proofs.Filled.{no_cover}
 use Rattle.heesch_torus.proofs.Turning.{masks_now, next_masks, next_none, masks_few, few_nodes, used_more}
 use Rattle.heesch_torus.proofs.cover.fill_torus.Goals as goal
 
-pub add_masks-requires-clause-cells : goal.add_masks-requires-clause-cells
-add_masks-requires-clause-cells g c = cells_near g.G.Grid.geometry c.args.cells.now c.requires.form c.requires.near
-
-pub fill_at-requires-clause-cells : goal.fill_at-requires-clause-cells
-fill_at-requires-clause-cells g c = cells_near g.G.Grid.geometry c.args.cells.now c.requires.form c.requires.near
-
 pub fill_at-requires-clause-masks : goal.fill_at-requires-clause-masks
 fill_at-requires-clause-masks g c =
     let turns : c.TURNS.result ≡ g.G.Grid.geometry.turns = omega (arith, g.met.G.Grid.sizes.turns_is, c.TURNS.ensures) in
     let less : c.loop-done.done < c.TURNS.result = omega (arith, turns, c.loop-done-test.true, c.TURNS-done-end.ensures, c.TURNS.ensures) in
-    masks_now g.G.Grid.geometry g.met.G.Grid.laws c.args.cells.now c.args.triple c.requires.triple c.requires.form c.TURNS.result c.loop-done.done turns less c.loop-done.masks.items c.add_masks.new.masks.items c.deref.result.now c.deref.ensures.value c.loop-done.invariant.masks c.in_ok-add_masks.ensures
+    masks_now g.G.Grid.geometry g.met.G.Grid.laws c.args.cells.now c.args.triple c.requires.maskable.triple c.requires.form c.TURNS.result c.loop-done.done turns less c.loop-done.masks.items c.add_masks.new.masks.items c.deref.result.now c.deref.ensures.value c.loop-done.invariant.masks c.in_ok-add_masks.ensures
 
 pub returns-in-Open : goal.returns-in-Open
 returns-in-Open g c =
     let turns : c.TURNS.result ≡ g.G.Grid.geometry.turns = omega (arith, g.met.G.Grid.sizes.turns_is, c.TURNS.ensures) in
     let less : c.loop-done.done < c.TURNS.result = omega (arith, turns, c.loop-done-test.true, c.TURNS-done-end.ensures, c.TURNS.ensures) in
-    let have : HasMasksFrom g.G.Grid.geometry c.args.cells.now c.args.triple (c.TURNS.result - 1 - c.loop-done.done) c.deref.result.now = masks_now g.G.Grid.geometry g.met.G.Grid.laws c.args.cells.now c.args.triple c.requires.triple c.requires.form c.TURNS.result c.loop-done.done turns less c.loop-done.masks.items c.add_masks.new.masks.items c.deref.result.now c.deref.ensures.value c.loop-done.invariant.masks c.in_ok-add_masks.ensures in
+    let have : HasMasksFrom g.G.Grid.geometry c.args.cells.now c.args.triple (c.TURNS.result - 1 - c.loop-done.done) c.deref.result.now = masks_now g.G.Grid.geometry g.met.G.Grid.laws c.args.cells.now c.args.triple c.requires.maskable.triple c.requires.form c.TURNS.result c.loop-done.done turns less c.loop-done.masks.items c.add_masks.new.masks.items c.deref.result.now c.deref.ensures.value c.loop-done.invariant.masks c.in_ok-add_masks.ensures in
     let short : c.loop-done.left < 2 ^ length c.deref.result.now = subst (IsFillingAt g.G.Grid.geometry c.args.cells.now c.args.triple (c.TURNS.result - 1 - c.loop-done.done) c.deref.result.now c.args.full c.loop-done.left) c.in-Open.is c.in_ok-filling.ensures.answer in
     few_nodes c.args.nodes c.loop-done.left c.loop-done.done g.G.Grid.geometry.turns (g.G.Grid.geometry.turns * (c.args.triple.p * c.args.triple.q)) (length c.deref.result.now)
-    (masks_few g.G.Grid.geometry g.met.G.Grid.laws c.args.cells.now c.requires.form c.args.triple c.requires.triple c.args.full c.requires.full c.requires.few c.TURNS.result c.loop-done.done turns less c.deref.result.now have) (omega (arith, turns, less)) c.loop-done.invariant.used short
+    (masks_few g.G.Grid.geometry g.met.G.Grid.laws c.args.cells.now c.requires.form c.args.triple c.requires.maskable.triple c.args.full c.requires.full c.requires.maskable.few c.TURNS.result c.loop-done.done turns less c.deref.result.now have) (omega (arith, turns, less)) c.loop-done.invariant.used short
 
 pub loop-done-preserved : goal.loop-done-preserved
 loop-done-preserved g c =
     let turns : c.TURNS.result ≡ g.G.Grid.geometry.turns = omega (arith, g.met.G.Grid.sizes.turns_is, c.TURNS.ensures) in
     let less : c.loop-done.done < c.TURNS.result = omega (arith, turns, c.loop-done-test.true, c.TURNS-done-end.ensures, c.TURNS.ensures) in
-    let have : HasMasksFrom g.G.Grid.geometry c.args.cells.now c.args.triple (c.TURNS.result - 1 - c.loop-done.done) c.deref.result.now = masks_now g.G.Grid.geometry g.met.G.Grid.laws c.args.cells.now c.args.triple c.requires.triple c.requires.form c.TURNS.result c.loop-done.done turns less c.loop-done.masks.items c.add_masks.new.masks.items c.deref.result.now c.deref.ensures.value c.loop-done.invariant.masks c.in_ok-add_masks.ensures in
+    let have : HasMasksFrom g.G.Grid.geometry c.args.cells.now c.args.triple (c.TURNS.result - 1 - c.loop-done.done) c.deref.result.now = masks_now g.G.Grid.geometry g.met.G.Grid.laws c.args.cells.now c.args.triple c.requires.maskable.triple c.requires.form c.TURNS.result c.loop-done.done turns less c.loop-done.masks.items c.add_masks.new.masks.items c.deref.result.now c.deref.ensures.value c.loop-done.invariant.masks c.in_ok-add_masks.ensures in
     let none : (first : ℕ) → IsMaskOf g.G.Grid.geometry c.args.cells.now c.args.triple (unmoved (c.TURNS.result - 1 - c.loop-done.done)) first → (found : List ℕ) → All (Contains c.deref.result.now) found → ¬ FillBeside first c.args.full found = subst (IsFillingAt g.G.Grid.geometry c.args.cells.now c.args.triple (c.TURNS.result - 1 - c.loop-done.done) c.deref.result.now c.args.full c.loop-done.left) c.in-None.is c.in_ok-filling.ensures.answer in
     record {
-      masks = next_masks g.G.Grid.geometry g.met.G.Grid.laws c.args.cells.now c.requires.form c.args.triple c.requires.triple c.args.full c.requires.full c.requires.few c.TURNS.result c.loop-done.done turns less c.add_masks.new.masks.items (subst (HasMasksFrom g.G.Grid.geometry c.args.cells.now c.args.triple (c.TURNS.result - 1 - c.loop-done.done)) c.deref.ensures.value have);
-      none = next_none g.G.Grid.geometry g.met.G.Grid.laws c.args.cells.now c.requires.form c.args.triple c.requires.triple c.args.full c.requires.full c.requires.few c.TURNS.result c.loop-done.done turns less c.deref.result.now have none c.loop-done.invariant.none;
+      masks = next_masks g.G.Grid.geometry g.met.G.Grid.laws c.args.cells.now c.requires.form c.args.triple c.requires.maskable.triple c.args.full c.requires.full c.requires.maskable.few c.TURNS.result c.loop-done.done turns less c.add_masks.new.masks.items (subst (HasMasksFrom g.G.Grid.geometry c.args.cells.now c.args.triple (c.TURNS.result - 1 - c.loop-done.done)) c.deref.ensures.value have);
+      none = next_none g.G.Grid.geometry g.met.G.Grid.laws c.args.cells.now c.requires.form c.args.triple c.requires.maskable.triple c.args.full c.requires.full c.requires.maskable.few c.TURNS.result c.loop-done.done turns less c.deref.result.now have none c.loop-done.invariant.none;
       used = used_more c.args.nodes c.loop-done.left c.fill_at.new.nodes c.loop-done.done (g.G.Grid.geometry.turns * (c.args.triple.p * c.args.triple.q)) (length c.deref.result.now)
-          (masks_few g.G.Grid.geometry g.met.G.Grid.laws c.args.cells.now c.requires.form c.args.triple c.requires.triple c.args.full c.requires.full c.requires.few c.TURNS.result c.loop-done.done turns less c.deref.result.now have) c.loop-done.invariant.used c.in_ok-filling.ensures.used;
+          (masks_few g.G.Grid.geometry g.met.G.Grid.laws c.args.cells.now c.requires.form c.args.triple c.requires.maskable.triple c.args.full c.requires.full c.requires.maskable.few c.TURNS.result c.loop-done.done turns less c.deref.result.now have) c.loop-done.invariant.used c.in_ok-filling.ensures.used;
     }
 
 pub returns : goal.returns
 returns g c =
     let turns : c.TURNS-done-end.result ≡ g.G.Grid.geometry.turns = omega (arith, g.met.G.Grid.sizes.turns_is, c.TURNS-done-end.ensures) in
-    no_cover g.G.Grid.geometry g.met.G.Grid.laws c.args.cells.now c.requires.form c.args.triple c.requires.triple
+    no_cover g.G.Grid.geometry g.met.G.Grid.laws c.args.cells.now c.requires.form c.args.triple c.requires.maskable.triple
     (λ turn below. c.loop-done.invariant.none turn (omega (arith, turns, c.loop-done-test.false, c.loop-done.auto.done-end)) below)

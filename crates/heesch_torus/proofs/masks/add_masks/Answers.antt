@@ -7,7 +7,7 @@ use Rattle.heesch_torus.proofs.masks.add_masks.Goals as goal
 use Rattle.heesch_torus.proofs.masks.add_masks.Goals.{in-Some+in_ok-push, in_default}
 
 pub loop-k-init : goal.loop-k-init
-loop-k-init g c = adds_no_masks g.G.Grid.geometry c.args.cells.now c.args.triple g.met.G.Grid.laws c.requires.triple c.args.turn c.args.masks.now.items
+loop-k-init g c = adds_no_masks g.G.Grid.geometry c.args.cells.now c.args.triple g.met.G.Grid.laws c.requires.maskable.triple c.args.turn c.args.masks.now.items
 
 pub loop-k-preserved : goal.loop-k-preserved
 loop-k-preserved g c =
@@ -16,12 +16,12 @@ loop-k-preserved g c =
           let is : IsMaskOf g.G.Grid.geometry c.args.cells.now c.args.triple (tried c.args.triple c.args.turn c.loop-k.k) w.in-Some.mask =
           subst (λ (by : Iso). IsMaskOf g.G.Grid.geometry c.args.cells.now c.args.triple by w.in-Some.mask) c.isometry_at.ensures w.in-Some.ensures.found in
           subst (λ (v : List ℕ). AddsMasks g.G.Grid.geometry c.args.cells.now c.args.triple c.args.turn (c.loop-k.k + 1) c.args.masks.now.items v) (sym (λ i. (w.masks-is i).items))
-          (adds_mask g.G.Grid.geometry c.args.cells.now c.args.triple g.met.G.Grid.laws c.requires.triple c.args.turn c.loop-k.k c.args.masks.now.items c.loop-k.masks.items c.loop-k.invariant w.in-Some.mask w.push.new.self.items is w.in_ok-push.ensures.items)
+          (adds_mask g.G.Grid.geometry c.args.cells.now c.args.triple g.met.G.Grid.laws c.requires.maskable.triple c.args.turn c.loop-k.k c.args.masks.now.items c.loop-k.masks.items c.loop-k.invariant w.in-Some.mask w.push.new.self.items is w.in_ok-push.ensures.items)
       | in_default w ↦
           let double : HasDouble g.G.Grid.geometry c.args.cells.now c.args.triple (tried c.args.triple c.args.turn c.loop-k.k) =
           subst (HasDouble g.G.Grid.geometry c.args.cells.now c.args.triple) c.isometry_at.ensures w.in_default.ensures.none in
           subst (λ (v : List ℕ). AddsMasks g.G.Grid.geometry c.args.cells.now c.args.triple c.args.turn (c.loop-k.k + 1) c.args.masks.now.items v) (sym (λ i. (w.masks-is i).items))
-          (adds_double g.G.Grid.geometry c.args.cells.now c.args.triple g.met.G.Grid.laws c.requires.triple c.args.turn c.loop-k.k c.args.masks.now.items c.loop-k.masks.items c.loop-k.invariant double)
+          (adds_double g.G.Grid.geometry c.args.cells.now c.args.triple g.met.G.Grid.laws c.requires.maskable.triple c.args.turn c.loop-k.k c.args.masks.now.items c.loop-k.masks.items c.loop-k.invariant double)
     ]
 
 pub returns : goal.returns

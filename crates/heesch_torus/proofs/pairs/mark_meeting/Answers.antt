@@ -3,9 +3,9 @@ use Rattle.std.specs.Prelude.{slice_index_or}
 use Rattle.std.specs.List.{list_any}
 use Rattle.std.proofs.lemmas.List.{take_all, get_or_default, length-map}
 use Rattle.heesch_grid.specs.declared.Cell.{Cell}
-use Rattle.heesch_grid.specs.Cells.{cell, meet}
+use Rattle.heesch_grid.specs.Cells.{cell, meet, set_of}
 use Rattle.heesch_torus.specs.Covering.{having}
-use Rattle.heesch_torus.specs.Marks.{Marks, set_numbered}
+use Rattle.heesch_torus.specs.Marks.{Marks}
 use Rattle.heesch_torus.specs.Variables.{TorusVariable, sets_of, IsReducedSet}
 use Rattle.heesch_torus.proofs.Numbering.{set_at, sets_before}
 use Rattle.heesch_torus.proofs.Excluding.{list_of_cell, list_in_range, meeting_more}
@@ -46,6 +46,6 @@ returns g c =
     let x = c.index-variables-at.result in
     let cells : c.as_slice-c-items.result.now ≡ c.index-variables-at.result.cells = c.as_slice-c-items.ensures.value ∙ ap (λ (x : TorusVariable). x.cells) c.variable.view_is in
     let place : c.args.at + 1 - 1 ≡ c.args.at = omega arith in
-    let whole : take c.loop-c.c-index c.as_slice-c-items.result.now ≡ set_numbered (sets_of c.args.variables.now) (c.args.at + 1) =
+    let whole : take c.loop-c.c-index c.as_slice-c-items.result.now ≡ set_of (sets_of c.args.variables.now) (c.args.at + 1) =
     take_all c.loop-c.c-index c.as_slice-c-items.result.now (omega (arith, c.loop-c-test.false)) ∙ cells ∙ sym (set_at vars c.args.at x c.requires.at c.index-variables-at.is) ∙ ap (λ k. slice_index_or (sets_of c.args.variables.now) k []) (sym place) in
-    subst (λ (s : List Cell). Marks (λ v. meet s (set_numbered (sets_of c.args.variables.now) v)) (c.args.at + 1) c.args.marks.now c.loop-c.marks) whole c.loop-c.invariant
+    subst (λ (s : List Cell). Marks (λ v. meet s (set_of (sets_of c.args.variables.now) v)) (c.args.at + 1) c.args.marks.now c.loop-c.marks) whole c.loop-c.invariant

@@ -1,8 +1,8 @@
 use Rattle.std.proofs.Common.{◌+◌, take}
-use Rattle.heesch_grid.specs.Cells.{meet}
+use Rattle.heesch_grid.specs.Cells.{meet, set_of}
 use Rattle.heesch_torus.specs.Variables.{sets_of}
-use Rattle.heesch_torus.specs.Marks.{Marks, set_numbered}
+use Rattle.heesch_torus.specs.Marks.{Marks}
 use Rattle.heesch_torus.proofs.pairs.mark_meeting.Given as goal
 
 abbrev pub invariant-loop-c : goal.invariant-loop-c
-invariant-loop-c g l = Marks (λ v. meet (take l.c-index l.c-items) (set_numbered (sets_of l.variables) v)) (l.at + 1) l.initial.marks l.marks
+invariant-loop-c g l = Marks (λ v. meet (take l.c-index l.c-items) (set_of (sets_of l.variables) v)) (l.at + 1) l.initial.marks l.marks

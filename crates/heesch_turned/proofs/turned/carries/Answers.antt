@@ -2,7 +2,7 @@ use Rattle.std.proofs.Common.{subst, sym, ◌∙◌, true≢false}
 use Rattle.heesch_grid.specs.declared.Cell.{Cell}
 use Rattle.heesch_grid.specs.Geometry.{moved}
 use Rattle.heesch_grid.specs.Lattice.{DiffersByLattice}
-use Rattle.heesch_turned.specs.Turned.{origin}
+use Rattle.heesch_grid.specs.Cells.{origin}
 use Rattle.heesch_turned.proofs.turned.carries.Goals as goal
 
 pub returns-then-same : goal.returns-then-same

@@ -3,9 +3,9 @@ use Rattle.heesch_cert.specs.declared.header.Subject.{Subject}
 use Rattle.heesch_cert.specs.declared.limits.Limits.{Limits}
 use Rattle.heesch_grid.specs.declared.GridName.{GridName}
 use Rattle.heesch_grid.specs.Names.{grid_word}
-use Rattle.heesch_cert.specs.Sizes.{IsSubject}
+use Rattle.heesch_cert.specs.Sizes.{IsSubject, subject_word}
 use Rattle.heesch_words.specs.Options.{limits_of}
-use Rattle.heesch_words.specs.Requests.{HasClassifyForm, subject_word}
+use Rattle.heesch_words.specs.Requests.{HasClassifyForm}
 use Rattle.heesch_words.proofs.Forms.{no_options, subject_refused}
 use Rattle.heesch_words.proofs.shared_forms.classify_form.Goals as goal
 

@@ -5,8 +5,8 @@ use Rattle.std.specs.Ordering.{ordering_index}
 use Rattle.std.specs.declared.cmp.Ordering.{Ordering}
 use Rattle.std.specs.declared.cmp.Ordering.TheVariants.{Less, Equal, Greater}
 use Rattle.std.proofs.lemmas.Fn.{always_returns_same}
-use Rattle.heesch_grid.specs.CoronaFormula.{Variable}
-use Rattle.heesch_place.specs.Universes.{Levels, IsNumbered, variable_cmp}
+use Rattle.heesch_grid.specs.CoronaFormula.{Variable, IsNumbered}
+use Rattle.heesch_place.specs.Universes.{Levels, variable_cmp}
 use Rattle.heesch_place.proofs.Numbering.{number_found, number_none}
 use Rattle.heesch_place.specs.declared.universe.Entry.{Entry}
 use Rattle.heesch_place.proofs.universe.Universe.number_of.Goals as goal

@@ -1,7 +1,0 @@
-use Rattle.std.proofs.Common.{arith}
-use Rattle.std.proofs.lemmas.Int.{ints}
-use Rattle.heesch_grid.specs.Pairs.{Cell-eta}
-use Rattle.heesch_encode.proofs.around.moved.Goals as goal
-
-pub returns : goal.returns
-returns c = Cell-eta _ _ (omega (arith, ints)) (omega (arith, ints))

@@ -1,5 +1,0 @@
-use Rattle.heesch_near.proofs.Shapes.{shapes_are_near}
-use Rattle.heesch_near.proofs.laws.shapes_are_near.Goals as goal
-
-pub returns : goal.returns
-returns c = shapes_are_near
