@@ -2,8 +2,8 @@ use Rattle.std.proofs.Common.{inl, inr, ◌≡◌, ℕ, ◌+◌, ◌<◌, ◌≤
 use Rattle.std.specs.List.{Contains}
 use Rattle.std.proofs.lemmas.Bool.{cases_lt}
 use Rattle.std.proofs.lemmas.Bool.Decides.{Decides-eqb}
-use Rattle.std.proofs.lemmas.List.{get_or_default, get_or-append-add, get_or-map, length-map}
-use Rattle.std.proofs.lemmas.List.Elements.{All-head, All-tail, All-weaker, All-contains}
+use Rattle.std.proofs.lemmas.List.{get_or_default, get_or_append_left, get_or-append-add, get_or-map, length-map}
+use Rattle.std.proofs.lemmas.List.Elements.{All-append, All-head, All-tail, All-weaker, All-contains}
 use Rattle.heesch_cnf.specs.declared.literal.Lit.{Lit}
 use Rattle.heesch_cnf.specs.declared.log.Line.{Line}
 use Rattle.heesch_cnf.specs.declared.log.Line.TheVariants.{Given}
@@ -15,7 +15,7 @@ use Rattle.heesch_cnf.proofs.Rising.{Rises, Rises-from_adjacent}
 use Rattle.heesch_cnf.specs.Flat.{code_of}
 use Rattle.heesch_rup.specs.Answer.{AreNewBetween}
 use Rattle.heesch_rup.specs.Listed.{slot_of, IsFalsified, SomeFalsified, NoneFalsifiedAt}
-use Rattle.heesch_rup.proofs.Forms.{take-clauses_with}
+use Rattle.heesch_rup.proofs.Forms.{take-map}
 use Rattle.heesch_rup.proofs.Rarest.{rarest-of}
 
 same_literal : (x l : Lit) → x.var ≡ l.var → signed l.positive (Some (not x.positive)) ≡ Some false → x ≡ l
@@ -117,18 +117,27 @@ fresh_more clauses lines i clause is before here k d below = elim (cases_lt k i)
       subst (λ n. IsNew (clauses_with clauses (take n lines)) (clause_of (get_or lines n d))) same (subst (λ (c : List Lit). IsNew (clauses_with clauses (take i lines)) c) (is d) here)
 ]
 
--- that a line is new, among the first n clauses of the formula and the lines, and among those before it
-pub fresh_line : (clauses added : List (List Lit)) (lines : List Line) (n i : ℕ) (clause : List Lit) → added ≡ clauses_of lines → n ≡ length clauses + i →
-    IsNew (take n (clauses ++ added)) clause → IsNew (clauses_with clauses (take i lines)) clause
-fresh_line clauses added lines n i clause same n_is fresh =
-    subst (λ (cs : List (List Lit)). IsNew cs clause) (take-clauses_with clauses lines n i n_is) (subst (λ (cs : List (List Lit)). IsNew (take n (clauses ++ cs)) clause) same fresh)
+-- a clause is new among two lists exactly where it is in both
+pub new_in_both : (clauses more : List (List Lit)) (clause : List Lit) → IsNew clauses clause → IsNew more clause → IsNew (clauses ++ more) clause
+new_in_both clauses more clause one two = All-append (λ e. IsWithin e clause → ⊥) clauses more one two
 
-pub line_of_new : (clauses added : List (List Lit)) (lines : List Line) (n i : ℕ) (clause : List Lit) → added ≡ clauses_of lines → n ≡ length clauses + i → ((d : Line) → clause ≡ clause_of (get_or lines i d)) →
-    ((d : Line) → IsNew (clauses_with clauses (take i lines)) (clause_of (get_or lines i d))) → IsNew (take n (clauses ++ added)) clause
-line_of_new clauses added lines n i clause same n_is is fresh =
+pub new_in_first : (clauses more : List (List Lit)) (clause : List Lit) → IsNew (clauses ++ more) clause → IsNew clauses clause
+new_in_first clauses more clause fresh k d lt = subst (λ e. IsWithin e clause → ⊥) (get_or_append_left clauses more d k lt) (fresh k d (omega (arith, lt, length-append clauses more)))
+
+pub new_in_second : (clauses more : List (List Lit)) (clause : List Lit) → IsNew (clauses ++ more) clause → IsNew more clause
+new_in_second clauses more clause fresh k d lt = subst (λ e. IsWithin e clause → ⊥) (get_or-append-add clauses more k d) (fresh (length clauses + k) d (omega (arith, lt, length-append clauses more)))
+
+-- that a line is new, among the clauses of the formula and the first that lines added, and among those before it
+pub fresh_line : (clauses added : List (List Lit)) (lines : List Line) (i : ℕ) (clause : List Lit) → added ≡ clauses_of lines → IsNew (clauses ++ take i added) clause → IsNew (clauses_with clauses (take i lines)) clause
+fresh_line clauses added lines i clause same fresh =
+    subst (λ (cs : List (List Lit)). IsNew (clauses ++ cs) clause) (ap (λ (cs : List (List Lit)). take i cs) same ∙ take-map i lines) fresh
+
+pub line_of_new : (clauses added : List (List Lit)) (lines : List Line) (i : ℕ) (clause : List Lit) → added ≡ clauses_of lines → ((d : Line) → clause ≡ clause_of (get_or lines i d)) →
+    ((d : Line) → IsNew (clauses_with clauses (take i lines)) (clause_of (get_or lines i d))) → IsNew (clauses ++ take i added) clause
+line_of_new clauses added lines i clause same is fresh =
     let d : Line = Given [] in
     let here = subst (λ (c : List Lit). IsNew (clauses_with clauses (take i lines)) c) (sym (is d)) (fresh d) in
-    subst (λ (cs : List (List Lit)). IsNew (take n (clauses ++ cs)) clause) (sym same) (subst (λ (cs : List (List Lit)). IsNew cs clause) (sym (take-clauses_with clauses lines n i n_is)) here)
+    subst (λ (cs : List (List Lit)). IsNew (clauses ++ cs) clause) (sym (ap (λ (cs : List (List Lit)). take i cs) same ∙ take-map i lines)) here
 
 -- one line more of those from a first one is new
 pub between_more : (clauses : List (List Lit)) (lines : List Line) (from i : ℕ) (clause : List Lit) → ((d : Line) → clause ≡ clause_of (get_or lines i d)) → AreNewBetween clauses lines from i →
@@ -141,10 +150,8 @@ between_more clauses lines from i clause is before here k d le lt = elim (cases_
 ]
 
 -- the clause of a line, which was added, is one over the variables
-pub line_clause : (vars : ℕ) (clauses added : List (List Lit)) (lines : List Line) (i : ℕ) → AreClauses vars (clauses ++ added) → added ≡ clauses_of lines → i < length added → (d : Line) → IsClause vars (clause_of (get_or lines i d))
-line_clause vars clauses added lines i form is lt d =
-    let n : ℕ = length clauses + i in
+pub line_clause : (vars : ℕ) (added : List (List Lit)) (lines : List Line) (i : ℕ) → AreClauses vars added → added ≡ clauses_of lines → i < length added → (d : Line) → IsClause vars (clause_of (get_or lines i d))
+line_clause vars added lines i form is lt d =
     let e : List Lit = clause_of d in
-    let at = form n e (omega (arith, lt, length-append clauses added)) in
     let few : i < length lines = omega (arith, lt, ap length is, length-map lines clause_of) in
-    subst (IsClause vars) (get_or-append-add clauses added i e ∙ (ap (λ (cs : List (List Lit)). get_or cs i e) is ∙ get_or-map clause_of lines i d e few)) at
+    subst (IsClause vars) (ap (λ (cs : List (List Lit)). get_or cs i e) is ∙ get_or-map clause_of lines i d e few) (form i e lt)

@@ -54,7 +54,7 @@ pub added_all : (vars : ℕ) (lines : List Line) (i : ℕ) (added : Clauses) →
 added_all vars lines i added le is = subst (λ (ls : List Line). added ≡ record { vars = vars; clauses = clauses_of ls }) (take_whole i lines le) is
 
 -- the first clauses of the formula and the lines are those of the formula and the first lines
-take-map : (i : ℕ) (lines : List Line) → take i (clauses_of lines) ≡ clauses_of (take i lines)
+pub take-map : (i : ℕ) (lines : List Line) → take i (clauses_of lines) ≡ clauses_of (take i lines)
 take-map zero lines = refl
 take-map (suc i) [] = refl
 take-map (suc i) (x ∷ xs) = ap (λ cs. clause_of x ∷ cs) (take-map i xs)

@@ -1,5 +1,5 @@
 -- At which number a clause is listed.
-use Rattle.std.specs.Prelude.{◌≡◌, ◌≢◌, ℕ, ◌+◌, ◌*◌, ◌<◌, ◌≤◌, ◌++◌, nat_lt, false, Option, None, Some, List, [], ◌∷◌, length, vec_len, All, slice_index_or, if◌then◌else◌}
+use Rattle.std.specs.Prelude.{◌≡◌, ◌≢◌, ℕ, ◌+◌, ◌*◌, ◌<◌, ◌≤◌, nat_lt, false, Option, None, Some, List, [], ◌∷◌, length, vec_len, All, slice_index_or, if◌then◌else◌}
 use Rattle.heesch_cnf.specs.declared.literal.Lit.{Lit}
 use Rattle.heesch_cnf.specs.Literals.{Values, lit_value}
 use Rattle.heesch_cnf.specs.Clauses.{AreClauses}
@@ -35,12 +35,12 @@ pub record ListsFirst (clauses : List (List Lit)) (listed : Occurrences) : Type 
   pub last : (slot : ℕ) → slot < length listed.last.items → IsLastBelow listed.counts.items clauses (length listed.earlier.items) slot (slice_index_or listed.last.items slot None)
   pub earlier : (k : ℕ) → k < length listed.earlier.items → IsLastBelow listed.counts.items clauses k (slot_at listed.counts.items clauses k) (slice_index_or listed.earlier.items k None)
 
--- all clauses of the formula and those that lines added are listed, each by a literal over the variables
-pub record AreAllListed (formula added : Clauses) (listed : Occurrences) : Type 0 where
-  pub form : AreClauses formula.vars (formula.clauses ++ added.clauses)
-  pub slots : vec_len listed.last ≡ 2 * formula.vars + 2
-  pub lists : ListsFirst (formula.clauses ++ added.clauses) listed
-  pub all : vec_len listed.earlier ≡ length (formula.clauses ++ added.clauses)
+-- all clauses are listed, each by a literal over the variables
+pub record AreAllListed (clauses : Clauses) (listed : Occurrences) : Type 0 where
+  pub form : AreClauses clauses.vars clauses.clauses
+  pub slots : vec_len listed.last ≡ 2 * clauses.vars + 2
+  pub lists : ListsFirst clauses.clauses listed
+  pub all : vec_len listed.earlier ≡ length clauses.clauses
 
 -- each literal of the clause is false
 abbrev pub IsFalsified : Values → List Lit → Type 0

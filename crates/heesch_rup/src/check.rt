@@ -15,7 +15,7 @@ use crate::chunks::{CHUNK, LEAST_SPLIT, by_chunks};
 use crate::hints::{reaches_conflict, refute};
 use crate::numbers::are_numbers;
 use crate::steps::Steps;
-use heesch_cnf::{FlatFormula, Formula, Lit, Log, is_clause};
+use heesch_cnf::{ClauseSource, FlatFormula, Formula, Lit, Log, is_clause};
 use heesch_io::NoMemory;
 use std::alloc::Global;
 use std::thread::Threads;
@@ -33,22 +33,22 @@ pub enum LogAnswer {
 
 /// Whether the hints show that the clause follows from the first clauses, so many, of the formula and of what lines added. The
 /// assignment is all open before and after.
-fn is_shown(
+fn is_shown<C: ClauseSource>(
     assignment: &mut Assignment,
-    formula: &FlatFormula,
+    formula: &C,
     added: &FlatFormula,
     count: usize,
     clause: &[Lit],
     hints: &[u32],
 ) -> Result<bool, NoMemory>
-    requires room { formula.now.vars < vec_len assignment.old.values }
+    requires room { (C.listed formula.now).vars < vec_len assignment.old.values }
     requires open { held assignment.old.values.items ≡ all_open }
-    requires clauses { AreClauses formula.now.vars (formula.now.clauses ++ added.now.clauses) }
-    requires count { count ≤ length (formula.now.clauses ++ added.now.clauses) }
-    requires form { IsClause formula.now.vars clause.now }
+    requires clauses { AreClauses (C.listed formula.now).vars ((C.listed formula.now).clauses ++ added.now.clauses) }
+    requires count { count ≤ length ((C.listed formula.now).clauses ++ added.now.clauses) }
+    requires form { IsClause (C.listed formula.now).vars clause.now }
     ensures room { vec_len assignment.new.values ≡ vec_len assignment.old.values }
     ensures open { IfOk result (λ yes. held assignment.new.values.items ≡ all_open) }
-    ensures shown { let clauses = take count (formula.now.clauses ++ added.now.clauses) in
+    ensures shown { let clauses = take count ((C.listed formula.now).clauses ++ added.now.clauses) in
         IfOk result (λ yes. IsTrue yes ↔ IsShown clauses clause.now hints.now) }
 {
     if !are_numbers(count, hints) {
@@ -70,22 +70,22 @@ fn is_learnable(vars: u32, clause: &[Lit]) -> bool
 }
 
 /// Whether a line holds, before which so many clauses stand: a learnt one by its hints, a given one where there are none.
-fn line_holds(
+fn line_holds<C: ClauseSource>(
     assignment: &mut Assignment,
-    formula: &FlatFormula,
+    formula: &C,
     added: &FlatFormula,
     count: usize,
     clause: &[Lit],
     hints: Option<&[u32]>,
 ) -> Result<bool, NoMemory>
-    requires room { formula.now.vars < vec_len assignment.old.values }
+    requires room { (C.listed formula.now).vars < vec_len assignment.old.values }
     requires open { held assignment.old.values.items ≡ all_open }
-    requires clauses { AreClauses formula.now.vars (formula.now.clauses ++ added.now.clauses) }
-    requires count { count ≤ length (formula.now.clauses ++ added.now.clauses) }
+    requires clauses { AreClauses (C.listed formula.now).vars ((C.listed formula.now).clauses ++ added.now.clauses) }
+    requires count { count ≤ length ((C.listed formula.now).clauses ++ added.now.clauses) }
     ensures room { vec_len assignment.new.values ≡ vec_len assignment.old.values }
     ensures open { IfOk result (λ yes. held assignment.new.values.items ≡ all_open) }
-    ensures holds { let clauses = take count (formula.now.clauses ++ added.now.clauses) in
-        IfOk result (λ yes. (line : Line) → clause.now ≡ clause_of line → option_copied hints.entry ≡ hints_of line → IsTrue yes ↔ LineHolds formula.now.vars clauses line) }
+    ensures holds { let clauses = take count ((C.listed formula.now).clauses ++ added.now.clauses) in
+        IfOk result (λ yes. (line : Line) → clause.now ≡ clause_of line → option_copied hints.entry ≡ hints_of line → IsTrue yes ↔ LineHolds (C.listed formula.now).vars clauses line) }
 {
     let Some(hints) = hints else {
         return Ok(is_clause(formula.vars(), clause));
@@ -98,25 +98,25 @@ fn line_holds(
 
 /// The first line from one to before another, counted from 0, that doesn't hold, if there is one. The clauses of all these lines
 /// stand in `added`. The assignment is all open before and after.
-fn first_failing<S: Steps>(
+fn first_failing<C: ClauseSource, S: Steps>(
     assignment: &mut Assignment,
-    formula: &FlatFormula,
+    formula: &C,
     added: &FlatFormula,
     steps: &S,
     from: usize,
     until: usize,
 ) -> Result<Option<usize>, NoMemory>
-    requires room { formula.now.vars < vec_len assignment.old.values }
+    requires room { (C.listed formula.now).vars < vec_len assignment.old.values }
     requires open { held assignment.old.values.items ≡ all_open }
-    requires added { AddsFirst formula.now.vars (S.written steps.now).lines added.now }
+    requires added { AddsFirst (C.listed formula.now).vars (S.written steps.now).lines added.now }
     requires until { until ≤ length added.now.clauses }
     ensures room { vec_len assignment.new.values ≡ vec_len assignment.old.values }
     ensures open { IfOk result (λ failing. held assignment.new.values.items ≡ all_open) }
-    ensures first { IfOk result (IsFirstFailing formula.now.vars formula.now.clauses (S.written steps.now).lines from until) }
+    ensures first { IfOk result (IsFirstFailing (C.listed formula.now).vars (C.listed formula.now).clauses (S.written steps.now).lines from until) }
 {
     // Reading these numbers tells the proof that the clauses are over the variables, and how few they are.
     let (_vars, _same, _few) = (formula.vars(), added.vars(), added.len());
-    let count = formula.len();
+    let count = formula.count();
     for i in from..until {
         if !line_holds(
             assignment,
@@ -133,16 +133,16 @@ fn first_failing<S: Steps>(
 }
 
 /// `first_failing` of one chunk of the lines, under an assignment of its own.
-fn first_failing_of<S: Steps>(
+fn first_failing_of<C: ClauseSource, S: Steps>(
     alloc: Global,
-    formula: &FlatFormula,
+    formula: &C,
     added: &FlatFormula,
     steps: &S,
     chunk: usize,
 ) -> Result<Option<usize>, NoMemory>
-    requires added { AddsFirst formula.now.vars (S.written steps.now).lines added.now }
+    requires added { AddsFirst (C.listed formula.now).vars (S.written steps.now).lines added.now }
     requires chunk { chunk * 1024 < length added.now.clauses }
-    ensures { IfOk result (IsFirstFailing formula.now.vars formula.now.clauses (S.written steps.now).lines (chunk * 1024) (min (chunk * 1024 + 1024) (length added.now.clauses))) }
+    ensures { IfOk result (IsFirstFailing (C.listed formula.now).vars (C.listed formula.now).clauses (S.written steps.now).lines (chunk * 1024) (min (chunk * 1024 + 1024) (length added.now.clauses))) }
 {
     let count = added.len();
     let from = chunk * CHUNK;
@@ -152,23 +152,23 @@ fn first_failing_of<S: Steps>(
 }
 
 /// `first_failing` of all lines whose clauses stand in `added`, by chunks, in as many threads as there are processors.
-fn first_failing_in_chunks<R: Threads + Sync, S: Steps + Sync>(
+fn first_failing_in_chunks<R: Threads + Sync, C: ClauseSource + Sync, S: Steps + Sync>(
     rt: &R,
     alloc: Global,
-    formula: &FlatFormula,
+    formula: &C,
     added: &FlatFormula,
     steps: &S,
 ) -> Result<Option<usize>, NoMemory>
-    requires added { AddsFirst formula.now.vars (S.written steps.now).lines added.now }
-    ensures { IfOk result (IsFirstFailing formula.now.vars formula.now.clauses (S.written steps.now).lines 0 (length added.now.clauses)) }
+    requires added { AddsFirst (C.listed formula.now).vars (S.written steps.now).lines added.now }
+    ensures { IfOk result (IsFirstFailing (C.listed formula.now).vars (C.listed formula.now).clauses (S.written steps.now).lines 0 (length added.now.clauses)) }
 {
     let found = by_chunks(
         rt,
         alloc,
         added.len(),
         move |chunk: usize| -> Result<Option<usize>, NoMemory>
-            requires { AddsFirst formula.now.vars (S.written steps.now).lines added.now × (chunk * 1024 < length added.now.clauses) }
-            ensures { IfOk result (IsFirstFailing formula.entry.now.vars formula.entry.now.clauses (S.written steps.entry.now).lines (chunk * 1024) (min (chunk * 1024 + 1024) (length added.entry.now.clauses))) }
+            requires { AddsFirst (C.listed formula.now).vars (S.written steps.now).lines added.now × (chunk * 1024 < length added.now.clauses) }
+            ensures { IfOk result (IsFirstFailing (C.listed formula.entry.now).vars (C.listed formula.entry.now).clauses (S.written steps.entry.now).lines (chunk * 1024) (min (chunk * 1024 + 1024) (length added.entry.now.clauses))) }
         { first_failing_of(alloc, formula, added, steps, chunk) },
     )?;
     for answer in found.iter() {
@@ -184,20 +184,20 @@ fn first_failing_in_chunks<R: Threads + Sync, S: Steps + Sync>(
 
 /// `first_failing` of all lines whose clauses stand in `added`: of `LEAST_SPLIT` or more by chunks, and of fewer in one piece, in
 /// the caller's thread.
-fn first_failing_line<R: Threads + Sync, S: Steps + Sync>(
+fn first_failing_line<R: Threads + Sync, C: ClauseSource + Sync, S: Steps + Sync>(
     rt: &R,
     alloc: Global,
     assignment: &mut Assignment,
-    formula: &FlatFormula,
+    formula: &C,
     added: &FlatFormula,
     steps: &S,
 ) -> Result<Option<usize>, NoMemory>
-    requires room { formula.now.vars < vec_len assignment.old.values }
+    requires room { (C.listed formula.now).vars < vec_len assignment.old.values }
     requires open { held assignment.old.values.items ≡ all_open }
-    requires added { AddsFirst formula.now.vars (S.written steps.now).lines added.now }
+    requires added { AddsFirst (C.listed formula.now).vars (S.written steps.now).lines added.now }
     ensures room { vec_len assignment.new.values ≡ vec_len assignment.old.values }
     ensures open { IfOk result (λ failing. held assignment.new.values.items ≡ all_open) }
-    ensures first { IfOk result (IsFirstFailing formula.now.vars formula.now.clauses (S.written steps.now).lines 0 (length added.now.clauses)) }
+    ensures first { IfOk result (IsFirstFailing (C.listed formula.now).vars (C.listed formula.now).clauses (S.written steps.now).lines 0 (length added.now.clauses)) }
 {
     let count = added.len();
     if count < LEAST_SPLIT {
@@ -208,21 +208,21 @@ fn first_failing_line<R: Threads + Sync, S: Steps + Sync>(
 
 /// The least line, from 1, that doesn't hold, if there is one. Else the clauses of all lines stand in `added`. The assignment
 /// is all open before and after.
-pub fn bad_line<R: Threads + Sync, S: Steps + Sync>(
+pub fn bad_line<R: Threads + Sync, C: ClauseSource + Sync, S: Steps + Sync>(
     rt: &R,
     alloc: Global,
     assignment: &mut Assignment,
-    formula: &FlatFormula,
+    formula: &C,
     added: &mut FlatFormula,
     steps: &S,
 ) -> Result<Option<usize>, NoMemory>
-    requires room { formula.now.vars < vec_len assignment.old.values }
+    requires room { (C.listed formula.now).vars < vec_len assignment.old.values }
     requires open { held assignment.old.values.items ≡ all_open }
-    requires none { added.old ≡ record { vars = formula.now.vars; clauses = [] } }
+    requires none { added.old ≡ record { vars = (C.listed formula.now).vars; clauses = [] } }
     ensures room { vec_len assignment.new.values ≡ vec_len assignment.old.values }
     ensures open { IfOk result (λ bad. held assignment.new.values.items ≡ all_open) }
-    ensures added { IfOk result (λ bad. MatchOption bad (added.new ≡ record { vars = formula.now.vars; clauses = clauses_of (S.written steps.now).lines }) (λ at. ⊤)) }
-    ensures bad { IfOk result (λ bad. MatchOption bad (LinesHold formula.now.vars formula.now.clauses (S.written steps.now).lines) (λ at. IsFirstBad formula.now.vars formula.now.clauses (S.written steps.now) at)) }
+    ensures added { IfOk result (λ bad. MatchOption bad (added.new ≡ record { vars = (C.listed formula.now).vars; clauses = clauses_of (S.written steps.now).lines }) (λ at. ⊤)) }
+    ensures bad { IfOk result (λ bad. MatchOption bad (LinesHold (C.listed formula.now).vars (C.listed formula.now).clauses (S.written steps.now).lines) (λ at. IsFirstBad (C.listed formula.now).vars (C.listed formula.now).clauses (S.written steps.now) at)) }
 {
     add_formed(added, steps)?;
     let formed = added.len();
@@ -236,24 +236,24 @@ pub fn bad_line<R: Threads + Sync, S: Steps + Sync>(
 }
 
 /// The answer where all lines hold, by the final line.
-fn final_answer<S: Steps>(
+fn final_answer<C: ClauseSource, S: Steps>(
     assignment: &mut Assignment,
-    formula: &FlatFormula,
+    formula: &C,
     added: &FlatFormula,
     steps: &S,
 ) -> Result<LogAnswer, NoMemory>
-    requires room { formula.now.vars < vec_len assignment.old.values }
+    requires room { (C.listed formula.now).vars < vec_len assignment.old.values }
     requires open { held assignment.old.values.items ≡ all_open }
-    requires lines { LinesHold formula.now.vars formula.now.clauses (S.written steps.now).lines }
-    requires added { added.now ≡ record { vars = formula.now.vars; clauses = clauses_of (S.written steps.now).lines } }
-    ensures { IfOk result (IsLogAnswer formula.now.vars formula.now.clauses (S.written steps.now)) }
+    requires lines { LinesHold (C.listed formula.now).vars (C.listed formula.now).clauses (S.written steps.now).lines }
+    requires added { added.now ≡ record { vars = (C.listed formula.now).vars; clauses = clauses_of (S.written steps.now).lines } }
+    ensures { IfOk result (IsLogAnswer (C.listed formula.now).vars (C.listed formula.now).clauses (S.written steps.now)) }
 {
     // Reading the number of the variables tells the proof that the clauses are over them.
     let _vars = formula.vars();
     let Some(hints) = steps.last() else {
         return Ok(LogAnswer::Open);
     };
-    let count = formula.len() + added.len();
+    let count = formula.count() + added.len();
     if is_shown(assignment, formula, added, count, &[], hints)? {
         Ok(LogAnswer::Refuted)
     } else {
@@ -266,13 +266,13 @@ fn final_answer<S: Steps>(
 /// What the check of a log over the formula finds, wherever its lines stand: the least line, from 1, that doesn't hold, where
 /// there is one; the final line counts after the others. A Learn line costs as many steps as its clause and its hinted clauses
 /// have literals, a Given line as many as its clause has. The clauses of the lines are copied into one array.
-pub fn check_steps<R: Threads + Sync, S: Steps + Sync>(
+pub fn check_steps<R: Threads + Sync, C: ClauseSource + Sync, S: Steps + Sync>(
     rt: &R,
     alloc: Global,
-    formula: &FlatFormula,
+    formula: &C,
     steps: &S,
 ) -> Result<LogAnswer, NoMemory>
-    ensures { IfOk result (IsLogAnswer formula.now.vars formula.now.clauses (S.written steps.now)) }
+    ensures { IfOk result (IsLogAnswer (C.listed formula.now).vars (C.listed formula.now).clauses (S.written steps.now)) }
 {
     let vars = formula.vars();
     let mut assignment = Assignment::new(alloc, vars)?;

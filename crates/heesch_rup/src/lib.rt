@@ -6,6 +6,7 @@ mod assignment;
 mod check;
 mod chunks;
 mod hints;
+mod indexed;
 mod newness;
 mod numbers;
 mod occurrences;
@@ -16,5 +17,5 @@ mod steps;
 
 pub use check::{LogAnswer, check_log, check_steps};
 pub use newness::{all_new, all_new_steps};
-pub use spent::is_spent;
+pub use spent::{is_spent, is_spent_over};
 pub use steps::Steps;

@@ -1,154 +1,129 @@
 //! Whether the clauses of a log are new: whether none contains an earlier one.
-ghost use Rattle.std.specs.Prelude.{◌≡◌, ◌+◌, ◌++◌, ◌*◌, ◌<◌, ◌≤◌, [], length, min, take, IsTrue, ◌↔◌, IfOk, MatchBool, vec_len};
+ghost use Rattle.std.specs.Prelude.{◌≡◌, ◌+◌, ◌++◌, ◌*◌, ◌<◌, ◌≤◌, length, min, take, IsTrue, ◌↔◌, IfOk, vec_len};
 ghost use Rattle.heesch_cnf.specs.Literals.{held};
 ghost use Rattle.heesch_cnf.specs.Clauses.{AreClauses, IsClause, IsNew};
 ghost use Rattle.heesch_cnf.specs.Lines.{clauses_of, refuting, LinesHold, LinesAreNew};
 ghost use Rattle.heesch_rup.specs.Assigned.{all_open};
 ghost use Rattle.heesch_rup.specs.Answer.{AreNewBetween};
-ghost use Rattle.heesch_rup.specs.Listed.{AreAllListed, ListsFirst, SomeFalsified};
+ghost use Rattle.heesch_rup.specs.Listed.{AreAllListed, ListsFirst};
 
 use crate::added::clauses_of;
 use crate::assignment::Assignment;
 use crate::chunks::{CHUNK, LEAST_SPLIT, by_chunks};
 use crate::hints::refute;
-use crate::occurrences::{Occurrences, lit_slot};
-use crate::rarity::counts_of;
+use crate::indexed::IndexedFormula;
+use crate::occurrences::{Occurrences, occurrences_of};
 use crate::steps::Steps;
-use heesch_cnf::{FlatFormula, Formula, Lit, Log};
+use heesch_cnf::{FlatFormula, Formula, Lit, Log, NewnessSource};
 use heesch_io::NoMemory;
 use std::alloc::Global;
 use std::thread::Threads;
 
-/// Whether the clause, whose literals are false, contains one of the first, so many, which are listed. It reads those of them
-/// that are listed at its literals.
-fn contains_listed(
-    occurrences: &Occurrences,
-    assignment: &Assignment,
-    formula: &FlatFormula,
+/// Whether the clause, whose literals the values make false, contains none of the formula, and none of the first, so many, that
+/// lines added, which are listed.
+fn is_new_under<N: NewnessSource>(
+    listed: &Occurrences,
+    values: &[Option<bool>],
+    formula: &N,
     added: &FlatFormula,
     count: usize,
     clause: &[Lit],
 ) -> bool
-    requires slots { 2 * formula.now.vars + 1 < vec_len occurrences.now.last }
-    requires room { formula.now.vars < vec_len assignment.now.values }
-    requires refuted { held assignment.now.values.items ≡ refuting clause.now }
-    requires form { AreClauses formula.now.vars (formula.now.clauses ++ added.now.clauses) }
-    requires clause { IsClause formula.now.vars clause.now }
-    requires lists { ListsFirst (formula.now.clauses ++ added.now.clauses) occurrences.now }
-    requires count { count ≤ vec_len occurrences.now.earlier }
-    ensures { let clauses = formula.now.clauses ++ added.now.clauses in
-        MatchBool result (SomeFalsified (held assignment.now.values.items) clauses count) (IsNew (take count clauses) clause.now) }
+    requires slots { 2 * added.now.vars + 1 < vec_len listed.now.last }
+    requires vars { added.now.vars ≡ (N.listed formula.now).vars }
+    requires room { added.now.vars < length values.now }
+    requires refuted { held values.now ≡ refuting clause.now }
+    requires form { AreClauses added.now.vars added.now.clauses }
+    requires clause { IsClause added.now.vars clause.now }
+    requires lists { ListsFirst added.now.clauses listed.now }
+    requires count { count ≤ vec_len listed.now.earlier }
+    ensures { let before = (N.listed formula.now).clauses ++ take count added.now.clauses in IsTrue result ↔ IsNew before clause.now }
 {
-    if occurrences.any_falsified(assignment, formula, added, count, 0) {
-        return true;
+    if listed.contains_listed(values, added, count, clause) {
+        return false;
     }
-    for lit in clause {
-        if occurrences.any_falsified(assignment, formula, added, count, lit_slot(*lit)) {
-            return true;
-        }
-    }
-    false
+    formula.is_new(clause, values)
 }
 
-/// Whether the clause contains none of the first, so many, which are listed. The assignment is all open before and after.
-fn is_new(
-    occurrences: &Occurrences,
+/// Whether the clause contains none of the formula, and none of the first, so many, that lines added, which are listed. The
+/// assignment is all open before and after.
+fn is_new<N: NewnessSource>(
+    listed: &Occurrences,
     assignment: &mut Assignment,
-    formula: &FlatFormula,
+    formula: &N,
     added: &FlatFormula,
     count: usize,
     clause: &[Lit],
 ) -> Result<bool, NoMemory>
-    requires slots { 2 * formula.now.vars + 1 < vec_len occurrences.now.last }
-    requires room { formula.now.vars < vec_len assignment.old.values }
+    requires slots { 2 * added.now.vars + 1 < vec_len listed.now.last }
+    requires vars { added.now.vars ≡ (N.listed formula.now).vars }
+    requires room { added.now.vars < vec_len assignment.old.values }
     requires open { held assignment.old.values.items ≡ all_open }
-    requires form { AreClauses formula.now.vars (formula.now.clauses ++ added.now.clauses) }
-    requires clause { IsClause formula.now.vars clause.now }
-    requires lists { ListsFirst (formula.now.clauses ++ added.now.clauses) occurrences.now }
-    requires count { count ≤ vec_len occurrences.now.earlier }
+    requires form { AreClauses added.now.vars added.now.clauses }
+    requires clause { IsClause added.now.vars clause.now }
+    requires lists { ListsFirst added.now.clauses listed.now }
+    requires count { count ≤ vec_len listed.now.earlier }
     ensures room { vec_len assignment.new.values ≡ vec_len assignment.old.values }
     ensures open { IfOk result (λ yes. held assignment.new.values.items ≡ all_open) }
-    ensures fresh { let listed = take count (formula.now.clauses ++ added.now.clauses) in
-        IfOk result (λ yes. IsTrue yes ↔ IsNew listed clause.now) }
+    ensures fresh { let before = (N.listed formula.now).clauses ++ take count added.now.clauses in
+        IfOk result (λ yes. IsTrue yes ↔ IsNew before clause.now) }
 {
     refute(assignment, clause)?;
-    let contains = contains_listed(occurrences, assignment, formula, added, count, clause);
+    let fresh = is_new_under(listed, &assignment.values, formula, added, count, clause);
     assignment.reset();
-    Ok(!contains)
+    Ok(fresh)
 }
 
-/// The first clauses, so many, of the formula and of those that lines added, listed by the literals that the added clauses have
-/// least often.
-fn occurrences_of(
+/// Whether each line of one chunk contains no earlier clause. The clauses of all lines are listed.
+fn are_new_of<N: NewnessSource, S: Steps>(
     alloc: Global,
-    formula: &FlatFormula,
-    added: &FlatFormula,
-    count: usize,
-) -> Result<Occurrences, NoMemory>
-    requires form { AreClauses formula.now.vars (formula.now.clauses ++ added.now.clauses) }
-    requires vars { added.now.vars ≡ formula.now.vars }
-    requires count { count ≤ length (formula.now.clauses ++ added.now.clauses) }
-    ensures room { IfOk result (λ o. vec_len o.last ≡ 2 * formula.now.vars + 2) }
-    ensures counts { IfOk result (λ o. vec_len o.counts ≡ 2 * formula.now.vars + 2) }
-    ensures count { IfOk result (λ o. vec_len o.earlier ≡ count) }
-    ensures lists { IfOk result (ListsFirst (formula.now.clauses ++ added.now.clauses)) }
-{
-    let mut listed = Occurrences::new(alloc, formula.vars(), counts_of(alloc, added)?)?;
-    for _place in 0..count {
-        listed.list_next(formula, added)?;
-    }
-    Ok(listed)
-}
-
-/// Whether each line of one chunk contains no earlier clause. All clauses are listed.
-fn are_new_of<S: Steps>(
-    alloc: Global,
-    occurrences: &Occurrences,
-    formula: &FlatFormula,
+    listed: &Occurrences,
+    formula: &N,
     added: &FlatFormula,
     steps: &S,
     chunk: usize,
 ) -> Result<bool, NoMemory>
-    requires listed { AreAllListed formula.now added.now occurrences.now }
+    requires listed { AreAllListed added.now listed.now }
+    requires vars { added.now.vars ≡ (N.listed formula.now).vars }
     requires added { added.now.clauses ≡ clauses_of (S.written steps.now).lines }
     requires chunk { chunk * 1024 < length added.now.clauses }
-    ensures { IfOk result (λ yes. IsTrue yes ↔ AreNewBetween formula.now.clauses (S.written steps.now).lines (chunk * 1024) (min (chunk * 1024 + 1024) (length added.now.clauses))) }
+    ensures { let clauses = (N.listed formula.now).clauses in
+        IfOk result (λ yes. IsTrue yes ↔ AreNewBetween clauses (S.written steps.now).lines (chunk * 1024) (min (chunk * 1024 + 1024) (length added.now.clauses))) }
 {
-    let (given, count) = (formula.len(), added.len());
     let from = chunk * CHUNK;
-    let until = (from + CHUNK).min(count);
-    let mut assignment = Assignment::new(alloc, formula.vars())?;
+    let until = (from + CHUNK).min(added.len());
+    let mut assignment = Assignment::new(alloc, added.vars())?;
     for i in from..until {
-        let (before, clause) = (given + i, steps.clause(i));
-        if !is_new(occurrences, &mut assignment, formula, added, before, clause)? {
+        if !is_new(listed, &mut assignment, formula, added, i, steps.clause(i))? {
             return Ok(false);
         }
     }
     Ok(true)
 }
 
-/// Whether no line contains an earlier clause, by chunks, in as many threads as there are processors. All clauses are listed,
-/// and a search passes over those that don't stand before its line.
-fn are_new_in_chunks<R: Threads + Sync, S: Steps + Sync>(
+/// Whether no line contains an earlier clause, by chunks, in as many threads as there are processors. The clauses of all lines
+/// are listed, and a search passes over those that don't stand before its line.
+fn are_new_in_chunks<R: Threads + Sync, N: NewnessSource + Sync, S: Steps + Sync>(
     rt: &R,
     alloc: Global,
-    occurrences: &Occurrences,
-    formula: &FlatFormula,
+    listed: &Occurrences,
+    formula: &N,
     added: &FlatFormula,
     steps: &S,
 ) -> Result<bool, NoMemory>
-    requires listed { AreAllListed formula.now added.now occurrences.now }
+    requires listed { AreAllListed added.now listed.now }
+    requires vars { added.now.vars ≡ (N.listed formula.now).vars }
     requires added { added.now.clauses ≡ clauses_of (S.written steps.now).lines }
-    ensures { IfOk result (λ yes. IsTrue yes ↔ LinesAreNew formula.now.clauses (S.written steps.now).lines) }
+    ensures { IfOk result (λ yes. IsTrue yes ↔ LinesAreNew (N.listed formula.now).clauses (S.written steps.now).lines) }
 {
     let found = by_chunks(
         rt,
         alloc,
         added.len(),
         move |chunk: usize| -> Result<bool, NoMemory>
-            requires { AreAllListed formula.now added.now occurrences.now × (added.now.clauses ≡ clauses_of (S.written steps.now).lines) × (chunk * 1024 < length added.now.clauses) }
-            ensures { IfOk result (λ yes. IsTrue yes ↔ AreNewBetween formula.entry.now.clauses (S.written steps.entry.now).lines (chunk * 1024) (min (chunk * 1024 + 1024) (length added.entry.now.clauses))) }
-        { are_new_of(alloc, occurrences, formula, added, steps, chunk) },
+            requires { AreAllListed added.now listed.now × (added.now.vars ≡ (N.listed formula.now).vars) × (added.now.clauses ≡ clauses_of (S.written steps.now).lines) × (chunk * 1024 < length added.now.clauses) }
+            ensures { IfOk result (λ yes. IsTrue yes ↔ AreNewBetween (N.listed formula.entry.now).clauses (S.written steps.entry.now).lines (chunk * 1024) (min (chunk * 1024 + 1024) (length added.entry.now.clauses))) }
+        { are_new_of(alloc, listed, formula, added, steps, chunk) },
     )?;
     for answer in found.iter() {
         let Ok(fresh) = answer else {
@@ -163,31 +138,29 @@ fn are_new_in_chunks<R: Threads + Sync, S: Steps + Sync>(
 
 /// Whether no line contains an earlier clause, where the clauses that the lines add are these. The lines are checked by chunks
 /// where they are `LEAST_SPLIT` or more, and else in their order, in the caller's thread; each is listed after its check.
-pub fn are_new<R: Threads + Sync, S: Steps + Sync>(
+pub fn are_new<R: Threads + Sync, N: NewnessSource + Sync, S: Steps + Sync>(
     rt: &R,
     alloc: Global,
-    formula: &FlatFormula,
+    formula: &N,
     added: &FlatFormula,
     steps: &S,
 ) -> Result<bool, NoMemory>
-    requires lines { LinesHold formula.now.vars formula.now.clauses (S.written steps.now).lines }
-    requires added { added.now ≡ record { vars = formula.now.vars; clauses = clauses_of (S.written steps.now).lines } }
-    ensures { IfOk result (λ yes. IsTrue yes ↔ LinesAreNew formula.now.clauses (S.written steps.now).lines) }
+    requires lines { let f = N.listed formula.now in LinesHold f.vars f.clauses (S.written steps.now).lines }
+    requires added { added.now ≡ record { vars = (N.listed formula.now).vars; clauses = clauses_of (S.written steps.now).lines } }
+    ensures { IfOk result (λ yes. IsTrue yes ↔ LinesAreNew (N.listed formula.now).clauses (S.written steps.now).lines) }
 {
-    let vars = formula.vars();
-    let (given, count) = (formula.len(), added.len());
+    let (vars, count) = (added.vars(), added.len());
     if LEAST_SPLIT <= count {
-        let occurrences = occurrences_of(alloc, formula, added, given + count)?;
-        return are_new_in_chunks(rt, alloc, &occurrences, formula, added, steps);
+        let listed = occurrences_of(alloc, added, count, added)?;
+        return are_new_in_chunks(rt, alloc, &listed, formula, added, steps);
     }
-    let mut listed = occurrences_of(alloc, formula, added, given)?;
+    let mut listed = occurrences_of(alloc, added, 0, added)?;
     let mut assignment = Assignment::new(alloc, vars)?;
     for i in 0..steps.count() {
-        let (before, clause) = (given + i, steps.clause(i));
-        if !is_new(&listed, &mut assignment, formula, added, before, clause)? {
+        if !is_new(&listed, &mut assignment, formula, added, i, steps.clause(i))? {
             return Ok(false);
         }
-        listed.list_next(formula, added)?;
+        listed.list_next(added)?;
     }
     Ok(true)
 }
@@ -205,7 +178,8 @@ pub fn all_new_steps<R: Threads + Sync, S: Steps + Sync>(
     ensures { IfOk result (λ yes. IsTrue yes ↔ LinesAreNew formula.now.clauses (S.written steps.now).lines) }
 {
     let added = clauses_of(alloc, formula.vars(), steps)?;
-    are_new(rt, alloc, formula, &added, steps)
+    let indexed = IndexedFormula::of(alloc, formula, &added)?;
+    are_new(rt, alloc, &indexed, &added, steps)
 }
 
 /// Whether no line contains an earlier clause, be it of the formula or of a line. It costs as many steps as all clauses have

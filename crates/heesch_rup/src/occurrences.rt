@@ -1,13 +1,13 @@
 //! Where clauses are listed, so that those which a clause may contain are found.
-ghost use Rattle.std.specs.Prelude.{◌≡◌, ◌+◌, ◌++◌, ◌*◌, ◌<◌, ◌≤◌, List, length, All, IfOk, OnOk, MatchBool, vec_len};
+ghost use Rattle.std.specs.Prelude.{◌≡◌, ◌+◌, ◌*◌, ◌<◌, ◌≤◌, List, length, take, All, IfOk, OnOk, MatchBool, vec_len};
 ghost use Rattle.heesch_cnf.specs.declared.literal.Lit.{Lit};
 ghost use Rattle.heesch_cnf.specs.Literals.{held};
-ghost use Rattle.heesch_cnf.specs.Clauses.{AreClauses};
+ghost use Rattle.heesch_cnf.specs.Clauses.{AreClauses, IsClause, IsNew};
 ghost use Rattle.heesch_cnf.specs.Flat.{code_of};
+ghost use Rattle.heesch_cnf.specs.Lines.{refuting};
 ghost use Rattle.heesch_rup.specs.Listed.{slot_of, ListsFirst, SomeFalsified, NoneFalsifiedAt};
 
-use crate::assignment::Assignment;
-use crate::numbers::clause_at;
+use crate::rarity::counts_of;
 use crate::status::is_falsified;
 use heesch_cnf::{FlatFormula, Lit, PackedLit};
 use heesch_io::NoMemory;
@@ -64,20 +64,20 @@ impl Occurrences {
         })
     }
 
-    /// Lists the next clause of the formula, or of those that lines added. It reads the clause once, and costs a `Vec::push`.
-    pub fn list_next(&mut self, formula: &FlatFormula, added: &FlatFormula) -> Result<(), NoMemory>
-        requires room { 2 * formula.now.vars + 1 < vec_len self.old.last }
-        requires counts { 2 * formula.now.vars + 1 < vec_len self.old.counts }
-        requires form { AreClauses formula.now.vars (formula.now.clauses ++ added.now.clauses) }
-        requires more { vec_len self.old.earlier < length (formula.now.clauses ++ added.now.clauses) }
-        requires lists { ListsFirst (formula.now.clauses ++ added.now.clauses) self.old }
+    /// Lists the next clause. It reads the clause once, and costs a `Vec::push`.
+    pub fn list_next(&mut self, clauses: &FlatFormula) -> Result<(), NoMemory>
+        requires room { 2 * clauses.now.vars + 1 < vec_len self.old.last }
+        requires counts { 2 * clauses.now.vars + 1 < vec_len self.old.counts }
+        requires form { AreClauses clauses.now.vars clauses.now.clauses }
+        requires more { vec_len self.old.earlier < length clauses.now.clauses }
+        requires lists { ListsFirst clauses.now.clauses self.old }
         ensures room { vec_len self.new.last ≡ vec_len self.old.last }
         ensures counts { vec_len self.new.counts ≡ vec_len self.old.counts }
         ensures count { OnOk result (vec_len self.new.earlier ≡ vec_len self.old.earlier + 1) }
-        ensures lists { OnOk result (ListsFirst (formula.now.clauses ++ added.now.clauses) self.new) }
+        ensures lists { OnOk result (ListsFirst clauses.now.clauses self.new) }
     {
         let place = self.earlier.len();
-        let slot = slot_of(self.counts.as_slice(), clause_at(formula, added, place));
+        let slot = slot_of(self.counts.as_slice(), clauses.clause(place));
         self.earlier.push(self.last[slot])?;
         self.last[slot] = Some(place);
         Ok(())
@@ -85,30 +85,80 @@ impl Occurrences {
 
     /// Whether one of the first clauses, of which so many are listed at least, is of this slot and has all its literals false. It
     /// passes over the clauses of the slot that stand later, and reads the others.
-    pub fn any_falsified(
+    fn any_falsified(
         &self,
-        assignment: &Assignment,
-        formula: &FlatFormula,
-        added: &FlatFormula,
+        values: &[Option<bool>],
+        clauses: &FlatFormula,
         count: usize,
         slot: usize,
     ) -> bool
         requires slot { slot < vec_len self.now.last }
-        requires room { formula.now.vars < vec_len assignment.now.values }
-        requires form { AreClauses formula.now.vars (formula.now.clauses ++ added.now.clauses) }
-        requires lists { ListsFirst (formula.now.clauses ++ added.now.clauses) self.now }
+        requires room { clauses.now.vars < length values.now }
+        requires form { AreClauses clauses.now.vars clauses.now.clauses }
+        requires lists { ListsFirst clauses.now.clauses self.now }
         requires count { count ≤ vec_len self.now.earlier }
-        ensures { let clauses = formula.now.clauses ++ added.now.clauses in
-            let values = held assignment.now.values.items in
-            MatchBool result (SomeFalsified values clauses count) (NoneFalsifiedAt self.now.counts.items values clauses count slot) }
+        ensures { let found = held values.now in
+            MatchBool result (SomeFalsified found clauses.now.clauses count) (NoneFalsifiedAt self.now.counts.items found clauses.now.clauses count slot) }
     {
         let mut next = self.last[slot];
         while let Some(place) = next {
-            if place < count && is_falsified(assignment, clause_at(formula, added, place)) {
+            if place < count && is_falsified(values, clauses.clause(place)) {
                 return true;
             }
             next = self.earlier[place];
         }
         false
     }
+
+    /// Whether a clause, whose literals the values make false, contains one of the first, so many, which are listed. It reads
+    /// those of them that are listed at its literals.
+    pub fn contains_listed(
+        &self,
+        values: &[Option<bool>],
+        clauses: &FlatFormula,
+        count: usize,
+        clause: &[Lit],
+    ) -> bool
+        requires slots { 2 * clauses.now.vars + 1 < vec_len self.now.last }
+        requires room { clauses.now.vars < length values.now }
+        requires refuted { held values.now ≡ refuting clause.now }
+        requires form { AreClauses clauses.now.vars clauses.now.clauses }
+        requires clause { IsClause clauses.now.vars clause.now }
+        requires lists { ListsFirst clauses.now.clauses self.now }
+        requires count { count ≤ vec_len self.now.earlier }
+        ensures { let found = held values.now in
+            MatchBool result (SomeFalsified found clauses.now.clauses count) (IsNew (take count clauses.now.clauses) clause.now) }
+    {
+        if self.any_falsified(values, clauses, count, 0) {
+            return true;
+        }
+        for lit in clause {
+            if self.any_falsified(values, clauses, count, lit_slot(*lit)) {
+                return true;
+            }
+        }
+        false
+    }
+}
+
+/// The first clauses, so many, listed by the literals that lines have least often.
+pub fn occurrences_of(
+    alloc: Global,
+    clauses: &FlatFormula,
+    count: usize,
+    lines: &FlatFormula,
+) -> Result<Occurrences, NoMemory>
+    requires form { AreClauses clauses.now.vars clauses.now.clauses }
+    requires vars { lines.now.vars ≡ clauses.now.vars }
+    requires count { count ≤ length clauses.now.clauses }
+    ensures room { IfOk result (λ o. vec_len o.last ≡ 2 * clauses.now.vars + 2) }
+    ensures counts { IfOk result (λ o. vec_len o.counts ≡ 2 * clauses.now.vars + 2) }
+    ensures count { IfOk result (λ o. vec_len o.earlier ≡ count) }
+    ensures lists { IfOk result (ListsFirst clauses.now.clauses) }
+{
+    let mut listed = Occurrences::new(alloc, clauses.vars(), counts_of(alloc, lines)?)?;
+    for _place in 0..count {
+        listed.list_next(clauses)?;
+    }
+    Ok(listed)
 }

@@ -7,19 +7,19 @@ use Rattle.heesch_rup.proofs.check.bad_line.Goals as goal
 use Rattle.heesch_rup.proofs.check.bad_line.Goals.{In_ok-add_formed, In_default}
 
 -- the clauses that were added are over the formula's variables
-first : (g : given.Over) (c : In_ok-add_formed g) → AddsFirst c.args.formula.now.vars (g.S.Steps.written c.args.steps.now).lines c.add_formed.new.added
+first : (g : given.Over) (c : In_ok-add_formed g) → AddsFirst (g.C.ClauseSource.listed c.args.formula.now).vars (g.S.Steps.written c.args.steps.now).lines c.add_formed.new.added
 first g c = subst (λ n. AddsFirst n (g.S.Steps.written c.args.steps.now).lines c.add_formed.new.added) (ap (λ (x : Clauses). x.vars) c.requires.none) c.in_ok-add_formed.ensures.first
 
 -- the lines of these clauses hold
-hold : (g : given.Over) (c : In_default g) → IsFirstFailing c.args.formula.now.vars c.args.formula.now.clauses (g.S.Steps.written c.args.steps.now).lines 0 (length c.add_formed.new.added.clauses) None
-hold g c = subst (IsFirstFailing c.args.formula.now.vars c.args.formula.now.clauses (g.S.Steps.written c.args.steps.now).lines 0 (length c.add_formed.new.added.clauses)) c.in_default.is c.in_ok-at.ensures.first
+hold : (g : given.Over) (c : In_default g) → IsFirstFailing (g.C.ClauseSource.listed c.args.formula.now).vars (g.C.ClauseSource.listed c.args.formula.now).clauses (g.S.Steps.written c.args.steps.now).lines 0 (length c.add_formed.new.added.clauses) None
+hold g c = subst (IsFirstFailing (g.C.ClauseSource.listed c.args.formula.now).vars (g.C.ClauseSource.listed c.args.formula.now).clauses (g.S.Steps.written c.args.steps.now).lines 0 (length c.add_formed.new.added.clauses)) c.in_default.is c.in_ok-at.ensures.first
 
 pub first_failing_line-requires-clause-added : goal.first_failing_line-requires-clause-added
 first_failing_line-requires-clause-added g c κs within = first g (goal.at.first_failing_line-requires-clause-added g c).In_ok-add_formed
 
 pub returns-in-Some-clause-bad : goal.returns-in-Some-clause-bad
 returns-in-Some-clause-bad g c =
-    let f = c.args.formula.now in
+    let f = (g.C.ClauseSource.listed c.args.formula.now) in
     let log = g.S.Steps.written c.args.steps.now in
     let added = c.add_formed.new.added in
     bad_among f added log (first g (goal.at.returns-in-Some-clause-bad g c).In_ok-add_formed) c.in-Some.at (subst (IsFirstFailing f.vars f.clauses log.lines 0 (length added.clauses)) c.in-Some.is c.in_ok-at.ensures.first)
@@ -27,7 +27,7 @@ returns-in-Some-clause-bad g c =
 pub returns-then-formed-count-clause-bad : goal.returns-then-formed-count-clause-bad
 returns-then-formed-count-clause-bad g c =
     let a = goal.at.returns-then-formed-count-clause-bad g c in
-    let f = c.args.formula.now in
+    let f = (g.C.ClauseSource.listed c.args.formula.now) in
     let log = g.S.Steps.written c.args.steps.now in
     let added = c.add_formed.new.added in
     let formless = subst (λ n. IsFormless n log.lines (length added.clauses)) (ap (λ (x : Clauses). x.vars) c.requires.none) c.in_ok-add_formed.ensures.formless in
@@ -36,8 +36,8 @@ returns-then-formed-count-clause-bad g c =
 pub returns-clause-bad : goal.returns-clause-bad
 returns-clause-bad g c =
     let a = goal.at.returns-clause-bad g c in
-    all_hold c.args.formula.now c.add_formed.new.added (g.S.Steps.written c.args.steps.now) (first g a.In_ok-add_formed) (λ lt. omega (arith, lt, c.if-formed-count.false, c.len-formed.ensures.count, c.count.ensures)) (hold g a.In_default)
+    all_hold (g.C.ClauseSource.listed c.args.formula.now) c.add_formed.new.added (g.S.Steps.written c.args.steps.now) (first g a.In_ok-add_formed) (λ lt. omega (arith, lt, c.if-formed-count.false, c.len-formed.ensures.count, c.count.ensures)) (hold g a.In_default)
 
 pub returns-clause-added : goal.returns-clause-added
 returns-clause-added g c =
-    all_added c.args.formula.now c.add_formed.new.added (g.S.Steps.written c.args.steps.now) (first g (goal.at.returns-clause-added g c).In_ok-add_formed) (λ lt. omega (arith, lt, c.if-formed-count.false, c.len-formed.ensures.count, c.count.ensures))
+    all_added (g.C.ClauseSource.listed c.args.formula.now) c.add_formed.new.added (g.S.Steps.written c.args.steps.now) (first g (goal.at.returns-clause-added g c).In_ok-add_formed) (λ lt. omega (arith, lt, c.if-formed-count.false, c.len-formed.ensures.count, c.count.ensures))

@@ -1,4 +1,4 @@
-use Rattle.std.proofs.Common.{◌++◌, ◌≡◌, ℕ, ◌+◌, ◌*◌, ◌<◌, length, take, slice_index_or, vec_len}
+use Rattle.std.proofs.Common.{◌≡◌, ℕ, ◌+◌, ◌*◌, ◌<◌, take, slice_index_or, vec_len}
 use Rattle.heesch_cnf.specs.declared.log.Line.{Line}
 use Rattle.heesch_cnf.specs.Literals.{held}
 use Rattle.heesch_cnf.specs.Clauses.{IsNew}
@@ -9,13 +9,14 @@ use Rattle.heesch_rup.proofs.newness.are_new.Given as goal
 
 abbrev pub invariant-loop-i : goal.invariant-loop-i
 invariant-loop-i g l =
+    let f = g.N.ClauseSource.listed l.formula in
     let lines = (g.S.Steps.written l.steps).lines in
     record {
-      slots : vec_len l.listed.last ≡ 2 * l.formula.vars + 2;
-      counts : vec_len l.listed.counts ≡ 2 * l.formula.vars + 2;
-      count : vec_len l.listed.earlier ≡ length l.formula.clauses + l.i;
-      lists : ListsFirst (l.formula.clauses ++ l.added.clauses) l.listed;
-      room : vec_len l.assignment.values ≡ l.formula.vars + 1;
+      slots : vec_len l.listed.last ≡ 2 * l.added.vars + 2;
+      counts : vec_len l.listed.counts ≡ 2 * l.added.vars + 2;
+      count : vec_len l.listed.earlier ≡ l.i;
+      lists : ListsFirst l.added.clauses l.listed;
+      room : vec_len l.assignment.values ≡ l.added.vars + 1;
       open_ : held l.assignment.values.items ≡ all_open;
-      fresh : (k : ℕ) (d : Line) → k < l.i → IsNew (clauses_with l.formula.clauses (take k lines)) (clause_of (slice_index_or lines k d));
+      fresh : (k : ℕ) (d : Line) → k < l.i → IsNew (clauses_with f.clauses (take k lines)) (clause_of (slice_index_or lines k d));
     }

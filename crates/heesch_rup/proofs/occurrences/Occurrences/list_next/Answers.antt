@@ -9,20 +9,20 @@ use Rattle.heesch_rup.proofs.occurrences.Occurrences.list_next.Goals.{After-slot
 
 pub slot_of-slot-requires : goal.slot_of-slot-requires
 slot_of-slot-requires c =
-    let clauses = c.args.formula.now.clauses ++ c.args.added.now.clauses in
+    let clauses = c.args.clauses.now.clauses in
     let n = length c.as_slice.result.now in
-    let room : 2 * c.args.formula.now.vars + 1 < n = omega (arith, c.as_slice.ensures.len, c.requires.counts) in
-    subst (λ (ls : List Lit). All (λ l. code_of l < n) ls) (sym c.clause_at.ensures)
-    (codes-lt c.args.formula.now.vars n (get_or clauses c.len-place.result []) (c.requires.form c.len-place.result [] (omega arith)) room)
+    let room : 2 * c.args.clauses.now.vars + 1 < n = omega (arith, c.as_slice.ensures.len, c.requires.counts) in
+    subst (λ (ls : List Lit). All (λ l. code_of l < n) ls) (sym c.clause.ensures)
+    (codes-lt c.args.clauses.now.vars n (get_or clauses c.len-place.result []) (c.requires.form c.len-place.result [] (omega arith)) room)
 
 -- the slot is that of the next clause, and there is one
-slot_is : (c : After-slot_of-slot) → c.slot_of-slot.result ≡ slot_of c.args.self.now.counts.items (get_or (c.args.formula.now.clauses ++ c.args.added.now.clauses) c.len-place.result [])
-slot_is c = c.slot_of-slot.ensures ∙ (ap (λ (cs : List ℕ). slot_of cs c.clause_at.result.now) c.as_slice.ensures.value ∙ ap (slot_of c.args.self.now.counts.items) c.clause_at.ensures)
+slot_is : (c : After-slot_of-slot) → c.slot_of-slot.result ≡ slot_of c.args.self.now.counts.items (get_or c.args.clauses.now.clauses c.len-place.result [])
+slot_is c = c.slot_of-slot.ensures ∙ (ap (λ (cs : List ℕ). slot_of cs c.clause.result.now) c.as_slice.ensures.value ∙ ap (slot_of c.args.self.now.counts.items) c.clause.ensures)
 
 slot_fits : (c : After-slot_of-slot) → c.slot_of-slot.result < vec_len c.args.self.now.last
 slot_fits c =
-    let next = get_or (c.args.formula.now.clauses ++ c.args.added.now.clauses) c.len-place.result [] in
-    let fits = slot_of-lt c.args.self.now.counts.items c.args.formula.now.vars (vec_len c.args.self.now.last) next (c.requires.form c.len-place.result [] (omega arith)) c.requires.room in
+    let next = get_or c.args.clauses.now.clauses c.len-place.result [] in
+    let fits = slot_of-lt c.args.self.now.counts.items c.args.clauses.now.vars (vec_len c.args.self.now.last) next (c.requires.form c.len-place.result [] (omega arith)) c.requires.room in
     omega (arith, slot_is c, fits)
 
 pub index-requires : goal.index-requires
@@ -33,7 +33,7 @@ index_mut-requires c = slot_fits (goal.at.index_mut-requires c).After-slot_of-sl
 
 pub returns-clause-lists : goal.returns-clause-lists
 returns-clause-lists c =
-    let clauses = c.args.formula.now.clauses ++ c.args.added.now.clauses in
+    let clauses = c.args.clauses.now.clauses in
     let counts = c.args.self.now.counts.items in
     let last = c.args.self.now.last.items in
     let earlier = c.args.self.now.earlier.items in
