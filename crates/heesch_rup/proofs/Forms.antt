@@ -15,10 +15,6 @@ pub line-form : (vars : ℕ) (clauses : List (List Lit)) (line : Line) → LineH
 line-form vars clauses (Learn clause hints) holds = holds.1.0
 line-form vars clauses (Given clause) holds = holds
 
--- each line's clause is one over the variables, where all lines hold
-pub lines-form : (vars : ℕ) (clauses : List (List Lit)) (lines : List Line) → LinesHold vars clauses lines → All (λ line. IsClause vars (clause_of line)) lines
-lines-form vars clauses lines hold k d lt = line-form vars _ (get_or lines k d) (hold k lt d)
-
 pub AreClauses-with : (vars : ℕ) (clauses : List (List Lit)) (lines : List Line) (n : ℕ) → n ≤ length lines → AreClauses vars clauses →
     ((k : ℕ) → k < n → HoldsAtLine vars clauses lines k) → AreClauses vars (clauses_with clauses (take n lines))
 AreClauses-with vars clauses lines n le form hold =

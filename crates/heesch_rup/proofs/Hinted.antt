@@ -1,5 +1,5 @@
 use Rattle.std.proofs.Common.{◌≡◌, ℕ, ◌+◌, ◌-◌, ◌<◌, ◌≤◌, Bool, not, ◌&&◌, IsTrue, ◌↔◌, List, [], ◌∷◌, ◌++◌, length, get_or, take, drop, All, is_none, refl, sym, ap, ◌∙◌, subst, arith, get_or-take, length-take-le}
-use Rattle.std.proofs.lemmas.List.{drop_more, get_or_append_left, get_or-append-add}
+use Rattle.std.proofs.lemmas.List.{drop_more, get_or-append-add}
 use Rattle.std.proofs.lemmas.List.Elements.{All-weaker, All-filter, All-head, All-tail}
 use Rattle.heesch_cnf.specs.declared.literal.Lit.{Lit}
 use Rattle.heesch_cnf.specs.Literals.{Values, lit_value, is_false_value, with_true, opposite}
@@ -14,10 +14,7 @@ have_places vars n clause room form = All-weaker (λ l. (1 ≤ l.var) × (l.var 
 pub have_places_numbered : (vars n : ℕ) (clauses : List (List Lit)) (h : ℕ) → vars < n → AreClauses vars clauses → IsNumber clauses h → All (λ l. l.var < n) (numbered clauses h)
 have_places_numbered vars n clauses h room form number = have_places vars n (numbered clauses h) room (form (h - 1) [] (omega (arith, number.0, number.1)))
 
--- the clause of a number among two lists, in the first or behind it
-pub numbered_first : (clauses more : List (List Lit)) (n : ℕ) → n - 1 < length clauses → numbered clauses n ≡ numbered (clauses ++ more) n
-numbered_first clauses more n lt = sym (get_or_append_left clauses more [] (n - 1) lt)
-
+-- the clause of a number among two lists that stands behind the first
 pub numbered_behind : (clauses more : List (List Lit)) (n k : ℕ) → n - 1 ≡ length clauses + k → get_or more k [] ≡ numbered (clauses ++ more) n
 numbered_behind clauses more n k is = sym (ap (λ (m : ℕ). get_or (clauses ++ more) m []) is ∙ get_or-append-add clauses more k [])
 

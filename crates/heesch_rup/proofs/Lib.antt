@@ -1,5 +1,4 @@
 pub mod Values
-pub mod Statuses
 pub mod Hinted
 pub mod Forms
 pub mod Answering

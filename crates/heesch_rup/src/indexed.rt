@@ -1,19 +1,28 @@
 //! A formula with its clauses listed, so that it tells whether a clause is new.
-ghost use Rattle.std.specs.Prelude.{◌≡◌, IfOk, vec_len, length};
-ghost use Rattle.heesch_cnf.specs.Clauses.{AreClauses};
-ghost use Rattle.heesch_rup.specs.Listed.{AreAllListed};
+ghost use Rattle.std.specs.Prelude.{◌≡◌, IfOk};
 
 use crate::occurrences::{Occurrences, occurrences_of};
 use heesch_cnf::{ClauseSource, FlatFormula, Left, Lit, NewnessSource};
 use heesch_io::NoMemory;
 use std::alloc::Global;
+use std::marker::Model;
 
-/// A formula, all of whose clauses are listed.
+/// A formula, all of whose clauses are listed. Contracts see the formula.
 #[derive(Drop)]
 pub struct IndexedFormula<'a> {
     formula: &'a FlatFormula,
     listed: Occurrences,
-    ghost all: { AreAllListed formula.now listed },
+}
+
+impl<'a> Model for IndexedFormula<'a> {
+    ghost use Rattle.heesch_cnf.specs.Flat.{Clauses};
+    ghost use Rattle.heesch_rup.specs.Listed.{AreAllListed};
+
+    ghost Value = { Clauses };
+
+    ghost view = { λ i. i.formula.now };
+
+    ghost invariant = { λ i. AreAllListed i.formula.now i.listed };
 }
 
 impl<'a> IndexedFormula<'a> {
@@ -24,7 +33,7 @@ impl<'a> IndexedFormula<'a> {
         lines: &FlatFormula,
     ) -> Result<IndexedFormula<'a>, NoMemory>
         requires { lines.now.vars ≡ formula.now.vars }
-        ensures { IfOk result (λ i. i.formula.now ≡ formula.now) }
+        ensures { IfOk result (λ i. i ≡ formula.now) }
     {
         // Reading the number of the variables tells the proof that the clauses are over them.
         let _vars = formula.vars();
@@ -34,7 +43,7 @@ impl<'a> IndexedFormula<'a> {
 }
 
 impl ClauseSource for IndexedFormula<'_> {
-    ghost listed = { λ i. i.formula.now };
+    ghost listed = { λ i. i };
 
     fn vars(&self) -> u32 {
         self.formula.vars()
@@ -52,6 +61,8 @@ impl ClauseSource for IndexedFormula<'_> {
 impl NewnessSource for IndexedFormula<'_> {
     fn is_new(&self, clause: &[Lit], values: &[Option<bool>]) -> bool {
         let count = self.formula.len();
-        !self.listed.contains_listed(values, self.formula, count, clause)
+        !self
+            .listed
+            .contains_listed(values, self.formula, count, clause)
     }
 }

@@ -21,7 +21,5 @@ pub fn is_falsified(values: &[Option<bool>], clause: &[PackedLit]) -> bool
     requires { All (λ l. l.var < length values.now) clause.now }
     ensures { IsTrue result ↔ IsFalsified (held values.now) clause.now }
 {
-    clause
-        .iter()
-        .all(|packed| matches!(value_of(values, packed.lit()), Some(false)))
+    clause.iter().all(|packed| matches!(value_of(values, packed.lit()), Some(false)))
 }

@@ -1,4 +1,4 @@
-use Rattle.std.proofs.Common.{◌≡◌, ◌+◌, ◌<◌, None, length, sym, ap, subst, arith}
+use Rattle.std.proofs.Common.{◌+◌, None, length, sym, ap, subst, arith}
 use Rattle.heesch_cnf.specs.Flat.{Clauses}
 use Rattle.heesch_rup.specs.Answer.{AddsFirst, IsFirstBad, IsFirstFailing, IsFormless}
 use Rattle.heesch_rup.proofs.Answering.{bad_among, bad_form, all_hold, all_added}

@@ -1,5 +1,4 @@
-use Rattle.std.proofs.Common.{◌++◌, ◌<◌, List, All, vec_len, get_or, arith}
-use Rattle.heesch_cnf.specs.declared.literal.Lit.{Lit}
+use Rattle.std.proofs.Common.{◌++◌, vec_len, get_or, arith}
 use Rattle.heesch_cnf.specs.Literals.{held}
 use Rattle.heesch_cnf.specs.Lines.{numbered}
 use Rattle.heesch_rup.proofs.Hinted.{have_places_numbered, has_place}

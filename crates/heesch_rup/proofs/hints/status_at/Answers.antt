@@ -1,4 +1,4 @@
-use Rattle.std.proofs.Common.{◌≡◌, ◌<◌, ◌++◌, Bool, Option, List, [], ◌∷◌, vec_len, subst}
+use Rattle.std.proofs.Common.{◌≡◌, ◌++◌, Bool, Option, List, [], ◌∷◌, vec_len, subst}
 use Rattle.heesch_cnf.specs.Clauses.{left_of}
 use Rattle.heesch_cnf.specs.Literals.{held}
 use Rattle.heesch_cnf.specs.Lines.{numbered}

@@ -1,8 +1,10 @@
-use Rattle.std.proofs.Common.{◌≡◌, true, false, [], refl, sym, ap, ◌∙◌, subst, arith}
+use Rattle.std.proofs.Common.{◌≡◌, true, false, [], length, refl, sym, ap, ◌∙◌, subst, arith}
+use Rattle.std.proofs.lemmas.List.{length-map}
 use Rattle.heesch_cnf.specs.declared.log.Line.{Line}
 use Rattle.heesch_cnf.specs.declared.log.Line.TheVariants.{Given}
 use Rattle.heesch_cnf.specs.Clauses.{IsClause}
 use Rattle.heesch_cnf.specs.Flat.{Clauses}
+use Rattle.heesch_cnf.specs.Lines.{clause_of}
 use Rattle.heesch_rup.proofs.Containing.{fresh_more, fresh_line, line_clause, line_of_new}
 use Rattle.heesch_rup.proofs.newness.are_new.Goals as goal
 
@@ -18,8 +20,10 @@ pub is_new-requires-clause-clause : goal.is_new-requires-clause-clause
 is_new-requires-clause-clause g c =
     let a = c.args.added.now in
     let d : Line = Given [] in
+    let lines = (g.S.Steps.written c.args.steps.now).lines in
     let same = ap (λ (x : Clauses). x.clauses) c.requires.added in
-    subst (IsClause a.vars) (sym (c.clause.ensures d)) (line_clause a.vars a.clauses (g.S.Steps.written c.args.steps.now).lines c.loop-i.i c.vars-vars.ensures.form same (omega arith) d)
+    let many = ap length same ∙ length-map lines clause_of in
+    subst (IsClause a.vars) (sym (c.clause.ensures d)) (line_clause a.vars a.clauses lines c.loop-i.i c.vars-vars.ensures.form same (omega (arith, many)) d)
 
 pub returns-then-not-branch : goal.returns-then-not-branch
 returns-then-not-branch g c =

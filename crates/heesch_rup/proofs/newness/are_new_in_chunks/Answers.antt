@@ -13,7 +13,7 @@ use Rattle.heesch_rup.proofs.newness.are_new_in_chunks.Goals as goal
 use Rattle.heesch_rup.proofs.newness.are_new_in_chunks.Goals.{In_ok-found, In-Ok}
 
 pub by_chunks-requires-clause-callable : goal.by_chunks-requires-clause-callable
-by_chunks-requires-clause-callable g c κs within chunk lt = (c.requires.listed, c.requires.added, omega (arith, lt, c.len.ensures.count))
+by_chunks-requires-clause-callable g c κs within chunk lt = (c.requires.listed, c.requires.vars, c.requires.added, omega (arith, lt, c.len.ensures.count))
 
 -- what is told of the chunk of a number, where so many clauses were added
 abbrev Tells : Clauses → List Line → ℕ → ℕ → Result Bool NoMemory → Type 0

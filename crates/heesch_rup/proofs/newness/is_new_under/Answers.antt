@@ -1,5 +1,4 @@
-use Rattle.std.proofs.Common.{◌≡◌, ◌++◌, true, false, take, List, MatchBool, subst, sym, ap, ◌∙◌, arith}
-use Rattle.heesch_cnf.specs.declared.literal.Lit.{Lit}
+use Rattle.std.proofs.Common.{◌≡◌, true, false, take, MatchBool, subst, arith}
 use Rattle.heesch_cnf.specs.Literals.{held}
 use Rattle.heesch_cnf.specs.Clauses.{IsNew}
 use Rattle.heesch_rup.specs.Listed.{SomeFalsified}

@@ -1,4 +1,4 @@
-use Rattle.std.proofs.Common.{All, List, ◌++◌, ◌≡◌, ℕ, ◌+◌, ◌*◌, ◌<◌, [], ◌∷◌, length, length-append, get_or, None, vec_len, sym, ap, ◌∙◌, subst, arith}
+use Rattle.std.proofs.Common.{All, List, ◌≡◌, ℕ, ◌+◌, ◌*◌, ◌<◌, [], ◌∷◌, length, length-append, get_or, None, vec_len, sym, ap, ◌∙◌, subst, arith}
 use Rattle.heesch_rup.specs.Listed.{slot_of, IsLastBelow}
 use Rattle.heesch_cnf.specs.declared.literal.Lit.{Lit}
 use Rattle.heesch_cnf.specs.Flat.{code_of}
