@@ -10,12 +10,12 @@ ghost use Rattle.heesch_audit.specs.Near.{IsNearProof, IsNearStep};
 use crate::proof_end::ProofEnd;
 use crate::proof_log::ProofLog;
 use heesch_cert::{Proof, Step};
-use heesch_cnf::{FlatFormula, Lits};
+use heesch_cnf::{ClauseSource, FlatFormula, Lits, NewnessSource};
 use heesch_cuts::{clause_of, lawful};
 use heesch_grid::Grid;
 use heesch_io::{NoMemory, Seq};
 use heesch_place::Universe;
-use heesch_rup::{LogAnswer, Steps, check_steps, is_spent};
+use heesch_rup::{LogAnswer, Steps, check_steps, is_spent, is_spent_over};
 use heesch_shape::Shape;
 use std::alloc::Global;
 use std::thread::Threads;
@@ -96,13 +96,14 @@ pub(crate) fn lawful_log<'a, G: Grid>(
 }
 
 /// Whether the log refutes the formula.
-fn is_refuted<R: Threads + Sync>(
+fn is_refuted<R: Threads + Sync, C: ClauseSource + Sync>(
     rt: &R,
     alloc: Global,
-    formula: &FlatFormula,
+    formula: &C,
     log: &ProofLog<'_>,
 ) -> Result<bool, NoMemory>
-    ensures { IfOk result (λ yes. IsTrue yes ↔ Refutes formula.now.vars formula.now.clauses log.now) }
+    ensures { let f = C.listed formula.now in
+        IfOk result (λ yes. IsTrue yes ↔ Refutes f.vars f.clauses log.now) }
 {
     match check_steps(rt, alloc, formula, log)? {
         LogAnswer::Refuted => Ok(true),
@@ -135,5 +136,23 @@ pub(crate) fn is_ended<R: Threads + Sync>(
     match end {
         ProofEnd::Refuted => is_refuted(rt, alloc, formula, log),
         ProofEnd::Spent => is_spent(rt, alloc, formula, log, turns),
+    }
+}
+
+/// The same over clauses that stand in no array, of which it can be told whether a further one is new.
+pub(crate) fn is_ended_over<R: Threads + Sync, N: NewnessSource + Sync>(
+    rt: &R,
+    alloc: Global,
+    formula: &N,
+    log: &ProofLog<'_>,
+    end: ProofEnd,
+    turns: u32,
+) -> Result<bool, NoMemory>
+    ensures { let f = N.listed formula.now in
+        IfOk result (λ yes. IsTrue yes ↔ LogEnds end f.vars f.clauses turns log.now) }
+{
+    match end {
+        ProofEnd::Refuted => is_refuted(rt, alloc, formula, log),
+        ProofEnd::Spent => is_spent_over(rt, alloc, formula, log, turns),
     }
 }
