@@ -1,0 +1,62 @@
+"""What the tools share as commands: options whose faults are one line, and the one way in which a tool ends."""
+import argparse
+import os
+import sys
+
+from .faults import Fault
+
+REFUSED = 2  # the status of every fault
+CLOSED = 141  # the status where the reader of the output has gone, as a shell tells it of other programs
+STOPPED = 130  # the status after an interrupt from the keyboard
+
+
+class Parser(argparse.ArgumentParser):
+    """A parser of the words of a tool. Its help is the text as written, and its faults are one line."""
+
+    def __init__(self, description, **options):
+        super().__init__(description=description, formatter_class=argparse.RawDescriptionHelpFormatter,
+                         allow_abbrev=False, **options)
+
+    def error(self, message):
+        raise Fault(f'{message}; {self.prog} --help tells more')
+
+
+def program_name():
+    """The name by which the tool was called, without its folder."""
+    return os.path.basename(sys.argv[0])
+
+
+def main(body):
+    """Runs the body of a tool and ends the process: with its status or 0, or with one line of a fault and status 2."""
+    try:
+        status = body() or 0
+        sys.stdout.flush()
+    except BrokenPipeError:
+        status = CLOSED
+    except KeyboardInterrupt:
+        status = STOPPED
+    except Fault as fault:
+        status = _told(str(fault))
+    except OSError as error:
+        status = _told(': '.join(str(part) for part in (error.filename, error.strerror or error) if part))
+    _end(status)
+
+
+def _told(words):
+    """Writes a fault as one line, behind what was written before it, and answers its status."""
+    try:
+        sys.stdout.flush()
+    except OSError:
+        pass
+    line = ' '.join(words.split())
+    print(f'{program_name()}: {line}', file=sys.stderr)
+    return REFUSED
+
+
+def _end(status):
+    """Ends the process. What couldn't be written to standard output is dropped, so that nothing is told of it."""
+    try:
+        sys.stdout.flush()
+    except OSError:
+        os.dup2(os.open(os.devnull, os.O_WRONLY), sys.stdout.fileno())
+    sys.exit(status)
