@@ -43,7 +43,8 @@ FORMS = {word: re.compile(form) for word, form in {
     'end': f'end {NATURAL}',
 }.items()}
 STEPS = ('learn', 'cut')  # the lines of a proof but its last
-SHOWN = 60  # bytes of a line that a fault quotes at most
+MOST_UNITS = 4096  # P times Q of a lattice at most
+SHOWN = 60  # characters of a line that a fault quotes at most
 
 
 def quoted(line):
@@ -64,7 +65,8 @@ class Order:
         self._then = ()  # what may come behind the layers or the proof that stand now
         self._layers = 0  # how many more layers have to come
         self._open = None  # the one number that `open` may have, or None where it may have any
-        self._free = self._goal = 0  # the first and the last number of the verdict
+        self._goal = 0  # the last number of the verdict
+        self._free = 0  # the number behind `coronas`
         self._has_heesch_number = False  # whether `hc` stands before `hh`
 
     def take(self, line):
@@ -102,27 +104,30 @@ class Order:
 
     def _take_verdict(self, words):
         is_tiling = words[1] == 'tiles'
-        self._free = 0 if is_tiling else int(words[2] if words[1] == 'heesch' else words[3])
         self._goal = int(words[-1])
         self._open = None
         self._next = self._close if self.kind == 'brief' else ('lattice',) if is_tiling else ('coronas',)
 
+    def _require_lattice(self, p, q, s):
+        self._require(int(s) < int(p) and int(p) * int(q) <= MOST_UNITS,
+                      f'{p} {q} {s} is no lattice: P times Q is at most {MOST_UNITS}, and S is below P')
+
     def _take_lattice(self, words):
-        self._require(int(words[3]) < int(words[1]), 'the last number of a lattice has to be below its first')
+        self._require_lattice(*words[1:])
         self._next = ('tile',)
 
     def _take_tile(self, _):
         self._next = ('tile',) + self._close
 
     def _take_coronas(self, words):
-        self._require(int(words[1]) == self._free, f'the verdict asks for `coronas {self._free}`')
+        self._free = int(words[1])
         self._expect_layers(self._free, ('wall', 'triple') + self._close)
 
     def _take_layer(self, _):
         self._expect_layers(self._layers - 1, self._then)
 
     def _take_wall(self, words):
-        self._require(int(words[1]) == self._free + 1, f'the verdict asks for `wall {self._free + 1}`')
+        self._require(int(words[1]) == self._free + 1, f'`coronas {self._free}` asks for `wall {self._free + 1}`')
         after = ('triple',) + self._close
         if words[2] == 'size':
             self._next = after
@@ -132,7 +137,7 @@ class Order:
     def _take_bare(self, words):
         number, word, after = int(words[1]), words[2], ('triple',) + self._close
         wanted = {'same': self._free + 1, 'open': number}.get(word, self._goal)
-        self._require(number == wanted, f'the verdict asks for `bare {wanted} {word}`')
+        self._require(number == wanted, f'here has to stand `bare {wanted} {word}`')
         if word == 'same':
             self._next = after
         elif word == 'open':
@@ -149,6 +154,7 @@ class Order:
         self._expect_layers(number, ('triple',) + self._close)
 
     def _take_triple(self, words):
+        self._require_lattice(*words[1:4])
         self._expect_proof(words[4], ('triple',) + self._close)
 
     def _take_empty(self, _):
@@ -157,7 +163,7 @@ class Order:
     _take_spent = _take_empty
 
     def _take_hc(self, words):
-        self._require(int(words[1]) == self._free, f'the verdict asks for `hc {self._free}`')
+        self._require(int(words[1]) == self._free, f'`coronas {self._free}` asks for `hc {self._free}`')
         self._has_heesch_number, self._next = True, ('hh',)
 
     def _take_hh(self, words):
