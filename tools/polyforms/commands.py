@@ -21,6 +21,29 @@ class Parser(argparse.ArgumentParser):
         raise Fault(f'{message}; {self.prog} --help tells more')
 
 
+def positive(word):
+    """The type of an option that is a whole number from 1."""
+    if not word.isascii() or not word.isdigit() or int(word) < 1:
+        raise argparse.ArgumentTypeError(f'{word!r} is no whole number from 1')
+    return int(word)
+
+
+def natural(word):
+    """The type of an option that is a whole number from 0."""
+    if not word.isascii() or not word.isdigit():
+        raise argparse.ArgumentTypeError(f'{word!r} is no whole number from 0')
+    return int(word)
+
+
+def grid_of(text, given):
+    """The name of the grid of a text; `given` is what an option says, which an outer text needs."""
+    if text.grid and given not in (None, text.grid):
+        raise text.fault(f'this is a text of the grid {text.grid}, and --grid says {given}')
+    if not text.grid and not given:
+        raise text.fault("an outer text doesn't say its grid; --grid has to tell it")
+    return text.grid or given
+
+
 def program_name():
     """The name by which the tool was called, without its folder."""
     return os.path.basename(sys.argv[0])

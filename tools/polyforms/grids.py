@@ -58,11 +58,15 @@ class Grid:
 
     def corners(self, cell):
         """The corners of a cell, in the order in which its outline goes round."""
-        kind = self._corners_of_kind.get(self._kind(cell))
-        if kind is None:
-            raise Fault(f'{cell[0]},{cell[1]} is no cell of the grid {self.name}')
         a, b = self.scale * cell[0], self.scale * cell[1]
-        return [(a + x, b + y) for x, y in kind]
+        return [(a + x, b + y) for x, y in self._corners_of_kind[self._kind(cell)]]
+
+    def checked(self, cells):
+        """The cells, where each is a cell of this grid."""
+        for cell in cells:
+            if not self.is_cell(cell):
+                raise Fault(f'{cell[0]},{cell[1]} is no cell of the grid {self.name}')
+        return cells
 
     # ---- neighbours
 

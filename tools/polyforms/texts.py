@@ -215,10 +215,20 @@ class Text:
         """The fault of these words at a line, or at the line that was read last."""
         return Fault(f'{self.name}: line {line or self._line}: {words}')
 
+    @contextlib.contextmanager
+    def at(self, line=None):
+        """Gives each fault that is raised in the block the place of this line, or of the one that was read last."""
+        try:
+            yield
+        except Fault as fault:
+            raise self.fault(fault, line) from None
+
     def __iter__(self):
         while (line := self._take()).startswith('shape '):
             start, cells = self._line, parse_cells(line[len('shape '):])
-            self._check_cells(cells)
+            if self.header:
+                with self.at():
+                    grids.named(self.grid).checked(cells)
             verdict = parse_verdict(self._take())
             self.count += 1
             entry = Entry(self, self.count, start, cells, verdict)
@@ -284,10 +294,6 @@ class Text:
             raise self.fault(fault) from None
         self._held = None
         return line
-
-    def _check_cells(self, cells):
-        if self.header and not all(map(grids.named(self.header.grid).is_cell, cells)):
-            raise self.fault(f'not all of these are cells of the grid {self.header.grid}')
 
     def _refuse_more(self):
         if self._file.readline(1):

@@ -17,37 +17,43 @@ class WholeFile:
     """
 
     def __init__(self, path):
-        self.path, self.size = path, 0
-        with self._refusing():
+        self.path, self.size, self._file = path, 0, None
+        try:
             self._file = open(path + UNFINISHED, 'ab')
-            try:
-                fcntl.flock(self._file, fcntl.LOCK_EX | fcntl.LOCK_NB)
-            except BlockingIOError:
-                self._file.close()
-                raise Fault(f'{path}: another process is writing it') from None
+            fcntl.flock(self._file, fcntl.LOCK_EX | fcntl.LOCK_NB)
             self._file.truncate(0)
+        except BlockingIOError:
+            self._file.close()
+            raise Fault(f'{path}: another process is writing it') from None
+        except OSError as error:
+            self._refuse(error)
 
     def write(self, data):
         """Writes bytes."""
-        with self._refusing():
+        try:
             self._file.write(data)
-            self.size += len(data)
+        except OSError as error:
+            self._refuse(error)
+        self.size += len(data)
 
     def close(self):
         """Has the disk keep the bytes, and then gives the file its name."""
-        with self._refusing():
+        try:
             self._file.flush()
             os.fsync(self._file.fileno())
             os.replace(self.path + UNFINISHED, self.path)
             self._file.close()
             keep_names(os.path.dirname(self.path) or '.')
+        except OSError as error:
+            self._refuse(error)
 
     def drop(self):
         """Leaves nothing of the file."""
         with contextlib.suppress(OSError):
             os.remove(self.path + UNFINISHED)
-        with contextlib.suppress(OSError):
-            self._file.close()
+        if self._file:
+            with contextlib.suppress(OSError):
+                self._file.close()
 
     def __enter__(self):
         return self
@@ -58,15 +64,9 @@ class WholeFile:
         else:
             self.drop()
 
-    @contextlib.contextmanager
-    def _refusing(self):
-        """Turns what the disk refuses into a Fault, and drops the file."""
-        try:
-            yield
-        except OSError as error:
-            if hasattr(self, '_file'):
-                self.drop()
-            raise Fault(f'{self.path}: {error.strerror or error}') from None
+    def _refuse(self, error):
+        self.drop()
+        raise Fault(f'{self.path}: {error.strerror or error}') from None
 
 
 def write_whole(path, text):
