@@ -59,3 +59,19 @@ def lines_of(program, words, text):
             yield told
     if process.returncode:
         raise Fault(f'{" ".join(["heesch", *words])}: {ending(process.returncode)}: {told}')
+
+
+def pour(command, source, take, folder=None):
+    """Runs a command over an open file, or none, and hands what it writes to `take`, piece by piece.
+
+    It runs in `folder` where one is given. A Fault with what it wrote last where it ends with another status than 0.
+    """
+    last = b''
+    with subprocess.Popen(command, stdin=source or subprocess.DEVNULL, stdout=subprocess.PIPE, bufsize=0,
+                          cwd=folder) as process:
+        while piece := process.stdout.read(PIECE):
+            take(piece)
+            last = piece
+    if process.returncode:
+        name = ' '.join([os.path.basename(command[0]), *command[1:]])
+        raise Fault(f'{name}: {ending(process.returncode)}: {last[-80:].decode("ascii", "replace").strip()}')

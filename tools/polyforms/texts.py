@@ -146,10 +146,13 @@ class Outer:
 
 
 class Entry:
-    """An entry: its number, the number of its first line, its cells, its verdict; and, once read, its parts."""
+    """An entry: its number, where its first line stands, its cells, its verdict; and, once read, its parts.
 
-    def __init__(self, text, number, line, cells, verdict):
-        self.number, self.line, self.cells, self.verdict = number, line, cells, verdict
+    `line` is the number of its first line, and `offset` the number of bytes before it.
+    """
+
+    def __init__(self, text, number, line, offset, cells, verdict):
+        self.number, self.line, self.offset, self.cells, self.verdict = number, line, offset, cells, verdict
         self.lattice, self.tiles, self.coronas, self.open = None, [], [], []
         self.wall = self.bare = self.outer = None
         self._text, self._is_read, self._layers, self._heesch = text, False, [], None
@@ -197,12 +200,13 @@ class Text:
     """A text that is being read: its kind, its share, its header, and by iteration, once, its entries.
 
     `kind` is 'full', 'brief' or 'outer'; `share` is (I, K) or None; `header` is None of an outer text; `count` is the
-    number of entries taken so far. Each fault names the file, as it was given, and the line.
+    number of entries taken so far; `offset` is the number of bytes before the line that comes next. Each fault names
+    the file, as it was given, and the line.
     """
 
     def __init__(self, file, name):
         self.name, self.share, self.header, self.kind, self.count = name, None, None, 'outer', 0
-        self._file, self._line, self._held = file, 0, None
+        self._file, self._line, self._held, self.offset = file, 0, None, 0
         self._read_start()
         self._order = lines.Order(self.kind)
 
@@ -226,12 +230,13 @@ class Text:
     def __iter__(self):
         while (line := self._take()).startswith('shape '):
             start, cells = self._line, parse_cells(line[len('shape '):])
+            offset = self.offset - len(line) - 1
             if self.header:
                 with self.at():
                     grids.named(self.grid).checked(cells)
             verdict = parse_verdict(self._take())
             self.count += 1
-            entry = Entry(self, self.count, start, cells, verdict)
+            entry = Entry(self, self.count, start, offset, cells, verdict)
             yield entry
             for _ in self.lines_of(entry):
                 pass
@@ -253,6 +258,7 @@ class Text:
             self.share = _numbers(found.groups())
             if not self.share[0] <= self.share[1]:
                 raise self.fault(f'there is no {line}')
+            self.offset += len(line) + 1
             line = self._read(FIRST_LINE)
         elif line.startswith(('shape ', 'end ')):
             self._held = line
@@ -263,6 +269,7 @@ class Text:
         if self.share and (self.header.is_brief or self.header.size is None):
             raise self.fault('a share has the full header of a size')
         self.kind = 'brief' if self.header.is_brief else 'full'
+        self.offset += len(line) + 1
 
     # ---- lines
 
@@ -293,6 +300,7 @@ class Text:
         except Fault as fault:
             raise self.fault(fault) from None
         self._held = None
+        self.offset += len(line) + 1
         return line
 
     def _refuse_more(self):
