@@ -1,4 +1,5 @@
 """The program `heesch`: where it is, what its statuses mean, and how a tool asks it for a text."""
+import contextlib
 import hashlib
 import os
 import shutil
@@ -51,8 +52,9 @@ def lines_of(program, words, text):
     """
     command = [program, *words]
     with subprocess.Popen(command, stdin=subprocess.PIPE, stdout=subprocess.PIPE, encoding='ascii') as process:
-        process.stdin.write(text)
-        process.stdin.close()
+        with contextlib.suppress(BrokenPipeError):  # where it ends without reading, its status tells why
+            process.stdin.write(text)
+            process.stdin.close()
         told = ''
         for line in process.stdout:
             told = line.rstrip('\n')
