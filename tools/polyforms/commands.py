@@ -1,5 +1,6 @@
 """What the tools share as commands: options whose faults are one line, and the one way in which a tool ends."""
 import argparse
+import contextlib
 import os
 import sys
 
@@ -52,7 +53,8 @@ def program_name():
 def main(body):
     """Runs the body of a tool and ends the process: with its status or 0, or with one line of a fault and status 2."""
     try:
-        status = body() or 0
+        _prepare_output()
+        status = _status_of(body)
         sys.stdout.flush()
     except BrokenPipeError:
         status = CLOSED
@@ -65,14 +67,27 @@ def main(body):
     _end(status)
 
 
+def _status_of(body):
+    """The status with which a body ends, be it by `--help`."""
+    try:
+        return body() or 0
+    except SystemExit as end:
+        return end.code or 0
+
+
+def _prepare_output():
+    """Makes standard output take the names of any files."""
+    if sys.stdout is None:
+        raise Fault('standard output is closed')
+    sys.stdout.reconfigure(encoding='utf-8', errors='surrogateescape')
+
+
 def _told(words):
     """Writes a fault as one line, behind what was written before it, and answers its status."""
-    try:
+    with contextlib.suppress(OSError, AttributeError):
         sys.stdout.flush()
-    except OSError:
-        pass
-    line = ' '.join(words.split())
-    print(f'{program_name()}: {line}', file=sys.stderr)
+    with contextlib.suppress(OSError, AttributeError):
+        sys.stderr.write(f'{program_name()}: {" ".join(words.split())}\n')
     return REFUSED
 
 
@@ -82,4 +97,6 @@ def _end(status):
         sys.stdout.flush()
     except OSError:
         os.dup2(os.open(os.devnull, os.O_WRONLY), sys.stdout.fileno())
+    except AttributeError:  # there is no standard output
+        pass
     sys.exit(status)

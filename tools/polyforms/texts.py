@@ -3,13 +3,12 @@
 Nothing but the entry at hand is kept, and of it only what is asked for.
 """
 import contextlib
-import dataclasses
-import sys
 from typing import NamedTuple, Optional
 
 from . import grids, lines
 from .faults import Fault
 
+STANDARD_INPUT = 0
 FIRST_LINE = 4096  # characters of a first line at most: of a share, a header or a shape
 
 
@@ -133,16 +132,15 @@ class Tile(NamedTuple):
     by: tuple
 
 
-@dataclasses.dataclass
-class Outer:
+class Outer(NamedTuple):
     """What an outer text says of the outer number: `word` is 'tiles', 'undecided', 'spent' or 'number'.
 
     `heesch` is the number behind `hc`, `number` the outer number, `coronas` the outer coronas that are written.
     """
     word: str
-    heesch: Optional[int] = None
-    number: Optional[int] = None
-    coronas: list = dataclasses.field(default_factory=list)
+    heesch: Optional[int]
+    number: Optional[int]
+    coronas: list
 
 
 class Entry:
@@ -189,8 +187,8 @@ class Entry:
 
     def _keep_outer(self, word):
         is_number = word.isdigit()
-        self.outer = Outer('number' if is_number else word, self._heesch, int(word) if is_number else None)
-        self._layers = self.outer.coronas
+        self._layers = []
+        self.outer = Outer('number' if is_number else word, self._heesch, int(word) if is_number else None, self._layers)
 
 
 # ---- texts
@@ -313,7 +311,7 @@ def opened(path):
     """The text of a file, or of standard input where the path is `-`, while the block runs."""
     name = 'standard input' if path == '-' else str(path)
     try:
-        file = open(sys.stdin.fileno() if path == '-' else path, encoding='ascii', errors='surrogateescape',
+        file = open(STANDARD_INPUT if path == '-' else path, encoding='ascii', errors='surrogateescape',
                     newline='\n', closefd=path != '-')
     except OSError as error:
         raise Fault(f'{name}: {error.strerror}') from None

@@ -2,12 +2,16 @@
 
 Tests that need the program `heesch` run only where the environment has HEESCH=PATH; mark them by `needs_program`.
 """
+import contextlib
+import io
 import os
 import pathlib
+import runpy
 import subprocess
 import sys
 import tempfile
 import unittest
+from unittest import mock
 
 TOOLS = pathlib.Path(__file__).resolve().parent.parent
 DATA = TOOLS / 'tests' / 'data'
@@ -16,7 +20,6 @@ REFUSED = 2
 SECONDS = 60
 
 sys.path.insert(0, str(TOOLS))
-sys.dont_write_bytecode = True
 
 needs_program = unittest.skipUnless(PROGRAM, 'HEESCH names no program')
 
@@ -31,10 +34,23 @@ def read(name):
     return (DATA / name).read_text(encoding='ascii')
 
 
+def called(name, *words):
+    """A finished call of a tool in this process, which costs no start of another; it reads no standard input."""
+    output, faults, path = io.TextIOWrapper(io.BytesIO()), io.StringIO(), str(TOOLS / name)
+    with mock.patch.object(sys, 'argv', [path, *map(str, words)]), \
+            contextlib.redirect_stdout(output), contextlib.redirect_stderr(faults):
+        try:
+            runpy.run_path(path, run_name='__main__')
+            status = None
+        except SystemExit as end:
+            status = end.code
+    return subprocess.CompletedProcess(name, status, output.buffer.getvalue().decode(), faults.getvalue())
+
+
 def tool(name, *words, text=None):
-    """A finished call of a tool: its status `returncode`, and `stdout` and `stderr` as words."""
-    return subprocess.run([sys.executable, str(TOOLS / name), *map(str, words)], input=text, text=True,
-                          capture_output=True, timeout=SECONDS, check=False)
+    """A finished call of a tool as a process: its status `returncode`, and `stdout` and `stderr` as words."""
+    command = [sys.executable, '-S', str(TOOLS / name), *map(str, words)]  # -S: no packages, and a quicker start
+    return subprocess.run(command, input=text, text=True, capture_output=True, timeout=SECONDS, check=False)
 
 
 def program(*words, text=''):
@@ -62,7 +78,7 @@ class ToolTest(unittest.TestCase):
 
     def done(self, name, *words, text=None):
         """What a tool writes to standard output, where it ends well and is quiet."""
-        result = tool(name, *words, text=text)
+        result = called(name, *words) if text is None else tool(name, *words, text=text)
         self.assertEqual((result.returncode, result.stderr), (0, ''))
         return result.stdout
 
@@ -79,10 +95,10 @@ class ToolTest(unittest.TestCase):
         The words of the call are `words`, the path of the text, and those of `behind`.
         """
         missing = str(self.folder / 'missing.txt')
-        self.assert_refused(tool(name, *words, missing, *behind), missing)
+        self.assert_refused(called(name, *words, missing, *behind), missing)
         for path, part in self.bad_texts():
             with self.subTest(tool=name, path=path):
-                self.assert_refused(tool(name, *words, path, *behind), path, part)
+                self.assert_refused(called(name, *words, path, *behind), path, part)
 
     def bad_texts(self):
         """Paths of texts that are none, each with the place that a fault has to tell."""
