@@ -3,9 +3,9 @@
 const ANSWER_ORDER = [...Object.keys(KINDS), ...UNDECIDED_BY, 'yes', 'no', 'spent'];
 
 /**
- * A question: `of` answers a shape's answer as text, or null where it has none, and `look` an answer's words and, where
- * shapes are coloured by it, its colour. Choices among questions of one group add up, and each group narrows what the
- * others leave: a shape has one verdict, but a number of classes besides.
+ * A question about shapes. `of` gives the answer of a shape as text, or null where it has none; `look` gives the words
+ * of an answer and, where shapes are coloured by it, its colour. Choices among questions of one group add up, and each
+ * group narrows what the others leave: a shape has one verdict, but a number of classes besides.
  */
 class Question {
   constructor(name, title, group, of, look = answer => ({words: answer})) {

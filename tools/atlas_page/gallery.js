@@ -50,6 +50,7 @@ class Gallery {
     for (const button of this.buttons) this.observer.observe(button);
   }
 
+  /** Draws the picture of a button, where that isn't done. */
   draw(button) {
     if (button.children.length > 1) return;
     this.observer.unobserve(button);
@@ -65,13 +66,14 @@ class Gallery {
     document.getElementById('none').hidden = this.shown.length > 0;
   }
 
-  /** The button at which the tabulator key arrives. */
+  /** The button at which the Tab key arrives. */
   makeCurrent(button) {
     if (this.current) this.current.tabIndex = -1;
     this.current = button;
     if (button) button.tabIndex = 0;
   }
 
+  /** Brings a shape's button into view and gives it the focus, where it is shown. */
   focus(shape) {
     const button = this.buttons[shape.number - 1];
     if (!button.hidden) button.focus();

@@ -2,7 +2,10 @@
 
 const TINTS = 'In full colour: the tiles of one period. In each tint: the translates of one of them.';
 
-/** The dialogue. It steps from shape to shape among those that `shown` answers. */
+/**
+ * The dialogue. It steps from shape to shape among those that `shown` answers. `whenChanged` is called when a shape
+ * was opened and when the dialogue was closed, with the shape that was opened last.
+ */
 class Opened {
   constructor(grid, catalogue, shown, whenChanged) {
     this.grid = grid;
@@ -19,11 +22,13 @@ class Opened {
     this.part('save').addEventListener('click', () => this.save());
     this.dialog.addEventListener('click', event => { if (event.target === this.dialog) this.dialog.close(); });
     addEventListener('keydown', event => this.key(event));
-    this.dialog.addEventListener('close', () => {
-      const shape = this.shape;
-      this.shape = null;
-      this.whenChanged(shape);
-    });
+    this.dialog.addEventListener('close', () => this.closed());
+  }
+
+  closed() {
+    const shape = this.shape;
+    this.shape = null;
+    this.whenChanged(shape);
   }
 
   /** Shows a shape, in the dialogue that is opened where it isn't. */
@@ -31,7 +36,7 @@ class Opened {
     this.shape = shape;
     const {entry} = shape;
     this.part('title').textContent = `Shape ${shape.number}`;
-    this.part('verdict').replaceChildren(swatch(shape.colour), ...shape.sentences.map(words => `${words} `));
+    this.part('verdict').textContent = shape.sentences.join(' ');
     this.part('line').textContent = `verdict ${shape.line}`;
     this.part('cells').textContent = entry.cells;
     this.part('copied').textContent = '';
@@ -59,6 +64,7 @@ class Opened {
     this.showPicture(pictures[0], place.firstElementChild);
   }
 
+  /** Shows one of the pictures, with its legend. */
   showPicture({name, make}, button) {
     for (const other of this.part('pictures').children) other.setAttribute('aria-pressed', other === button);
     this.name = name;
@@ -67,23 +73,28 @@ class Opened {
     const words = [`${name} ${this.shape.number}`, ...legend.map(group => group.words)];
     this.part('picture').innerHTML = this.picture.forPage(words.join(', '));
     const lines = legend.map(group => element('li', {}, swatch(group.colour), group.words));
-    if (this.shape.entry.cover) lines.push(element('li', {className: 'tints', textContent: TINTS}));
+    const {cover, domain} = this.shape.entry;
+    if (cover && domain > 1) lines.push(element('li', {className: 'tints', textContent: TINTS}));
     this.part('legend').replaceChildren(...lines);
   }
 
+  /** Shows which of the shapes it is, and whether there is one before and one behind it. */
   showNeighbours() {
     const shapes = this.shown(), at = shapes.indexOf(this.shape);
     this.part('previous').disabled = at <= 0;
     this.part('next').disabled = at < 0 || at === shapes.length - 1;
-    this.part('place').textContent = at < 0 ? '' : `${(at + 1).toLocaleString('en')} of ${counted(shapes.length, 'shape')}`;
+    this.part('place').textContent = at < 0 ? 'not among the shapes that the filters show'
+      : `${(at + 1).toLocaleString('en')} of ${counted(shapes.length, 'shape')}`;
   }
 
+  /** Shows the shape so many places further, where there is one. */
   step(by) {
     const shapes = this.shown(), at = shapes.indexOf(this.shape);
     const next = at < 0 ? null : shapes[at + by];
     if (next) this.open(next);
   }
 
+  /** The arrow keys step. They are taken wherever the focus is, since a button that is disabled loses it. */
   key(event) {
     if (!this.shape || event.ctrlKey || event.altKey || event.metaKey) return;
     if (event.key === 'ArrowLeft') this.step(-1);
@@ -104,6 +115,7 @@ class Opened {
     }
   }
 
+  /** Saves the picture that is shown as a file. */
   save() {
     const caption = `${this.catalogue.grid.name}, ${counted(this.shape.cells.length, 'cell')}: ${this.shape.line}`;
     const file = new Blob([this.picture.forFile(caption)], {type: 'image/svg+xml'});

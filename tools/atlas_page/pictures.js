@@ -57,7 +57,8 @@ class Picture {
     const outlines = edges.flatMap(({loops}) => loops).map(loop => this.path(loop) + 'Z').join('');
     const inner = edges.flatMap(({inner}) => inner).map(edge => this.path(edge)).join('');
     const [line, width] = group.opacity < 1 ? [lines.pale, 1.2] : [lines.outer, 2.2];
-    return `<path d="${outlines}" fill="${group.colour}" fill-opacity="${rounded(group.opacity)}" fill-rule="evenodd"/>`
+    const fill = `fill="${group.colour}" fill-opacity="${rounded(group.opacity)}" fill-rule="evenodd"`;
+    return `<path d="${outlines}" ${fill}/>`
       + (inner && `<path d="${inner}" fill="none" stroke="${lines.inner}" stroke-width="0.8"/>`)
       + `<path d="${outlines}" fill="none" stroke="${line}" stroke-width="${width}" stroke-linejoin="round"/>`;
   }
@@ -140,8 +141,14 @@ function tilingPicture(grid, shape) {
   const groups = classesOf(tiles).flatMap(({number, members}) => members.map((i, rank) =>
     new TileGroup(colourOfClass(number), copies[i].slice(1), null, tint(rank, members.length))));
   const period = classesOf(tiles).map(({number, members}) => new TileGroup(colourOfClass(number),
-    members.map(i => copies[i][0]), `class ${number}: ${members.length} of ${counted(tiles.length, 'tile')} a period`));
+    members.map(i => copies[i][0]), `class ${number}: ${ofPeriod(members.length, tiles.length)}`));
   return new Picture(grid, [...groups.filter(group => group.tiles.length), ...period]);
+}
+
+/** In words, how many of the tiles of a period there are. */
+function ofPeriod(some, all) {
+  if (all === 1) return 'the one tile of a period';
+  return some === all ? `all ${all} tiles of a period` : `${some} of the ${all} tiles of a period`;
 }
 
 /** The opacity of the translates of a tile: they spread evenly where a class has several tiles. */

@@ -20,20 +20,22 @@ class Page {
     this.filters = new Filters(this.shapes);
     this.controls = new Controls(this.filters, () => { this.update(); this.writeAddress(); });
     this.gallery = new Gallery(grid, this.shapes, shape => this.opened.open(shape));
-    this.opened = new Opened(grid, catalogue, () => this.shown, shape => this.whenOpened(shape));
+    this.opened = new Opened(grid, catalogue, () => this.shown, shape => this.whenOpenedOrClosed(shape));
     drawTally(this.filters);
     this.readAddress();
     addEventListener('hashchange', () => this.readAddress());
   }
 
+  /** Shows what the filters admit. */
   update() {
     this.shown = this.filters.admitted();
     this.gallery.show(this.shown);
     this.controls.update(this.shown.length);
   }
 
-  whenOpened(shape) {
-    if (!this.opened.shape && shape) this.gallery.focus(shape);
+  /** Where the dialogue was closed, the shape that it showed last has the focus. */
+  whenOpenedOrClosed(shape) {
+    if (!this.opened.shape) this.gallery.focus(shape);
     this.writeAddress();
   }
 
@@ -45,6 +47,7 @@ class Page {
     history.replaceState(null, '', words ? `#${words}` : location.pathname + location.search);
   }
 
+  /** Takes choices and the opened shape from the address. */
   readAddress() {
     const pairs = new Map(location.hash.slice(1).split('&').map(pair => pair.split('=')));
     this.filters.take(pairs);

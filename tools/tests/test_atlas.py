@@ -2,11 +2,13 @@
 import functools
 import json
 import re
+import runpy
 import unittest
+from unittest import mock
 
 import chromium
 import helpers
-from polyforms import tallies, texts
+from polyforms import commands, grids, tallies, texts
 
 # by docs/TABLES.md: shapes, tilings by kind, Heesch numbers, undecided by `levels`, and holed shapes
 COUNTS = {
@@ -17,7 +19,6 @@ COUNTS = {
 }
 OUTER = {'outer-square': 'square', 'outer-hex': 'hex', 'outer-iamond-7': 'iamond', 'outer-kite-4': 'kite'}
 GRIDS = {**{name: None for name in COUNTS}, 'square-8-brief': None, 'kite-4-share-1': None, **OUTER}
-MOST_SHAPES = 20_000
 
 
 def grid_words(name):
@@ -85,7 +86,8 @@ class PageTest(AtlasTest):
                 self.assertIn("default-src 'none'", page)
 
     def test_words_on_top(self):
-        words = {'square-7': 'Catalogue square 7, version 2. Limits: turns 20,000, levels 3, domain 4, size 60,000,000.',
+        limits = 'Limits: turns 20,000, levels 3, domain 4, size 60,000,000.'
+        words = {'square-7': f'Catalogue square 7, version 2. {limits}',
                  'kite-4-share-1': '<h1>Polykites of 4 cells, share 1 of 2</h1>',
                  'kite-4-second': '<h1>Given polykites of 4 cells</h1>',
                  'square-8-brief': '<p class="notice">This is a brief catalogue: it has verdicts and no evidence',
@@ -116,10 +118,11 @@ class PageTest(AtlasTest):
         self.assert_refused(helpers.tool('atlas', '-', text=text), 'line 2: ', 'turn')
 
     def test_too_many_shapes(self):
-        entry = 'shape 0,0\nverdict tiles translation domain 1 classes 1\n'
-        text = ('brief 2 square given turns 1 levels 1 domain 1 size 1\n' + entry * (MOST_SHAPES + 1)
-                + f'end {MOST_SHAPES + 1}\n')
-        self.assert_refused(helpers.tool('atlas', '-', text=text), f'line {2 * MOST_SHAPES + 2}: ', '20,000')
+        page_of = runpy.run_path(str(helpers.TOOLS / 'atlas'))['page_of']
+        fault = r'iamond-7\.txt: line [0-9]+: a page shows at most 23 shapes'
+        with texts.opened(helpers.data('iamond-7.txt')) as text, self.assertRaisesRegex(commands.Fault, fault):
+            with mock.patch.dict(page_of.__globals__, MOST_SHAPES=23):
+                page_of(text, grids.named('iamond'))
 
 
 def places(words):
@@ -222,7 +225,7 @@ class BrowserTest(AtlasTest):
         self.assert_quiet()
 
     def test_every_shape_opens(self):
-        for name in (*COUNTS, *OUTER):
+        for name in ('hex-6', 'iamond-7', 'kite-4', 'undecided-holes', *OUTER):
             with self.subTest(name):
                 self.open(name, 'shape=1')
                 opened = self.browser.value('''(() => {
