@@ -1,17 +1,18 @@
 """Polyform catalogues: the texts of `heesch`, line by line, and the four grids.
 
-docs/FORMAT.md is the definition of all that this package reads and writes. The package believes what a text says: it
-checks the form of each line and which line may follow which, and leaves the truth of an entry to `heesch check`.
+docs/FORMAT.md defines all that this package reads and writes. The package believes what a text says: it checks the
+form of each line and which line may follow which, and leaves the truth of an entry to `heesch check`.
 
 Reading (`polyforms.texts`):
 
     with texts.opened('nine.txt') as text:     # or '-' for standard input
-        text.kind                              # 'full', 'brief', 'outer', and text.share is (I, K) or None
+        text.kind                              # 'full', 'brief', 'outer'; and text.share is (I, K) or None
         text.header                            # a Header, or None of an outer text
         text.header.grid                       # 'square', 'hex', 'iamond', 'kite'
         text.header.limits.domain              # also .turns .levels .size
         for entry in text:                     # streams; an entry holds its first two lines until more is asked for
-            entry.number, entry.line           # its number from 1, and the number of its `shape` line
+            entry.number                       # its number in the text, from 1
+            entry.line, entry.offset           # the number of its first line, and of the bytes before it
             entry.cells                        # ((0, 0), (1, 0), ..)
             entry.verdict                      # a Verdict: .word 'tiles', 'heesch', 'undecided', and its numbers
             for line in entry.evidence(): ..   # the raw lines behind the verdict, once, without newlines; or
@@ -32,7 +33,10 @@ Grids (`polyforms.grids`): `grid = grids.named('hex')`; `grid.unit`, `grid.turns
 Writing: `str(header)` and `str(verdict)` are their lines; `texts.cells_text(cells)` and `texts.shape_line(cells)`;
 `texts.parse_cells(words)` reads cells as lists of shapes have them.
 
-Commands (`polyforms.commands`): `commands.Parser` is an argparse parser whose faults are one line; `commands.main(body)`
+Commands (`polyforms.commands`): `commands.Parser` is an argparse parser whose faults are one line; `commands.main`
 runs a tool's body, writes a `Fault` as one line to standard error with status 2, and is quiet where a reader of the
 output has gone. `raise commands.Fault('..')` is the way to refuse.
+
+Further modules: `tallies` counts entries by verdict; `placements` has the variables of the corona formulas; `program`
+finds and asks `heesch`; `whole` writes files that are whole wherever they have their name.
 """

@@ -187,8 +187,9 @@ class Entry:
 
     def _keep_outer(self, word):
         is_number = word.isdigit()
+        number = int(word) if is_number else None
         self._layers = []
-        self.outer = Outer('number' if is_number else word, self._heesch, int(word) if is_number else None, self._layers)
+        self.outer = Outer('number' if is_number else word, self._heesch, number, self._layers)
 
 
 # ---- texts
@@ -198,13 +199,12 @@ class Text:
     """A text that is being read: its kind, its share, its header, and by iteration, once, its entries.
 
     `kind` is 'full', 'brief' or 'outer'; `share` is (I, K) or None; `header` is None of an outer text; `count` is the
-    number of entries taken so far; `offset` is the number of bytes before the line that comes next. Each fault names
-    the file, as it was given, and the line.
+    number of entries taken so far. Each fault names the file, as it was given, and the line.
     """
 
     def __init__(self, file, name):
         self.name, self.share, self.header, self.kind, self.count = name, None, None, 'outer', 0
-        self._file, self._line, self._held, self.offset = file, 0, None, 0
+        self._file, self._line, self._bytes, self._held = file, 0, 0, None
         self._read_start()
         self._order = lines.Order(self.kind)
 
@@ -212,6 +212,11 @@ class Text:
     def grid(self):
         """The name of the grid, or None of an outer text, which doesn't say it."""
         return self.header.grid if self.header else None
+
+    @property
+    def offset(self):
+        """The number of bytes before the line that comes next."""
+        return self._bytes - (0 if self._held is None else len(self._held) + 1)
 
     def fault(self, words, line=None):
         """The fault of these words at a line, or at the line that was read last."""
@@ -226,18 +231,16 @@ class Text:
             raise self.fault(fault, line) from None
 
     def __iter__(self):
-        while (line := self._take()).startswith('shape '):
-            start, cells = self._line, parse_cells(line[len('shape '):])
-            offset = self.offset - len(line) - 1
-            if self.header:
-                with self.at():
-                    grids.named(self.grid).checked(cells)
+        while self._peek().startswith('shape '):
+            offset, line = self.offset, self._line
+            cells = self._take_shape()
             verdict = parse_verdict(self._take())
             self.count += 1
-            entry = Entry(self, self.count, start, offset, cells, verdict)
+            entry = Entry(self, self.count, line, offset, cells, verdict)
             yield entry
             for _ in self.lines_of(entry):
                 pass
+        self._take()
         self._refuse_more()
 
     def lines_of(self, entry):
@@ -256,7 +259,6 @@ class Text:
             self.share = _numbers(found.groups())
             if not self.share[0] <= self.share[1]:
                 raise self.fault(f'there is no {line}')
-            self.offset += len(line) + 1
             line = self._read(FIRST_LINE)
         elif line.startswith(('shape ', 'end ')):
             self._held = line
@@ -267,7 +269,6 @@ class Text:
         if self.share and (self.header.is_brief or self.header.size is None):
             raise self.fault('a share has the full header of a size')
         self.kind = 'brief' if self.header.is_brief else 'full'
-        self.offset += len(line) + 1
 
     # ---- lines
 
@@ -275,6 +276,7 @@ class Text:
         """The next line of the file, without its newline; with `most`, where it has no more characters."""
         line = self._file.readline(most)
         self._line += 1
+        self._bytes += len(line)
         if not line:
             raise self.fault('the text is empty' if self._line == 1 else 'the text ends before its `end` line')
         if not line.isascii():
@@ -298,8 +300,15 @@ class Text:
         except Fault as fault:
             raise self.fault(fault) from None
         self._held = None
-        self.offset += len(line) + 1
         return line
+
+    def _take_shape(self):
+        """Takes the `shape` line that comes next, and answers its cells."""
+        cells = parse_cells(self._take()[len('shape '):])
+        if self.header:
+            with self.at():
+                grids.named(self.grid).checked(cells)
+        return cells
 
     def _refuse_more(self):
         if self._file.readline(1):

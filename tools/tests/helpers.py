@@ -4,6 +4,7 @@ Tests that need the program `heesch` run only where the environment has HEESCH=P
 """
 import contextlib
 import io
+import itertools
 import os
 import pathlib
 import runpy
@@ -81,6 +82,12 @@ class ToolTest(unittest.TestCase):
         result = called(name, *words) if text is None else tool(name, *words, text=text)
         self.assertEqual((result.returncode, result.stderr), (0, ''))
         return result.stdout
+
+    def assert_same_text(self, text, expected):
+        """That two texts are the same; where they aren't, it says the first line that differs, and no more."""
+        for number, (line, wanted) in enumerate(itertools.zip_longest(text.splitlines(), expected.splitlines()), 1):
+            self.assertEqual((number, line), (number, wanted))
+        self.assertTrue(text == expected, 'the texts end differently')
 
     def assert_refused(self, result, *parts):
         """That a call ended with status 2 and one line on standard error, which has these parts."""

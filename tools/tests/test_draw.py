@@ -22,7 +22,7 @@ class Draw(helpers.ToolTest):
 
     def test_pictures_of_the_documents(self):
         for name, number, picture in (('hex-6.txt', 41, 'corona.svg'), ('square-7.txt', 88, 'tiling.svg')):
-            self.assertEqual(self.drawn(name, number), (DOCS / picture).read_text(encoding='ascii'))
+            self.assert_same_text(self.drawn(name, number), (DOCS / picture).read_text(encoding='ascii'))
 
     def test_each_grid(self):
         for name, number, words in (('square-7.txt', 1, ['class 1: 1 of 1 tiles']),

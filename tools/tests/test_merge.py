@@ -42,56 +42,60 @@ class Merge(helpers.ToolTest):
         self.assertEqual(result.stdout, '')
 
     def test_it_is_the_catalogue_under_the_last_limits(self):
-        self.assertEqual(self.done('merge', FIRST, SECOND), helpers.read('kite-4-domain-6.txt'))
+        self.assert_same_text(self.done('merge', FIRST, SECOND), helpers.read('kite-4-domain-6.txt'))
 
     def test_inputs_stay(self):
         first = helpers.read('kite-4.txt')
         second = with_limits(first, turns=20001)
-        self.assertEqual(self.merged(first, second), second)
+        self.assert_same_text(self.merged(first, second), second)
         self.assertEqual([(self.folder / name).read_text() for name in ('0.txt', '1.txt')], [first, second])
 
     def test_three_passes(self):
         first, second = helpers.read('kite-4.txt'), helpers.read('kite-4-second.txt')
         decided, left = without(second, {1, 3}), without(second, {2, 4})
-        self.assertEqual(self.merged(first, decided, with_limits(left, domain=8)),
-                         with_limits(helpers.read('kite-4-domain-6.txt'), domain=8))
+        self.assert_same_text(self.merged(first, decided, with_limits(left, domain=8)),
+                              with_limits(helpers.read('kite-4-domain-6.txt'), domain=8))
         self.refused(first, left, with_limits(left, domain=8), 'stays undecided under smaller limits')
 
     def test_the_first_text_that_decides_counts(self):
         first, second = helpers.read('kite-4.txt'), helpers.read('kite-4-second.txt')
         third = with_limits(first, domain=8)
-        self.assertEqual(self.merged(first, second, third), with_limits(helpers.read('kite-4-domain-6.txt'), domain=8))
+        self.assert_same_text(self.merged(first, second, third),
+                              with_limits(helpers.read('kite-4-domain-6.txt'), domain=8))
 
     def test_the_last_text_counts_where_none_decides(self):
         first = helpers.read('kite-4.txt')
         second, third = with_limits(first, turns=30000), with_limits(first, turns=40000)
-        changed = third.replace('empty 1\n', 'empty 2\n')
+        changed = third.replace('triple 1 2 0 refuted', 'triple 1 2 0 spent')
+        changed = re.sub(r'(triple 1 2 0 spent(?:\nlearn .*)*\n)empty .*', r'\1spent', changed)
         expected = ''.join(new if 'undecided' in old else old for old, new in zip(blocks(third), blocks(changed)))
-        self.assertNotEqual(expected, third)
-        self.assertEqual(self.merged(first, second, changed), expected)
+        self.assertEqual(expected.count('\nspent\n'), 4)
+        self.assert_same_text(self.merged(first, second, changed), expected)
 
     def test_given_brief_and_empty_catalogues(self):
         given = helpers.read('undecided-turns.txt')
-        self.assertEqual(self.merged(given, with_limits(given, turns=4)), with_limits(given, turns=4))
+        self.assert_same_text(self.merged(given, with_limits(given, turns=4)), with_limits(given, turns=4))
         brief = helpers.read('square-8-brief.txt')
-        self.assertEqual(self.merged(brief, with_limits(brief, domain=5)), with_limits(brief, domain=5))
+        self.assert_same_text(self.merged(brief, with_limits(brief, domain=5)), with_limits(brief, domain=5))
         empty = blocks(given)[0] + 'end 0\n'
-        self.assertEqual(self.merged(empty, with_limits(given, turns=5)), with_limits(empty, turns=5))
+        self.assert_same_text(self.merged(empty, with_limits(given, turns=5)), with_limits(empty, turns=5))
 
     def test_refusals(self):
         first, second = helpers.read('kite-4.txt'), helpers.read('kite-4-second.txt')
         twice = ''.join((blocks(second)[0], blocks(second)[1] * 2, 'end 2\n'))
         swapped = ''.join((blocks(first)[0], blocks(first)[2], blocks(first)[1], 'end 2\n'))
         first_twice = ''.join((blocks(first)[0], blocks(first)[1] * 2, 'end 2\n'))
+        brief, share, outer = map(helpers.read, ('square-8-brief.txt', 'kite-4-share-1.txt', 'outer-kite-4.txt'))
+        old, new = helpers.read('iamond-7-version-1.txt'), with_limits(helpers.read('iamond-7.txt'), domain=5)
         for texts, part in (((first, first), 'are those of'), ((first, with_limits(second, levels=2)), 'levels falls'),
                             ((second, first), 'domain falls'), ((first, with_limits(second, turns=9, size=8)), 'fall'),
                             ((first, without(second, {2})), 'stays undecided under smaller limits'),
-                            ((first, twice), 'line 11: this shape stands twice'), ((first_twice, second), 'stands twice'),
-                            ((swapped, second), 'have to rise'), ((first, second.replace(' 2 kite', ' 2 hex')), 'grids'),
-                            ((helpers.read('iamond-7.txt'), helpers.read('iamond-7-version-1.txt')), 'versions differ'),
-                            ((helpers.read('square-8-brief.txt'), helpers.read('square-7.txt')), 'brief'),
-                            ((helpers.read('kite-4-share-1.txt'), second), 'this is a share'),
-                            ((first, helpers.read('outer-kite-4.txt')), 'this is an outer text')):
+                            ((first, twice), 'line 11: this shape stands twice'),
+                            ((first_twice, second), 'line 26: this shape stands twice'),
+                            ((swapped, second), 'have to rise'), ((old, new), 'their versions differ'),
+                            ((first, with_limits(helpers.read('hex-6.txt'), domain=5)), 'their grids differ'),
+                            ((brief, with_limits(helpers.read('square-7.txt'), domain=5)), 'only one of them is'),
+                            ((share, second), 'this is a share'), ((first, outer), 'this is an outer text')):
             self.refused(*texts, part)
         self.assert_refused(helpers.called('merge', FIRST), 'LATER')
         self.assert_refused(helpers.called('merge', FIRST, '-'), 'standard input')
@@ -116,16 +120,16 @@ class WithProgram(helpers.ToolTest):
     def test_the_second_pass_of_iamond_9(self):
         first, second = self.passes('iamond', 9, ('--workers', 4), ('--domain', 8, '--workers', 4))
         self.assertEqual(len(self.done('select', first, '--undecided').splitlines()), 9)
-        merged = self.written('merged.txt', self.done('merge', first, second))
-        self.assertEqual(helpers.program('check', '--workers', 4, text=self.done('merge', first, second)), 'valid 160\n')
-        self.assertEqual(self.done('select', merged, '--undecided'), '')
+        merged = self.done('merge', first, second)
+        self.assertEqual(helpers.program('check', '--workers', 4, text=merged), 'valid 160\n')
+        self.assertEqual(self.done('select', self.written('merged.txt', merged), '--undecided'), '')
 
     def test_what_stays_undecided_has_the_last_limits(self):
         paths = self.passes('kite', 4, ('--levels', 1), ('--levels', 2), ('--levels', 3, '--turns', 30000))
         merged = self.done('merge', *paths)
         self.assertEqual(helpers.program('check', text=merged), 'valid 10\n')
         self.assertEqual(len(self.done('select', self.written('m.txt', merged), '--undecided').splitlines()), 4)
-        self.assertEqual(merged, helpers.program('classify', 'kite', 4, '--turns', 30000))
+        self.assert_same_text(merged, helpers.program('classify', 'kite', 4, '--turns', 30000))
 
 
 if __name__ == '__main__':

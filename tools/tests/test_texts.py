@@ -34,11 +34,11 @@ def written_again(path):
         yield f'end {text.count}'
 
 
-class Whole(unittest.TestCase):
+class Whole(helpers.ToolTest):
     def test_texts_are_read_as_they_are(self):
         for name in CATALOGUES + BRIEF + SHARES + OUTER:
             with self.subTest(name):
-                self.assertEqual('\n'.join(written_again(helpers.data(name))) + '\n', helpers.read(name))
+                self.assert_same_text('\n'.join(written_again(helpers.data(name))) + '\n', helpers.read(name))
 
     def test_kinds(self):
         for kind, names in (('full', CATALOGUES + SHARES), ('brief', BRIEF), ('outer', OUTER)):
@@ -150,7 +150,8 @@ class Refused(helpers.ToolTest):
 
     def test_places(self):
         square = 'heesch 2 square 2 turns 20000 levels 3 domain 4 size 60000000\n'
-        tiling = 'shape 0,0 1,0\nverdict tiles translation domain 1 classes 1\nlattice 2 1 0\ntile 0 0 0 class 1 by 0 0 0\n'
+        tiling = ('shape 0,0 1,0\nverdict tiles translation domain 1 classes 1\nlattice 2 1 0\n'
+                  'tile 0 0 0 class 1 by 0 0 0\n')
         self.assertIsNone(self.fault_of(square + tiling + 'end 1\n'))
         for text, words in ((square + tiling + 'end 2\n', 'line 6: `end 2` behind 1 shapes'),
                             (square + tiling + 'end 1\n\n', 'line 7: nothing may stand behind'),
