@@ -28,9 +28,9 @@ class Export(helpers.ToolTest):
         rows = self.json_rows(*map(helpers.data, EACH_GRID))
         self.assertEqual(len(rows), 108 + 82 + 24 + 10)
         known = {'grid': 'hex', 'size': 6, 'number': 41, 'verdict': 'heesch', 'heesch': 2, 'nontiler': 3,
-                 'holed': False, 'coronas': 2, 'kind': None, 'domain': None, 'classes': None, 'outer': None, 'undecided': None,
-                 'version': 2, 'limit_turns': 20000, 'limit_levels': 3, 'limit_domain': 4, 'limit_size': 60000000,
-                 'file': helpers.data('hex-6.txt')}
+                 'holed': False, 'coronas': 2, 'kind': None, 'domain': None, 'classes': None, 'outer': None,
+                 'undecided': None, 'version': 2, 'limit_turns': 20000, 'limit_levels': 3, 'limit_domain': 4,
+                 'limit_size': 60000000, 'file': helpers.data('hex-6.txt')}
         row = rows[108 + 40]
         self.assertEqual({field: row[field] for field in known}, known)
         self.assertEqual(' '.join(f'{a},{b}' for a, b in row['cells']),
