@@ -14,7 +14,7 @@ MOST_GIVEN = 10_000  # shapes of a catalogue of given shapes
 
 
 def entry_lines(path, first_lines):
-    """The lines of the entries of a text, which begins with these lines and ends with an `end` line that counts them."""
+    """The lines of the entries of a text, which begins with these lines and ends with the line that counts them."""
     with open(path, 'rb') as file:
         for wanted in first_lines:
             if file.readline() != wanted:
@@ -39,7 +39,7 @@ def header_of(path, skipped=0):
 
 
 def join_shares(heesch, paths, target, most=MOST_JOINED):
-    """Makes a catalogue of all shares of a size, in their order: by `heesch join`, or a line at a time where they are large."""
+    """Makes a catalogue of all shares of a size: by `heesch join`, or where they are large a line at a time."""
     if sum(map(os.path.getsize, paths)) <= most:
         _join_by_program(heesch, paths, target)
     else:

@@ -10,9 +10,10 @@ from polyforms.whole import WholeFile, write_whole
 
 from . import joins
 from .crew import Crew, Task
-from .parts import Evidence, PassText, ShareText
+from .parts import Evidence, GivenText, PassText, ShareText
 from .progress import Progress
 
+VERSION = 2  # of the corona formulas, by default
 PASS_PARTS = 256  # of a pass at most, where its shapes are no more than these can be given
 FIRST, MERGED = 'first.txt', 'merged.txt'  # in `work`
 CATALOGUE, GIVEN = 'catalogue.txt', 'given.txt'
@@ -20,10 +21,13 @@ PART_FILES = ('decided', 'undecided', 'left')
 
 
 class Run:
-    """A run in its folder: its plan, its program, and the number of its processes."""
+    """A run in its folder: its plan, its program, and the number of its processes.
 
-    def __init__(self, folder, plan, heesch, jobs):
-        self.folder, self.plan, self.heesch, self.jobs = folder, plan, heesch, jobs
+    `leaves` tells to leave shapes undecided where a process fails twice on them in a pass.
+    """
+
+    def __init__(self, folder, plan, heesch, jobs, leaves=False):
+        self.folder, self.plan, self.heesch, self.jobs, self._leaves = folder, plan, heesch, jobs, leaves
 
     def make_catalogue(self):
         """Makes the checked catalogue of the size, and beside it what only the last passes decide."""
@@ -48,23 +52,22 @@ class Run:
         if not 1 <= number <= self.plan.shares:
             raise commands.Fault(f'there are {self.plan.shares} shares')
         if number in self.missing_shares():
-            self._work(f'share {number}', [self._share_task(number)], 0, self.plan.share_size(number))
+            self._make_shares(f'share {number}', [number], self.plan.share_size(number))
+
+    def _make_shares(self, stage, numbers, total):
+        tasks = [self._share_task(number) for number in numbers]
+        self._refuse_failed(stage, self._work(stage, tasks, total - sum(map(self.plan.share_size, numbers)), total))
 
     def _share_task(self, number):
         path, left, size = self.folder.share(number), self.folder.left_of_share(number), self.plan.share_size(number)
-        return Task(f'share {number} of {self.plan.shares}', self.plan.share_words(number), None,
+        return Task(number, f'share {number} of {self.plan.shares}', self.plan.share_words(number), None,
                     lambda: ShareText(path, left, size))
-
-    def _make_shares(self):
-        missing = self.missing_shares()
-        done = self.plan.shapes - sum(map(self.plan.share_size, missing))
-        self._work('shares', map(self._share_task, missing), done, self.plan.shapes)
 
     def make_first(self):
         """Makes the catalogue under the first limits of all shares, and the list of its undecided shapes."""
         target = self.folder.work(FIRST)
         if not os.path.exists(target):
-            self._make_shares()
+            self._make_shares('shares', self.missing_shares(), self.plan.shapes)
             numbers = range(1, self.plan.shares + 1)
             self._join_lists(map(self.folder.left_of_share, numbers), 0)
             self._timed('join', joins.join_shares, self.heesch, list(map(self.folder.share, numbers)), target)
@@ -88,10 +91,21 @@ class Run:
         sizes = self._cut_list(number)
         evidence = Evidence(self.folder.work(f'pass-{number}'), self.plan.most)
         missing = [part for part in sizes if not os.path.exists(self.folder.part(number, part, 'decided'))]
-        tasks = [self._pass_task(number, part, sizes[part], len(sizes), evidence) for part in missing]
+        tasks = [self._pass_task(number, part, sizes, evidence) for part in missing]
         shapes = sum(sizes.values())
-        self._work(f'pass {number}', tasks, shapes - sum(map(sizes.get, missing)), shapes)
+        failed = self._work(f'pass {number}', tasks, shapes - sum(map(sizes.get, missing)), shapes)
+        if not self._leaves:
+            self._refuse_failed(f'parts of pass {number}', failed, ', and --leave leaves these shapes undecided')
+        for task, _ in failed:
+            self._leave(number, task.number, evidence)
         return self._join_pass(number, sizes, evidence)
+
+    def _leave(self, number, part, evidence):
+        """Leaves the shapes of a part undecided, and with them all evidence of undecided shapes of the pass."""
+        evidence.give_up()
+        header = texts.Header(False, VERSION, self.plan.grid, None, self.plan.limits(number))
+        shutil.copyfile(self.folder.part(number, part, 'cells'), self.folder.part(number, part, 'left'))
+        GivenText(self.folder.part(number, part, 'decided'), f'{header}\n'.encode()).close()
 
     def _cut_list(self, number):
         """Cuts the list of undecided shapes into the lists of the parts; answers how many shapes each has."""
@@ -105,13 +119,13 @@ class Run:
             sizes[part] = len(own)
         return sizes
 
-    def _pass_task(self, number, part, size, parts, evidence):
+    def _pass_task(self, number, part, sizes, evidence):
         paths = {kind: self.folder.part(number, part, kind) for kind in PART_FILES}
-        return Task(f'part {part} of {parts} of pass {number}', self.plan.pass_words(number),
-                    self.folder.part(number, part, 'cells'), lambda: PassText(paths, evidence, size))
+        return Task(part, f'part {part} of {len(sizes)} of pass {number}', self.plan.pass_words(number),
+                    self.folder.part(number, part, 'cells'), lambda: PassText(paths, evidence, sizes[part]))
 
     def _join_pass(self, number, sizes, evidence):
-        """Makes one text of the parts, without its undecided shapes where their evidence is too much; answers the facts."""
+        """Makes one text of the parts, without undecided shapes where their evidence isn't kept; answers the facts."""
         files = {kind: [self.folder.part(number, part, kind) for part in sizes] for kind in PART_FILES}
         kept = [] if evidence.is_over else [path for path in files['undecided'] if os.path.exists(path)]
         self._timed(f'join of pass {number}', joins.join_given, files['decided'] + kept, self.folder.pass_text(number))
@@ -175,17 +189,21 @@ class Run:
     # ---- processes
 
     def _work(self, stage, tasks, done, total):
-        """Makes parts by processes side by side. A Fault where one can't be made, once all others are."""
-        if done == total:
-            return
+        """Makes parts by processes side by side; answers the tasks that failed twice, with what was wrong."""
+        if not tasks:
+            return []
         progress = Progress(stage, done, total)
         failed = Crew(self.heesch, self.jobs, progress.warn, lambda **facts: self.folder.note(stage=stage, **facts),
                       progress).run(tasks)
         progress.end()
+        return failed
+
+    def _refuse_failed(self, stage, failed, further=''):
+        """Refuses to go on where parts failed twice."""
         if failed:
-            name, fault = next(iter(failed.items()))
-            raise commands.Fault(f'{len(failed)} of the {stage} failed twice, the first of them {name}: {fault}; '
-                                 'what is done is kept')
+            task, fault = failed[0]
+            raise commands.Fault(f'{len(failed)} of the {stage} failed twice, the first of them {task.name}: {fault}; '
+                                 f'what is done is kept{further}')
 
     def _timed(self, stage, body, *arguments):
         """Calls a body, and notes its time."""
