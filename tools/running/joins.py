@@ -55,12 +55,24 @@ def _join_by_line(paths, target):
     header = header_of(paths[0], 1)
     with WholeFile(target) as file:
         file.write(header)
-        count = 0
-        for number, path in enumerate(paths, 1):
-            for line in entry_lines(path, [b'share %d %d\n' % (number, len(paths)), header]):
-                count += line.startswith(b'shape ')
-                file.write(line)
-        file.write(b'end %d\n' % count)
+        _write_entries(file, [(path, [b'share %d %d\n' % (number, len(paths)), header])
+                              for number, path in enumerate(paths, 1)])
+
+
+def join_outer(paths, target):
+    """Makes one text of outer texts, which have no header."""
+    with WholeFile(target) as file:
+        _write_entries(file, [(path, []) for path in paths])
+
+
+def _write_entries(file, parts):
+    """Writes the entries of texts, each given with its first lines, and the `end` line."""
+    count = 0
+    for path, first_lines in parts:
+        for line in entry_lines(path, first_lines):
+            count += line.startswith(b'shape ')
+            file.write(line)
+    file.write(b'end %d\n' % count)
 
 
 def join_given(paths, target, header=None):

@@ -68,25 +68,36 @@ def _line_before(text, end):
     return text.rfind(b'\n', 0, max(end - 1, 0)) + 1
 
 
-class ShareText(PartText):
-    """The text of a share, which is kept as it is, and beside it the cells of its undecided shapes."""
+class KeptText(PartText):
+    """The text of a part, which is kept as it is."""
 
-    def __init__(self, path, left, expected):
+    def __init__(self, path, expected):
         super().__init__(expected)
-        self._file, self._left_path = WholeFile(path), left
+        self._file = WholeFile(path)
         self._start = self._add = self._file.write
 
     def _begin(self, is_undecided):
         pass
 
     def _close(self, end):
-        write_whole(self._left_path, self._left_text())
         self._file.write(end)
         self._file.close()
 
     def drop(self):
         """Leaves nothing of it."""
         self._file.drop()
+
+
+class ShareText(KeptText):
+    """The text of a share, and beside it the cells of its undecided shapes."""
+
+    def __init__(self, path, left, expected):
+        super().__init__(path, expected)
+        self._left_path = left
+
+    def _close(self, end):
+        write_whole(self._left_path, self._left_text())
+        super()._close(end)
 
 
 class GivenText:

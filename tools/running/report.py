@@ -9,9 +9,8 @@ import time
 from polyforms import program, texts
 from polyforms.whole import WholeFile, write_whole
 
-from .joins import is_numbered
 from .progress import duration
-from .stages import CATALOGUE, GIVEN, tool
+from .stages import CATALOGUE, OUTER, tool
 
 README, SUMS, UNDECIDED, TALLY, CITATION = 'README.md', 'SHA256SUMS', 'undecided.txt', 'tally.csv', 'CITATION.cff'
 LISTED = 200  # undecided shapes that the README lists one by one
@@ -22,7 +21,7 @@ class Report:
 
     def __init__(self, run, command):
         self._folder, self._plan, self._heesch, self._command = run.folder, run.plan, run.heesch, command
-        self._catalogues = [name for name in self._folder.made() if name == CATALOGUE or is_numbered(name, GIVEN)]
+        self._texts = run.catalogues() + ([OUTER] if run.plan.outer else [])
         self._merged = self._folder.recorded('merge')
         self._passes = [self._folder.recorded(f'pass-{number}') for number in range(1, self._merged['passes'] + 1)]
         self._left = []
@@ -30,10 +29,10 @@ class Report:
     def write(self):
         """Writes the tables, the sums and the README."""
         self._write_undecided()
-        for name, further in ((TALLY, []), ('tally.tex', ['--latex'])):
+        for name, form in ((TALLY, '--csv'), ('tally.tex', '--latex')):
+            words = [sys.executable, tool('export'), '--tally', '--grid', self._plan.grid, form, *self._texts]
             with WholeFile(self._folder.file(name)) as file:
-                program.pour([sys.executable, tool('export'), '--tally', *further, *self._catalogues], None, file.write,
-                             self._folder.path)
+                program.pour(words, None, file.write, self._folder.path)
         shutil.copyfile(os.path.join(program.repository(), CITATION), self._folder.file(CITATION))
         summed = [name for name in self._folder.made() if name not in (README, SUMS)]
         sums = {name: program.sum_of(self._folder.file(name)) for name in summed}
@@ -76,13 +75,19 @@ class Report:
     def _counts(self):
         with open(self._folder.file(TALLY), encoding='ascii', newline='') as file:
             rows = list(csv.reader(file))
-        return f'By `tools/export --tally`. {self._beside()}\n\n' + _table(rows[0], rows[1:])
+        return f'By `tools/export --tally`. {self._beside()}{self._outer()}\n\n' + _table(rows[0], rows[1:])
 
     def _beside(self):
         if not self._merged['later']:
             return 'All that is decided stands in the catalogue.'
         return (f'{self._merged["later"]} of the shapes that are undecided in {CATALOGUE} are decided in the catalogue '
                 'of given shapes beside it, under the limits of later passes.')
+
+    def _outer(self):
+        if not self._plan.outer:
+            return ''
+        limits = self._plan.outer_limits(self._merged['passes'])
+        return f' {OUTER} has the outer numbers of the shapes with a Heesch number, by `heesch outer` under `{limits}`.'
 
     def _undecided(self):
         if not self._left:

@@ -8,15 +8,15 @@ import time
 from polyforms import commands, program, texts
 from polyforms.whole import WholeFile, write_whole
 
-from . import joins
+from . import joins, ladder
 from .crew import Crew, Task
-from .parts import Evidence, GivenText, PassText, ShareText
+from .parts import Evidence, GivenText, KeptText, PassText, ShareText
 from .progress import Progress
 
 VERSION = 2  # of the corona formulas, by default
 PASS_PARTS = 256  # of a pass at most, where its shapes are no more than these can be given
-FIRST, MERGED = 'first.txt', 'merged.txt'  # in `work`
-CATALOGUE, GIVEN = 'catalogue.txt', 'given.txt'
+FIRST, MERGED, NONTILERS = 'first.txt', 'merged.txt', 'nontilers.txt'  # in `work`
+CATALOGUE, GIVEN, OUTER = 'catalogue.txt', 'given.txt', 'outer.txt'
 PART_FILES = ('decided', 'undecided', 'left')
 
 
@@ -31,12 +31,15 @@ class Run:
 
     def make_catalogue(self):
         """Makes the checked catalogue of the size, and beside it what only the last passes decide."""
-        if os.path.exists(self.folder.file(CATALOGUE)):
-            return
-        self.make_first()
-        passes = self.make_passes()
-        self.merge(passes)
-        self.check()
+        if not os.path.exists(self.folder.file(CATALOGUE)):
+            self.make_first()
+            passes = self.make_passes()
+            self.merge(passes)
+            self.check()
+
+    def catalogues(self):
+        """The names of the catalogues that are made."""
+        return [name for name in self.folder.made() if name == CATALOGUE or joins.is_numbered(name, GIVEN)]
 
     # ---- shares
 
@@ -87,13 +90,12 @@ class Run:
 
     def _make_pass(self, number):
         """Makes a pass over what the one before leaves, and joins its parts."""
-        self.folder.make_folder(f'pass-{number}')
-        sizes = self._cut_list(number)
+        sizes = self._cut_list(self.folder.left(number - 1), f'pass-{number}')
         evidence = Evidence(self.folder.work(f'pass-{number}'), self.plan.most)
-        missing = [part for part in sizes if not os.path.exists(self.folder.part(number, part, 'decided'))]
-        tasks = [self._pass_task(number, part, sizes, evidence) for part in missing]
+        tasks = [self._pass_task(number, part, sizes, evidence)
+                 for part in self._missing(f'pass-{number}', sizes, 'decided')]
         shapes = sum(sizes.values())
-        failed = self._work(f'pass {number}', tasks, shapes - sum(map(sizes.get, missing)), shapes)
+        failed = self._work(f'pass {number}', tasks, shapes - sum(sizes[task.number] for task in tasks), shapes)
         if not self._leaves:
             self._refuse_failed(f'parts of pass {number}', failed, ', and --leave leaves these shapes undecided')
         for task, _ in failed:
@@ -104,29 +106,38 @@ class Run:
         """Leaves the shapes of a part undecided, and with them all evidence of undecided shapes of the pass."""
         evidence.give_up()
         header = texts.Header(False, VERSION, self.plan.grid, None, self.plan.limits(number))
-        shutil.copyfile(self.folder.part(number, part, 'cells'), self.folder.part(number, part, 'left'))
-        GivenText(self.folder.part(number, part, 'decided'), f'{header}\n'.encode()).close()
+        paths = self._pass_paths(number, part)
+        shutil.copyfile(self.folder.part(f'pass-{number}', part, 'cells'), paths['left'])
+        GivenText(paths['decided'], f'{header}\n'.encode()).close()
 
-    def _cut_list(self, number):
-        """Cuts the list of undecided shapes into the lists of the parts; answers how many shapes each has."""
-        with open(self.folder.left(number - 1), encoding='ascii') as file:
+    def _pass_paths(self, number, part):
+        return {kind: self.folder.part(f'pass-{number}', part, kind) for kind in PART_FILES}
+
+    def _missing(self, stage, sizes, kind):
+        """The parts of a stage that have no file of a kind."""
+        return [part for part in sizes if not os.path.exists(self.folder.part(stage, part, kind))]
+
+    def _cut_list(self, path, stage):
+        """Cuts a list of shapes into the lists of the parts of a stage; answers how many shapes each part has."""
+        self.folder.make_folder(stage)
+        with open(path, encoding='ascii') as file:
             shapes = file.readlines()
         parts = max(min(len(shapes), PASS_PARTS), math.ceil(len(shapes) / joins.MOST_GIVEN))
         sizes = {}
         for part in range(1, parts + 1):
             own = shapes[len(shapes) * (part - 1) // parts:len(shapes) * part // parts]
-            write_whole(self.folder.part(number, part, 'cells'), ''.join(own))
+            write_whole(self.folder.part(stage, part, 'cells'), ''.join(own))
             sizes[part] = len(own)
         return sizes
 
     def _pass_task(self, number, part, sizes, evidence):
-        paths = {kind: self.folder.part(number, part, kind) for kind in PART_FILES}
+        paths = self._pass_paths(number, part)
         return Task(part, f'part {part} of {len(sizes)} of pass {number}', self.plan.pass_words(number),
-                    self.folder.part(number, part, 'cells'), lambda: PassText(paths, evidence, sizes[part]))
+                    self.folder.part(f'pass-{number}', part, 'cells'), lambda: PassText(paths, evidence, sizes[part]))
 
     def _join_pass(self, number, sizes, evidence):
         """Makes one text of the parts, without undecided shapes where their evidence isn't kept; answers the facts."""
-        files = {kind: [self.folder.part(number, part, kind) for part in sizes] for kind in PART_FILES}
+        files = {kind: [self._pass_paths(number, part)[kind] for part in sizes] for kind in PART_FILES}
         kept = [] if evidence.is_over else [path for path in files['undecided'] if os.path.exists(path)]
         self._timed(f'join of pass {number}', joins.join_given, files['decided'] + kept, self.folder.pass_text(number))
         left = self._join_lists(files['left'], number)
@@ -185,6 +196,39 @@ class Run:
         checked = self.folder.recorded('check') or {}
         self.folder.record('check', {**checked, target: said})
         os.replace(self.folder.work(name), self.folder.file(target))
+
+    # ---- outer numbers
+
+    def make_outer(self):
+        """Makes the text of the outer numbers, of all shapes that have a Heesch number."""
+        if os.path.exists(self.folder.file(OUTER)):
+            return
+        if not os.path.exists(self.folder.work(NONTILERS)):
+            self._list_nontilers()
+        sizes = self._cut_list(self.folder.work(NONTILERS), 'outer')
+        limits = self.plan.outer_limits(self.folder.recorded('merge')['passes'])
+        words = ['outer', self.plan.grid, 'given', *ladder.options(limits)]
+        tasks = [self._outer_task(part, sizes, words) for part in self._missing('outer', sizes, 'txt')]
+        shapes = sum(sizes.values())
+        done = shapes - sum(sizes[task.number] for task in tasks)
+        self._refuse_failed('parts of the outer numbers', self._work('outer numbers', tasks, done, shapes))
+        paths = [self.folder.part('outer', part, 'txt') for part in sizes]
+        self._timed('join of the outer numbers', joins.join_outer, paths, self.folder.file(OUTER))
+        self.folder.remove('outer')
+
+    def _outer_task(self, part, sizes, words):
+        path = self.folder.part('outer', part, 'txt')
+        return Task(part, f'part {part} of {len(sizes)} of the outer numbers', words,
+                    self.folder.part('outer', part, 'cells'), lambda: KeptText(path, sizes[part]))
+
+    def _list_nontilers(self):
+        """Lists the shapes that have a Heesch number in a catalogue."""
+        with WholeFile(self.folder.work(NONTILERS)) as file:
+            for name in self.catalogues():
+                with texts.opened(self.folder.file(name)) as text:
+                    for entry in text:
+                        if entry.verdict.heesch_number is not None:
+                            file.write(f'{texts.cells_text(entry.cells)}\n'.encode())
 
     # ---- processes
 

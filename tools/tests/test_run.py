@@ -226,8 +226,11 @@ class Runs(ToolTest):
         return subprocess.Popen(command, stdout=subprocess.DEVNULL, stderr=subprocess.DEVNULL)
 
     def test_whole(self):
-        files = self.assert_made('whole', 'kite', 4)
+        files = self.assert_made('whole', 'kite', 4, '--outer')
         self.assertEqual(files['catalogue.txt'], self.merged_kites())
+        nontilers = ''.join(self.done('select', data('kite-4.txt'), '--heesch', number) for number in (0, 1))
+        outer = program('outer', 'kite', 'given', '--domain', 1, '--levels', 4, text=nontilers)
+        self.assertEqual(sorted(files['outer.txt'].decode().splitlines()), sorted(outer.splitlines()))
         self.assertEqual(program('check', text=files['catalogue.txt'].decode()), 'valid 10\n')
         self.assertNotIn('undecided.txt', files)
         readme = (self.folder / 'whole' / 'README.md').read_text()
