@@ -99,11 +99,14 @@ def save(plan, path):
 
 def loaded(path):
     """Reads a plan."""
-    with open(path, encoding='ascii') as file:
-        record = json.load(file)
-    record.update(first=texts.Limits(**record['first']),
-                  passes=tuple(texts.Limits(**limits) for limits in record['passes']))
-    return Plan(**record)
+    try:
+        with open(path, encoding='ascii') as file:
+            record = json.load(file)
+        record.update(first=texts.Limits(**record['first']),
+                      passes=tuple(texts.Limits(**limits) for limits in record['passes']))
+        return Plan(**record)
+    except (ValueError, TypeError, KeyError, AttributeError):
+        raise commands.Fault(f'{path}: not the plan of a run') from None
 
 
 def check_agrees(plan, request, heesch, folder):

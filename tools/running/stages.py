@@ -1,4 +1,4 @@
-"""The stages of a run. Each makes what isn't there yet, and answers nothing: what is made stands in the folder."""
+"""The stages of a run. Each makes what isn't there yet, and what it makes stands in the folder."""
 import math
 import os
 import shutil
@@ -168,7 +168,7 @@ class Run:
             self._timed('merge', self._merge_texts, found, merged)
         later = [self.folder.pass_text(number) for number in range(last + 1, len(passes) + 1)]
         decided = sum(facts['decided'] for facts in passes[last:])
-        if decided and not os.path.exists(self.folder.work(GIVEN)):
+        if decided:
             header = texts.parse_header(joins.header_of(later[-1]).decode().rstrip('\n'))
             joins.join_given(later, self.folder.work(GIVEN), f'{header}\n'.encode())
         self.folder.record('merge', {'last': last, 'passes': len(passes), 'later': decided})

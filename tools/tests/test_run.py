@@ -9,7 +9,7 @@ import sys
 import time
 import unittest
 
-from helpers import PROGRAM, TOOLS, ToolTest, data, needs_program, program, read, tool
+from helpers import PROGRAM, SECONDS, TOOLS, ToolTest, data, needs_program, program, read, tool
 
 from polyforms import commands, texts
 from polyforms.whole import WholeFile
@@ -18,6 +18,9 @@ from running.parts import Evidence, NotWhole, PassText, ShareText
 from running.progress import duration
 
 SHARES = [data('kite-4-share-1.txt'), data('kite-4-share-2.txt')]
+MOMENTS = ['work/plan.json', 'work/shares/0002.txt', 'work/shares/0006.txt', 'work/first.txt',
+           'work/pass-1/0003.decided', 'work/pass-1/0020.decided', 'work/pass-1.txt', 'work/pass-2/0011.decided',
+           'work/merged.txt', 'catalogue.txt']
 STEPS = ['--first', 'turns 50 levels 1 domain 2', '--passes', 'turns 100', 'turns 1000 levels 2', '--shares', '8']
 
 
@@ -186,8 +189,11 @@ class Words(ToolTest):
         self.assert_run_refused('is not begun', 'square', 3, '--share', 1)
         self.written('file', '')
         self.assert_run_refused('file', 'square', 3, into='file')
+        self.assert_run_refused('has files, and no run was begun in it', 'square', 3, into='.')
         self.assert_run_refused('no-such', 'square', 3, heesch='no-such')
         self.assert_run_refused('status 1', 'square', 3, heesch='/bin/false')
+        (self.folder / 'into/work/plan.json').write_text('{}')
+        self.assert_run_refused('not the plan of a run', 'square', 3)
 
     def test_ranges(self):
         self.assertEqual(cluster.ranges([1, 2, 3, 5, 7, 8]), '1-3,5,7-8')
@@ -262,42 +268,32 @@ class Runs(ToolTest):
         return self.done('select', self.written('catalogue', catalogue), '--undecided')
 
     def test_killed_at_ten_moments(self):
-        """Each time some files have come to stand or have gone, a run of eight shares and two passes is killed."""
+        """A run of eight shares and two passes is killed as soon as certain files stand, and has others half then."""
         wanted = self.assert_made('undisturbed', 'square', 8, *STEPS)
-        kills = 0
-        while kills < 10:
+        for moment in MOMENTS:
             process = self.started('killed', 'square', '8', *STEPS)
-            before = self.names('killed')
-            while process.poll() is None and len(before ^ self.names('killed')) < 3:
-                time.sleep(0.01)
-            self.assertIsNone(process.poll(), f'it has ended before kill {kills + 1}')
+            self.wait_for((self.folder / 'killed' / moment).exists)
+            self.assertIsNone(process.poll(), moment)
             process.send_signal(signal.SIGKILL)
             process.wait()
-            kills += 1
         self.assertEqual(self.assert_made('killed', 'square', 8, *STEPS), wanted)
-
-    def names(self, folder):
-        """The names of all files of a folder that are whole."""
-        return {path for path in (self.folder / folder).rglob('*.*') if path.suffix != '.part'}
 
     def test_second_run(self):
         slow = self.stub('[ "$1 $4" = "share 1" ]', 'exec sleep 60')
         first = self.started('held', 'square', '5', '--shares', '2', heesch=slow)
-        self.wait_for(lambda: (self.folder / 'held/work/shares/0001.txt.part').exists())
+        self.wait_for((self.folder / 'held/work/shares/0001.txt.part').exists)
         self.assert_refused(self.run_tool('held', 'square', 5, heesch=slow), 'another run is at work')
         first.send_signal(signal.SIGKILL)
         first.wait()
-        pathlib.Path(slow).write_text(pathlib.Path(slow).read_text())
         self.assert_refused(self.run_tool('held', 'square', 5), 'was begun with the program')
         self.assert_refused(self.run_tool('held', 'square', 6, heesch=slow), 'was begun with the size square 5')
         self.assert_refused(self.run_tool('held', 'square', 5, '--shares', 3, heesch=slow), 'was begun with --shares 2')
 
     def wait_for(self, condition):
-        for _ in range(1000):
-            if condition():
-                return
-            time.sleep(0.01)
-        self.fail('it takes too long')
+        end = time.monotonic() + SECONDS
+        while not condition():
+            self.assertLess(time.monotonic(), end, 'it takes too long')
+            time.sleep(0.005)
 
     def test_failing_share(self):
         flag = self.folder / 'flag'
