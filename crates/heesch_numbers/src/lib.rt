@@ -1,0 +1,2 @@
+//! The clauses of a corona formula by their numbers: each is computed where it is asked for, and none is kept.
+#![tactic(auto)]
