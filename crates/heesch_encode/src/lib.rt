@@ -17,4 +17,5 @@ mod ring;
 mod stop;
 
 pub use encoding::{Encoded, FlatEncoded, encode, encode_flat};
+pub use owned::{digits_of_ranks, holders_of, owned_cells};
 pub use stop::EncodeStop;
