@@ -9,6 +9,7 @@ mod log;
 mod meaning;
 mod numbered;
 mod packed;
+mod source;
 mod values;
 mod version;
 
@@ -20,5 +21,6 @@ pub use log::{Line, Log};
 pub use meaning::{learn_follows, learned_unsatisfiable, refuted_unsatisfiable, shown_follows};
 pub use numbered::{clause_in, clause_numbered};
 pub use packed::PackedLit;
+pub use source::{ClauseSource, NewnessSource, left_in_packed};
 pub use values::{Left, left_in, value_of};
 pub use version::Version;
