@@ -3,3 +3,5 @@
 
 mod owners;
 mod prefix;
+
+pub use prefix::Prefix;
