@@ -1,23 +1,26 @@
 -- The clauses of owner variables by their numbers.
-use Rattle.std.proofs.Common.{◌≡◌, refl, sym, ap, subst, ◌∙◌, ℕ, ◌+◌, ◌-◌, ◌*◌, ◌<◌, ◌≤◌, ◌^◌, List, [], ◌∷◌, ◌++◌, Bool, true, false, rules, map, length, get_or, take, drop, All, Contains, inl, inr, flat_map, arith}
-use Rattle.std.specs.Prelude.{sum_by, sum}
+use Rattle.std.proofs.Common.{◌≡◌, refl, sym, ap, subst, ◌∙◌, ℕ, suc, ◌+◌, ◌*◌, ◌<◌, ◌≤◌, ◌^◌, List, [], ◌∷◌, ◌++◌, Bool, true, false, rules, map, filter, length, get_or, take, drop, All, Contains, inl, inr, flat_map, arith}
+use Rattle.std.specs.Prelude.{sum_by, nat_lt}
 use Rattle.std.specs.List.{enumerate_from, range_with_len, AllAdjacentBelow}
 use Rattle.std.proofs.lemmas.Bool.{cases_order}
 use Rattle.std.proofs.lemmas.Nat.{mul-add-lt}
-use Rattle.std.proofs.lemmas.List.{get_or_default, length-append, length-take, get_or_append_left, get_or-append-add, at_drop_more, take-map, take-take}
+use Rattle.std.proofs.lemmas.List.{get_or_default, length-append, length-map, get_or_append_left, get_or-append-add, at_drop_more, take-take}
 use Rattle.std.proofs.lemmas.List.Elements.{Contains-append_cases, Contains-get_or, All-head, All-tail, All-get_or}
 use Rattle.std.proofs.lemmas.List.FromFn.{get_or-map-range_with_len, length-map-range_with_len, get_or-enumerate_from, length-enumerate_from, length-range_with_len, get_or-range_with_len}
-use Rattle.std.proofs.lemmas.List.Sums.{sum_by-cons, sum_by-take-le, sum_by_more_le}
+use Rattle.std.proofs.lemmas.List.Sums.{sum_by-cons, sum_by_more, sum_by-take-le, sum_by_more_le, length-filter, count_by-le-length}
 use Rattle.heesch_cnf.specs.declared.literal.Lit.{Lit}
 use Rattle.heesch_cnf.specs.Clauses.{IsClause, AreClauses}
 use Rattle.heesch_grid.specs.declared.Cell.{Cell}
-use Rattle.heesch_grid.specs.Cells.{origin}
+use Rattle.heesch_grid.specs.Cells.{origin, has}
+use Rattle.heesch_grid.specs.Listing.{IsRising}
 use Rattle.heesch_grid.specs.Clauses.{formula_size}
 use Rattle.heesch_grid.specs.CoronaFormula.{Variable}
 use Rattle.heesch_grid.specs.OwnerFormula.{holders, owner_count, rank_clauses, owner_clauses, signed, bit}
 use Rattle.heesch_grid.proofs.ListFacts.{no_member, All-from_members}
 use Rattle.heesch_grid.proofs.WindowFacts.{map_member, flat_map_member}
 use Rattle.heesch_cert.specs.Literals.{literals}
+use Rattle.heesch_encode.proofs.ClauseLists.{numbers_rising}
+use Rattle.heesch_encode.proofs.Rising.{rising_at}
 use Rattle.heesch_encode.proofs.Holders.{bit_clause, cell_clauses, total, owners_rest, holders_range}
 use Rattle.heesch_numbers.specs.OwnerCounts.{clause_count, owners_of, vars_with}
 use Rattle.heesch_numbers.proofs.EvenPieces.{length_even, at_even}
@@ -99,7 +102,9 @@ module _ (vars : List Variable) (start : ℕ) (cells : List Cell) (i : ℕ) wher
 
   -- the clause of a cell, a rank and a bit
   pub owner_at : (rank t : ℕ) → i < length cells → rank < length (holders vars cell_of) → t < owner_count vars cell_of → get_or (owner_clauses literals vars start cells) (before vars cells i + (rank * owner_count vars cell_of + t)) [] ≡ bit_clause first_owner (rank, get_or (holders vars cell_of) rank 0) t
-  owner_at rank t l m n = owners_at (rank * owner_count vars cell_of + t) l (mul-add-lt rank (owner_count vars cell_of) t (length (holders vars cell_of)) m n) ∙ cell_at vars first_owner cell_of rank t m n
+  owner_at rank t l m n =
+      let inside = mul-add-lt rank (owner_count vars cell_of) t (length (holders vars cell_of)) m n in
+      owners_at (rank * owner_count vars cell_of + t) l (omega arith) ∙ cell_at vars first_owner cell_of rank t m n
 
 -- ---- which clauses they are
 
@@ -192,3 +197,100 @@ module _ (vars : List Variable) (cells : List Cell) where
     let more = sum_by_more_le (owner_count vars) cells f.cell origin f.in_cells in
     let bits = f.in_bits in
     subst (IsClause (vars_with vars cells)) (sym f.is) (pair_form (vars_with vars cells) (get_or (holders vars c) f.rank 0) (first_owner vars (length vars + 1) cells f.cell + f.bit) (bit f.bit f.rank) low (omega arith) (omega arith)))
+
+-- ---- which pairs there are
+
+pub holders_rising : (vars : List Variable) (c : Cell) → IsRising nat_lt (holders vars c)
+holders_rising vars c = numbers_rising vars (λ (x : ℕ × Variable). has x.1.tile c)
+
+pub holders_few : (vars : List Variable) (c : Cell) → length (holders vars c) ≤ length vars
+holders_few vars c =
+    let p = λ (x : ℕ × Variable). has x.1.tile c in
+    let named = length-map (filter p (enumerate_from 1 vars)) (λ (x : ℕ × Variable). x.0) in
+    let kept = length-filter p (enumerate_from 1 vars) in
+    let few = count_by-le-length p (enumerate_from 1 vars) in
+    let long = length-enumerate_from 1 vars in
+    omega arith
+
+-- a place in one part alone
+module _ {X : Type 0} (f : X → ℕ) (xs : List X) (d : X) where
+  later : (i j s t : ℕ) → i < j → j < length xs → s < f (get_or xs i d) → sum_by f (take i xs) + s ≡ sum_by f (take j xs) + t → ⊥
+  later i j s t l m n e =
+      let more = sum_by_more f xs i d (omega arith) in
+      let le = sum_by-take-le f (take j xs) (i + 1) in
+      let within = ap (sum_by f) (take-take (i + 1) j xs (omega arith)) in
+      omega arith
+
+  pub one_place : (i j s t : ℕ) → i < length xs → j < length xs → s < f (get_or xs i d) → t < f (get_or xs j d) → sum_by f (take i xs) + s ≡ sum_by f (take j xs) + t → (i ≡ j) × (s ≡ t)
+  one_place i j s t l m n o e =
+      elim (cases_order i j) [
+        | inl same ↦
+            let sums = ap (λ k. sum_by f (take k xs)) same in
+            (same, omega arith)
+        | inr other ↦ elim other [ inl less ↦ absurd (later i j s t less m n e) | inr more ↦ absurd (later j i t s more l o (sym e)) ]
+      ]
+
+-- numbers that rise stand once
+pub one_rank : (xs : List ℕ) → IsRising nat_lt xs → (i j : ℕ) → i < length xs → j < length xs → get_or xs i 0 ≡ get_or xs j 0 → i ≡ j
+one_rank xs rising i j l m e =
+    elim (cases_order i j) [
+      | inl same ↦ same
+      | inr other ↦ elim other [
+        | inl less ↦ let h = rising_at xs rising i j 0 less m in absurd (omega arith)
+        | inr more ↦ let h = rising_at xs rising j i 0 more l in absurd (omega arith)
+      ]
+    ]
+
+pub signed_var : (positive : Bool) (n : ℕ) → (signed literals positive n).var ≡ n
+signed_var true n = refl
+signed_var false n = refl
+
+pub signed_sign : (positive : Bool) (n : ℕ) → (signed literals positive n).positive ≡ positive
+signed_sign true n = refl
+signed_sign false n = refl
+
+signed_is : (o : Lit) (positive : Bool) (n : ℕ) → n ≡ o.var → positive ≡ o.positive → signed literals positive n ≡ o
+signed_is o true n e p = λ k. record { var = e k; positive = p k }
+signed_is o false n e p = λ k. record { var = e k; positive = p k }
+
+-- the owner variable is that of this cell and this bit
+module _ (vars : List Variable) (cells : List Cell) (part t var : ℕ) (owner : Lit) (in_cells : part < length cells) (in_bits : t < owner_count vars (get_or cells part origin)) (at : total vars (take part cells) + t + (length vars + 1) ≡ owner.var) where
+  abbrev pub pair : List Lit
+  pair = literals.minus var ∷ owner ∷ []
+
+  abbrev of : Cell
+  of = get_or cells part origin
+
+  pub pair_there : (rank : ℕ) → rank < length (holders vars of) → get_or (holders vars of) rank 0 ≡ var → bit t rank ≡ owner.positive → Contains (owners_of vars cells) pair
+  pair_there rank l is sign =
+      member_owner vars (length vars + 1) cells pair (record {
+        cell = part;
+        rank = rank;
+        bit = t;
+        in_cells = in_cells;
+        in_holders = l;
+        in_bits = in_bits;
+        is = let back = signed_is owner (bit t rank) (first_owner vars (length vars + 1) cells part + t) (omega arith) sign in sym (λ k. literals.minus (is k) ∷ back k ∷ []);
+      })
+
+  -- where the pair is one of the clauses
+  pub record IsPair : Type 0 where
+    pub rank : ℕ
+    pub in_holders : rank < length (holders vars of)
+    pub number : get_or (holders vars of) rank 0 ≡ var
+    pub sign : bit t rank ≡ owner.positive
+
+  pub pair_found : Contains (owners_of vars cells) pair → IsPair
+  pair_found m =
+      let f = owner_member vars (length vars + 1) cells pair m in
+      let second : owner ≡ signed literals (bit f.bit f.rank) (first_owner vars (length vars + 1) cells f.cell + f.bit) = ap (λ (e : List Lit). get_or e 1 owner) f.is in
+      let first : var ≡ get_or (holders vars (get_or cells f.cell origin)) f.rank 0 = ap (λ (e : List Lit). (get_or e 0 owner).var) f.is in
+      let place : owner.var ≡ first_owner vars (length vars + 1) cells f.cell + f.bit = ap (λ (l : Lit). l.var) second ∙ signed_var (bit f.bit f.rank) (first_owner vars (length vars + 1) cells f.cell + f.bit) in
+      let one = one_place (owner_count vars) cells origin f.cell part f.bit t f.in_cells in_cells f.in_bits in_bits (omega arith) in
+      let sign : owner.positive ≡ bit f.bit f.rank = ap (λ (l : Lit). l.positive) second ∙ signed_sign (bit f.bit f.rank) (first_owner vars (length vars + 1) cells f.cell + f.bit) in
+      record {
+        rank = f.rank;
+        in_holders = subst (λ p. f.rank < length (holders vars (get_or cells p origin))) one.0 f.in_holders;
+        number = ap (λ p. get_or (holders vars (get_or cells p origin)) f.rank 0) (sym one.0) ∙ sym first;
+        sign = ap (λ b. bit b f.rank) (sym one.1) ∙ sym sign;
+      }

@@ -1,5 +1,5 @@
 -- How many clauses and owner variables the owned cells of a universe have.
-use Rattle.std.specs.Prelude.{◌≡◌, ℕ, ◌+◌, ◌*◌, ◌<◌, ◌^◌, List, length, map, sum_by}
+use Rattle.std.specs.Prelude.{◌≡◌, ℕ, ◌+◌, ◌*◌, ◌<◌, ◌^◌, List, [], ◌∷◌, length, map, sum_by, Contains}
 use Rattle.heesch_grid.specs.declared.Cell.{Cell}
 use Rattle.heesch_grid.specs.Listing.{ListsExactly}
 use Rattle.heesch_grid.specs.Cells.{cell_before}
@@ -34,3 +34,9 @@ pub record HaveMoreThan (vars : List Variable) (room : ℕ) : Type 0 where
   pub owned : List Cell
   pub are_owned : ListsExactly cell_before (IsOwned vars) owned
   pub above : room < formula_size (owners_of vars owned)
+
+-- one of the clauses is the negation of a variable, which is in this clause, and the literal
+pub record HasOneOf (clauses : List (List Lit)) (owner : Lit) (clause : List Lit) : Type 0 where
+  pub var : ℕ
+  pub inside : Contains clause (literals.minus var)
+  pub is_one : Contains clauses (literals.minus var ∷ owner ∷ [])
