@@ -1,33 +1,36 @@
 -- The literals of the clauses of the families, as sets.
-use Rattle.std.proofs.Common.{◌≡◌, refl, sym, ap, subst, ◌∙◌, ℕ, ◌+◌, ◌-◌, ◌<◌, ◌≤◌, List, [], ◌∷◌, ◌++◌, map, filter, length, get_or, Bool, true, false, cond, not, ◌&&◌, inl, inr, ◌⊎◌, arith, All, Contains, true≢false, eq-eqb, eqb-true, ne_eqb}
-use Rattle.std.specs.Prelude.{Some, None, unwrap_or, ◌==◌, flat_map}
+use Rattle.std.proofs.Common.{◌≡◌, refl, sym, ap, subst, ◌∙◌, ℕ, ◌+◌, ◌-◌, ◌<◌, ◌≤◌, List, [], ◌∷◌, ◌++◌, map, filter, length, get_or, Bool, true, false, cond, not, ◌&&◌, inl, inr, ◌⊎◌, arith, All, Contains, true≢false, eq-eqb, eqb-true, ne_eqb, ltb-true}
+use Rattle.std.specs.Prelude.{Some, None, unwrap_or, ◌==◌, flat_map, nat_lt}
 use Rattle.std.specs.List.{enumerate_from}
 use Rattle.std.proofs.lemmas.Bool.{and_parts, and_from, and_left, and_right, cases_Bool, cases_lt, not-true}
-use Rattle.std.proofs.lemmas.List.Elements.{All-contains}
+use Rattle.std.proofs.lemmas.List.{length-map, get_or-map}
+use Rattle.std.proofs.lemmas.List.Elements.{All-contains, Contains-get_or}
 use Rattle.heesch_cnf.specs.declared.literal.Lit.{Lit}
 use Rattle.heesch_cnf.specs.declared.values.Left.{Left}
 use Rattle.heesch_cnf.specs.Literals.{Values}
 use Rattle.heesch_cnf.specs.Left.{IsLeft}
 use Rattle.heesch_grid.specs.declared.Cell.{Cell}
 use Rattle.heesch_grid.specs.Listing.{ListsExactly}
-use Rattle.heesch_grid.specs.Cells.{cell_before, has, meet}
+use Rattle.heesch_grid.specs.Cells.{cell_before, has, meet, origin}
 use Rattle.heesch_grid.specs.Geometry.{Geometry, IsGrid, IsAround}
 use Rattle.heesch_grid.specs.Placement.{touch}
 use Rattle.heesch_grid.specs.Clauses.{clause_of, is_numbered, no_variable}
 use Rattle.heesch_grid.specs.CoronaFormula.{Variable, IsNumbered, covers}
-use Rattle.heesch_grid.proofs.ListFacts.{member_cases, member_here, member_there, no_member, filter_member, member_filter}
+use Rattle.heesch_grid.proofs.ListFacts.{member_cases, member_here, member_there, no_member, filter_member, member_filter, All-from_members}
 use Rattle.heesch_grid.proofs.WindowFacts.{map_member, member_map, flat_map_member, member_flat_map}
 use Rattle.heesch_grid.proofs.CellFacts.{meet-true, meet-is}
 use Rattle.heesch_grid.proofs.ClauseFacts.{entry_at, entry_made, entry_same}
+use Rattle.heesch_grid.specs.Pairs.{has-true}
 use Rattle.heesch_grid.proofs.TileFacts.{contact, touch_by}
 use Rattle.heesch_cert.specs.Literals.{literals}
 use Rattle.heesch_place.specs.Universes.{covering}
+use Rattle.heesch_encode.specs.Families.{covering_at}
 use Rattle.heesch_encode.specs.Literals.{plus_all}
 use Rattle.heesch_encode.specs.Meeting.{covering_after}
-use Rattle.heesch_encode.proofs.ClauseLists.{IsLiteral, clause_listed, choice_is}
+use Rattle.heesch_encode.proofs.ClauseLists.{IsLiteral, clause_listed, choice_is, entry_range}
 use Rattle.heesch_encode.proofs.Rings.{IsMeeting, meeting_found, found_meeting}
 use Rattle.heesch_numbers.specs.Seen.{IsSeen}
-use Rattle.heesch_numbers.specs.Common.{tile_of, supporters_at}
+use Rattle.heesch_numbers.specs.Common.{tile_of, supporters_at, outside}
 use Rattle.heesch_numbers.proofs.Seeing.{seen_left}
 
 -- ---- a clause of variables alone
@@ -152,3 +155,35 @@ module _ (g : Geometry) (law : IsGrid g) (vars : List Variable) (n above of : �
   pub support_left : (values : Values) (left : Left) → IsSeen values (literals.minus n ∷ plus_all found) left → IsLeft values (clause_of literals (is_numbered n) test vars) left
   support_left values left seen =
       implication_left vars test n v (entry_made vars n v number) (and_left (v.level + 1 == v.level) (touch g v.tile v.tile) (ne_eqb (v.level + 1) v.level (λ e. omega arith))) found supporter_found found_supports values left seen
+
+-- ---- the clauses of family 2 of a variable
+
+pub covering_place : (around : List Cell → List Cell) (shape : List Cell) (j : ℕ) (vars : List Variable) (n place : ℕ) (v : Variable) → place < length (covering_at around shape j vars (n, v)) →
+    (v.level < j) × (place < length (outside shape (around v.tile))) × (get_or (covering_at around shape j vars (n, v)) place [] ≡ clause_of literals (is_numbered n) (covers (v.level + 1) (get_or (outside shape (around v.tile)) place origin)) vars)
+covering_place around shape j vars n place v less = go (nat_lt v.level j) refl less
+  where
+    each : Cell → List Lit
+    each c = clause_of literals (is_numbered n) (covers (v.level + 1) c) vars
+
+    go : (b : Bool) → nat_lt v.level j ≡ b → place < length (cond b (map each (outside shape (around v.tile))) []) →
+        (v.level < j) × (place < length (outside shape (around v.tile))) × (get_or (cond b (map each (outside shape (around v.tile))) []) place [] ≡ each (get_or (outside shape (around v.tile)) place origin))
+    go false e l = absurd (omega arith)
+    go true e l =
+        let long = length-map (outside shape (around v.tile)) each in
+        let fits : place < length (outside shape (around v.tile)) = omega (arith, l, long) in
+        (ltb-true v.level j e, fits, get_or-map each (outside shape (around v.tile)) place origin [] fits)
+
+-- a cell around a tile and outside the shape is none of the tile's
+pub outside_apart : (g : Geometry) (tile shape cells : List Cell) (place : ℕ) (c : Cell) → ListsExactly cell_before (IsAround g tile) cells → place < length (outside shape cells) → c ≡ get_or (outside shape cells) place origin → has tile c ≡ false
+outside_apart g tile shape cells place c listed l is =
+    let m = filter_member (λ d. not (has shape d)) cells (get_or (outside shape cells) place origin) (Contains-get_or (outside shape cells) place origin l) in
+    let a = All-contains (IsAround g tile) cells (get_or (outside shape cells) place origin) listed.only m.0 in
+    ap (has tile) is ∙ elim (cases_Bool (has tile (get_or (outside shape cells) place origin))) [ inr f ↦ f | inl t ↦ absurd (a.outside (has-true tile (get_or (outside shape cells) place origin) t)) ]
+
+-- the variables of these numbers are the universe's
+pub after_range : (vars : List Variable) (above most : ℕ) (c : Cell) → All (λ n. (1 ≤ n) × (n ≤ length vars)) (covering_after vars above most c)
+after_range vars above most c =
+    All-from_members (λ n. (1 ≤ n) × (n ≤ length vars)) (covering_after vars above most c) (λ n m.
+    let f = filter_member (nat_lt above) (covering vars most c) n m in
+    let r = map_member (λ (x : ℕ × Variable). x.0) (filter (covers most c) (enumerate_from 1 vars)) n f.0 in
+    subst (λ k. (1 ≤ k) × (k ≤ length vars)) r.2 (entry_range vars r.0 (filter_member (covers most c) (enumerate_from 1 vars) r.0 r.1).0))

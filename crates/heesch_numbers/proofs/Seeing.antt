@@ -1,7 +1,10 @@
 -- Literals that are looked at one after another, and what is left of a clause that has them.
-use Rattle.std.proofs.Common.{◌≡◌, refl, sym, ap, subst, ◌∙◌, ℕ, ◌≤◌, List, [], ◌∷◌, ◌++◌, filter, length, Bool, true, false, cond, not, inl, inr, ◌⊎◌, arith, All, Contains, true≢false}
-use Rattle.std.proofs.lemmas.List.Elements.{All-nil, All-cons, All-append, All-contains, All-weaker, Contains-append_left, Contains-append_right}
+use Rattle.std.proofs.Common.{◌≡◌, refl, sym, ap, subst, ◌∙◌, ℕ, ◌+◌, ◌<◌, ◌≤◌, List, [], ◌∷◌, ◌++◌, map, filter, length, get_or, take, drop, Bool, true, false, cond, not, inl, inr, ◌⊎◌, arith, All, Contains, true≢false}
+use Rattle.std.proofs.lemmas.List.Elements.{All-nil, All-cons, All-append, All-contains, All-weaker, Contains-append_left, Contains-append_right, filter-append}
+use Rattle.std.specs.Prelude.{flat_map}
 use Rattle.std.proofs.lemmas.Bool.{not-true, cases_Bool}
+use Rattle.std.proofs.lemmas.List.{take_all, take_more, take-append-drop, append-nil, append_assoc, map-append}
+use Rattle.std.proofs.lemmas.List.Concat.{flat_map-append}
 use Rattle.heesch_cnf.specs.declared.literal.Lit.{Lit}
 use Rattle.heesch_cnf.specs.declared.values.Left.{Left}
 use Rattle.heesch_cnf.specs.declared.values.Left.TheVariants.{Nothing, One, More}
@@ -10,7 +13,8 @@ use Rattle.heesch_cnf.specs.Left.{IsLeft}
 use Rattle.heesch_cnf.specs.Clauses.{left_of}
 use Rattle.heesch_grid.specs.Listing.{IsRising}
 use Rattle.heesch_grid.proofs.ListFacts.{member_cases, member_here, member_there, no_member, member_filter, filter_member, rising_filter, same_rising}
-use Rattle.heesch_encode.specs.Literals.{lit_before}
+use Rattle.heesch_cert.specs.Literals.{literals}
+use Rattle.heesch_encode.specs.Literals.{plus_all, lit_before}
 use Rattle.heesch_encode.proofs.ClauseLists.{lit_before-irreflexive, lit_before-asymmetric}
 use Rattle.heesch_numbers.specs.Seen.{is_out, HasOne, HasTwo, IsSeen}
 
@@ -116,3 +120,55 @@ module _ (values : Values) (clause seen : List Lit) (rising : IsRising lit_befor
   seen_left Nothing h = none_pass kept clause (λ l m. ap not (All-contains (λ l. is_out values l ≡ true) seen l h (to l m)))
   seen_left (One l) h = one_left l h
   seen_left More h = two_members (filter kept clause) h.first h.second (stays h.first h.in_first h.open_first) (stays h.second h.in_second h.open_second) h.differ
+
+-- ---- walks over lists whose elements each give some literals
+
+module _ {X : Type 0} (h : List X → List Lit) (joins : (xs ys : List X) → h (xs ++ ys) ≡ h xs ++ h ys) (values : Values) (seen : List Lit) (xs : List X) (i : ℕ) where
+  -- one element more
+  pub walk_more : (d : X) (left : Left) → i < length xs → IsSeen values ((seen ++ h (take i xs)) ++ h (get_or xs i d ∷ [])) left → IsSeen values (seen ++ h (take (i + 1) xs)) left
+  walk_more d left l s =
+      subst (λ ls. IsSeen values ls left) (append_assoc seen (h (take i xs)) (h (get_or xs i d ∷ [])) ∙ ap (λ ls. seen ++ ls) (sym (joins (take i xs) (get_or xs i d ∷ [])) ∙ ap h (sym (take_more xs i d l)))) s
+
+  -- where two are left, the others change nothing
+  pub walk_stopped : IsSeen values (seen ++ h (take i xs)) More → IsSeen values (seen ++ h xs) More
+  walk_stopped s =
+      subst (λ ls. IsSeen values ls More) (append_assoc seen (h (take i xs)) (h (drop i xs)) ∙ ap (λ ls. seen ++ ls) (sym (joins (take i xs) (drop i xs)) ∙ ap h (take-append-drop i xs)))
+      (seen_more values (seen ++ h (take i xs)) (h (drop i xs)) s)
+
+  -- all of them
+  pub walk_whole : (left : Left) → length xs ≤ i → IsSeen values (seen ++ h (take i xs)) left → IsSeen values (seen ++ h xs) left
+  walk_whole left l s = subst (λ ys. IsSeen values (seen ++ h ys) left) (take_all i xs l) s
+
+pub plus_joins : (xs ys : List ℕ) → plus_all (xs ++ ys) ≡ plus_all xs ++ plus_all ys
+plus_joins xs ys = map-append literals.plus xs ys
+
+pub kept_joins : (p : ℕ → Bool) (xs ys : List ℕ) → plus_all (filter p (xs ++ ys)) ≡ plus_all (filter p xs) ++ plus_all (filter p ys)
+kept_joins p xs ys = ap plus_all (filter-append p xs ys) ∙ plus_joins (filter p xs) (filter p ys)
+
+pub pieces_join : {X : Type 0} (f : X → List ℕ) (xs ys : List X) → plus_all (flat_map f (xs ++ ys)) ≡ plus_all (flat_map f xs) ++ plus_all (flat_map f ys)
+pieces_join f xs ys = ap plus_all (flat_map-append f xs ys) ∙ plus_joins (flat_map f xs) (flat_map f ys)
+
+-- ---- one number, which passes or doesn't
+
+module _ (values : Values) (p : ℕ → Bool) (seen : List Lit) (n : ℕ) (left : Left) where
+  kept_at : (b : Bool) → p n ≡ b → IsSeen values (seen ++ plus_all (cond b (n ∷ []) [])) left → IsSeen values (seen ++ plus_all (filter p (n ∷ []))) left
+  kept_at b e h = subst (λ b. IsSeen values (seen ++ plus_all (cond b (n ∷ []) [])) left) (sym e) h
+
+  none_more : IsSeen values seen left → IsSeen values (seen ++ []) left
+  none_more h = subst (λ ls. IsSeen values ls left) (sym (append-nil seen)) h
+
+  -- a false one
+  pub kept_out : is_out values (literals.plus n) ≡ true → IsSeen values seen left → IsSeen values (seen ++ plus_all (filter p (n ∷ []))) left
+  kept_out out h = go (p n) refl
+    where
+      go : (b : Bool) → p n ≡ b → IsSeen values (seen ++ plus_all (filter p (n ∷ []))) left
+      go true e = kept_at true e (seen_out values seen (literals.plus n) left out h)
+      go false e = kept_at false e (none_more h)
+
+  -- one that doesn't pass
+  pub kept_not : p n ≡ false → IsSeen values seen left → IsSeen values (seen ++ plus_all (filter p (n ∷ []))) left
+  kept_not e h = kept_at false e (none_more h)
+
+  -- one that passes
+  pub kept_with : p n ≡ true → IsSeen values (seen ++ literals.plus n ∷ []) left → IsSeen values (seen ++ plus_all (filter p (n ∷ []))) left
+  kept_with e h = kept_at true e h

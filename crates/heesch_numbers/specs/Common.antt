@@ -1,5 +1,5 @@
 -- Families 1 to 3 of the corona formulas of a universe, and what they are found by.
-use Rattle.std.specs.Prelude.{◌≡◌, ℕ, ◌-◌, ◌<◌, ◌≤◌, Bool, not, List, [], map, filter, length, slice_index_or, All}
+use Rattle.std.specs.Prelude.{◌≡◌, ℕ, ◌+◌, ◌-◌, ◌<◌, ◌≤◌, Bool, not, Option, MatchOption, List, [], map, filter, length, slice_index_or, All}
 use Rattle.std.specs.List.{enumerate_from}
 use Rattle.heesch_cnf.specs.declared.literal.Lit.{Lit}
 use Rattle.heesch_cnf.specs.Clauses.{left_of}
@@ -33,6 +33,10 @@ AllRemain values clauses = All (λ clause. ¬ (left_of values clause ≡ [])) cl
 -- so has each clause of family 2 or 3 of a variable, which is given with its number
 abbrev pub VariableRemains : Values → Geometry → (List Cell → List Cell) → Levels → ℕ × Variable → Type 0
 VariableRemains values g around u x = AllRemain values (covering_at around u.shape u.level u.vars x) × AllRemain values (support_at g u.vars x)
+
+-- of this room, so much is left behind `size`, or it is too little
+abbrev pub IsRoomAfter : ℕ → ℕ → Option ℕ → Type 0
+IsRoomAfter room size result = MatchOption result (room < size) (λ left. left + size ≡ room)
 
 -- the tile of the variable of this number
 abbrev pub tile_of : List Variable → ℕ → List Cell

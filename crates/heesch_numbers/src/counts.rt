@@ -23,7 +23,8 @@ fn count_of<G: Grid>(plan: &Plan<G>, var: u32) -> usize
     if plan.universe.level_of(var) >= plan.level {
         return 0;
     }
-    count_outside(plan.shape, surround_of(plan.rings, plan.universe, var))
+    let cells = surround_of(plan.rings, plan.universe, var);
+    count_outside(plan.shape, &cells)
 }
 
 /// How many each variable has. 2^32 or more in all count as want of memory.

@@ -5,7 +5,6 @@ mod common;
 mod counts;
 mod prefix;
 mod remain;
-mod room;
 mod seen;
 mod surround;
 mod walks;

@@ -8,7 +8,7 @@ ghost use Rattle.heesch_grid.specs.Listing.{ListsExactly};
 ghost use Rattle.heesch_grid.specs.Vectors.{IsWithin};
 ghost use Rattle.heesch_encode.specs.Rings.{AreRings};
 ghost use Rattle.heesch_numbers.specs.Common.{outside};
-ghost use Rattle.heesch_numbers.specs.Surrounds.{cells_of};
+ghost use Rattle.heesch_numbers.specs.Moves.{moved_by};
 
 use heesch_encode::TurnedRing;
 use heesch_grid::moves::{difference, moved};
@@ -33,8 +33,8 @@ pub(crate) fn surround_of<'a, G: Grid>(
 ) -> Surround<'a>
     requires rings { AreRings G.geometry universe.now.shape rings.now }
     requires number { (1 ≤ var) × (var ≤ length universe.now.vars) }
-    ensures listed { (x : Variable) → IsNumbered universe.now.vars var x → ListsExactly cell_before (IsAround G.geometry x.tile) (cells_of result) }
-    ensures given { (x : Variable) (around : List Cell → List Cell) → IsNumbered universe.now.vars var x → GivesCellsAround G.geometry around → cells_of result ≡ around x.tile }
+    ensures listed { (x : Variable) → IsNumbered universe.now.vars var x → ListsExactly cell_before (IsAround G.geometry x.tile) (moved_by result.step result.ring.now) }
+    ensures given { (x : Variable) (around : List Cell → List Cell) → IsNumbered universe.now.vars var x → GivesCellsAround G.geometry around → moved_by result.step result.ring.now ≡ around x.tile }
 {
     let place = universe.placement_of(var);
     let turned = &rings[place.iso().turn as usize];
@@ -48,7 +48,7 @@ pub(crate) fn surround_of<'a, G: Grid>(
 impl<'a> Surround<'a> {
     /// How many cells there are.
     pub fn len(&self) -> usize
-        ensures count { result ≡ length (cells_of self.now) }
+        ensures count { result ≡ length (moved_by self.now.step self.now.ring.now) }
         ensures small { result < 1152921504606846976 }
     {
         self.ring.len()
@@ -56,16 +56,16 @@ impl<'a> Surround<'a> {
 
     /// The cell at a place, from 0.
     pub fn at(&self, i: usize) -> Cell
-        requires { i < length (cells_of self.now) }
-        ensures { (d : Cell) → result ≡ slice_index_or (cells_of self.now) i d }
+        requires { i < length (moved_by self.now.step self.now.ring.now) }
+        ensures { (d : Cell) → result ≡ slice_index_or (moved_by self.now.step self.now.ring.now) i d }
     {
         moved(self.ring[i], self.step)
     }
 }
 
 /// How many of the cells lie outside the shape. A look at each of them.
-pub(crate) fn count_outside<G: Grid>(shape: &Shape<G>, cells: Surround) -> usize
-    ensures count { result ≡ length (outside shape.now (cells_of cells)) }
+pub(crate) fn count_outside<G: Grid>(shape: &Shape<G>, cells: &Surround) -> usize
+    ensures count { result ≡ length (outside shape.now (moved_by cells.now.step cells.now.ring.now)) }
     ensures small { result < 1152921504606846976 }
 {
     let mut count = 0;
@@ -78,9 +78,9 @@ pub(crate) fn count_outside<G: Grid>(shape: &Shape<G>, cells: Surround) -> usize
 }
 
 /// The cell at a place, from 0, among those outside the shape. A look at each cell up to it.
-pub(crate) fn cell_outside<G: Grid>(shape: &Shape<G>, cells: Surround, place: u32) -> Cell
-    requires { place < length (outside shape.now (cells_of cells)) }
-    ensures { (d : Cell) → result ≡ slice_index_or (outside shape.now (cells_of cells)) place d }
+pub(crate) fn cell_outside<G: Grid>(shape: &Shape<G>, cells: &Surround, place: u32) -> Cell
+    requires { place < length (outside shape.now (moved_by cells.now.step cells.now.ring.now)) }
+    ensures { (d : Cell) → result ≡ slice_index_or (outside shape.now (moved_by cells.now.step cells.now.ring.now)) place d }
 {
     let mut passed = 0;
     for i in 0..cells.len() {

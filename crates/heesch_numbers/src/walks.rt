@@ -68,7 +68,7 @@ pub(crate) fn left_of_covering<G: Grid>(
         → IsLeft (held values.now) (slice_index_or (covering_at around plan.now.shape.now plan.now.level plan.now.universe.now.vars (var, x)) place []) result }
 {
     let cells = surround_of(plan.rings, plan.universe, var);
-    let c = cell_outside(plan.shape, cells, place);
+    let c = cell_outside(plan.shape, &cells, place);
     left_of_cover(plan, var, c, plan.universe.level_of(var) + 1, values)
 }
 
