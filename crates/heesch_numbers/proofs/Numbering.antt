@@ -71,7 +71,7 @@ module _ (vars : List Variable) (lowest : ℕ) (low : (n : ℕ) (x : Variable) �
       not_two (suc (suc l)) h = absurd (omega arith)
 
   module _ (g : Geometry) where
-    abbrev support_clause : ℕ × Variable → List Lit
+    abbrev pub support_clause : ℕ × Variable → List Lit
     support_clause x = clause_of literals (is_numbered x.0) (λ y. (y.1.level + 1 == x.1.level) && touch g y.1.tile x.1.tile) vars
 
     supports_are : support_clauses literals g vars ≡ map support_clause (drop lowest entries)
