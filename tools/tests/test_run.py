@@ -321,6 +321,7 @@ class Runs(ToolTest):
         self.assertEqual(files['catalogue.txt'], entries('kite-4.txt'))
         self.assertEqual(files['undecided.txt'].decode(), f'{left[1]}\n')
         self.assertEqual(program('check', text=files['given.txt'].decode()), 'valid 3\n')
+        self.assertIn('On 1 of the shapes of passes a process failed twice', (self.folder / 'f/README.md').read_text())
 
     def test_invalid_catalogue(self):
         wrong = self.stub('[ "$1" = share ]', f'{PROGRAM} "$@" | sed "s/classes 1/classes 2/"; exit 0')
