@@ -178,10 +178,9 @@ class Run:
     def _merge_texts(self, passes, target):
         first = self.folder.work(FIRST)
         if not passes:
-            _same_file(first, target)
-            return
+            return _same_file(first, target)
         with WholeFile(target) as file:
-            program.pour([sys.executable, tool('merge'), first, *passes], None, file.write)
+            return program.pour([sys.executable, tool('merge'), first, *passes], None, file.write)
 
     def check(self):
         """Has `heesch check` judge what was made, and only then gives it its name."""
@@ -193,11 +192,12 @@ class Run:
         """Has it judge a text of `work`, which then gets its name in the folder."""
         told = []
         with open(self.folder.work(name), 'rb') as source:
-            program.pour([self.heesch, 'check', '--workers', str(min(self.jobs, 64))], source, told.append)
+            cost = program.pour([self.heesch, 'check', '--workers', str(min(self.jobs, 64))], source, told.append)
         said = b''.join(told).decode('ascii').strip()
         checked = self.folder.recorded('check') or {}
         self.folder.record('check', {**checked, target: said})
         os.replace(self.folder.work(name), self.folder.file(target))
+        return cost
 
     # ---- outer numbers
 
@@ -252,10 +252,10 @@ class Run:
                                  f'what is done is kept{further}')
 
     def _timed(self, stage, body, *arguments):
-        """Calls a body, and notes its time."""
+        """Calls a body, which may answer what a process took, and notes its time."""
         begun = time.time()
-        body(*arguments)
-        self.folder.note(stage=stage, begun=begun, seconds=time.time() - begun)
+        cost = body(*arguments) or {}
+        self.folder.note(stage=stage, begun=begun, seconds=time.time() - begun, **cost)
 
 
 def tool(name):
