@@ -80,14 +80,15 @@ class Report:
     def _beside(self):
         if not self._merged['later']:
             return 'All that is decided stands in the catalogue.'
-        return (f'Of the shapes that are undecided in {CATALOGUE}, {self._merged["later"]} are decided in the catalogue '
-                'of given shapes beside it, under the limits of later passes.')
+        return (f'Of the shapes that are undecided in {CATALOGUE}, {self._merged["later"]} are decided in the '
+                'catalogue of given shapes beside it, under the limits of later passes.')
 
     def _outer(self):
         if not self._plan.outer:
             return ''
         limits = self._plan.outer_limits(self._merged['passes'])
-        return f' {OUTER} has the outer numbers of the shapes with a Heesch number, by `heesch outer` under `{limits}`.'
+        return (f' {OUTER} has the outer numbers of the shapes with a Heesch number, by `heesch outer` under '
+                f'`{limits}`.')
 
     def _undecided(self):
         if not self._left:

@@ -27,7 +27,7 @@ class Run:
     """
 
     def __init__(self, folder, plan, heesch, jobs, leaves=False):
-        self.folder, self.plan, self.heesch, self.jobs, self._leaves = folder, plan, heesch, jobs, leaves
+        self.folder, self.plan, self.heesch, self.jobs, self.leaves = folder, plan, heesch, jobs, leaves
 
     def make_catalogue(self):
         """Makes the checked catalogue of the size, and beside it what only the last passes decide."""
@@ -96,7 +96,7 @@ class Run:
                  for part in self._missing(f'pass-{number}', sizes, 'decided')]
         shapes = sum(sizes.values())
         failed = self._work(f'pass {number}', tasks, shapes - sum(sizes[task.number] for task in tasks), shapes)
-        if not self._leaves:
+        if not self.leaves:
             self._refuse_failed(f'parts of pass {number}', failed, ', and --leave leaves these shapes undecided')
         for task, fault in failed:
             self._leave(number, task.number, fault, evidence)
