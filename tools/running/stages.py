@@ -17,7 +17,7 @@ VERSION = 2  # of the corona formulas, by default
 PASS_PARTS = 256  # of a pass at most, where its shapes are no more than these can be given
 FIRST, MERGED, NONTILERS = 'first.txt', 'merged.txt', 'nontilers.txt'  # in `work`
 CATALOGUE, GIVEN, OUTER = 'catalogue.txt', 'given.txt', 'outer.txt'
-PART_FILES = ('decided', 'undecided', 'left')
+PART_FILES = ('decided', 'undecided', 'left', 'failed')  # of a part of a pass, some only where they say something
 
 
 class Run:
@@ -27,7 +27,7 @@ class Run:
     """
 
     def __init__(self, folder, plan, heesch, jobs, leaves=False):
-        self.folder, self.plan, self.heesch, self.jobs, self._leaves = folder, plan, heesch, jobs, leaves
+        self.folder, self.plan, self.heesch, self.jobs, self.leaves = folder, plan, heesch, jobs, leaves
 
     def make_catalogue(self):
         """Makes the checked catalogue of the size, and beside it what only the last passes decide."""
@@ -96,18 +96,19 @@ class Run:
                  for part in self._missing(f'pass-{number}', sizes, 'decided')]
         shapes = sum(sizes.values())
         failed = self._work(f'pass {number}', tasks, shapes - sum(sizes[task.number] for task in tasks), shapes)
-        if not self._leaves:
+        if not self.leaves:
             self._refuse_failed(f'parts of pass {number}', failed, ', and --leave leaves these shapes undecided')
-        for task, _ in failed:
-            self._leave(number, task.number, evidence)
+        for task, fault in failed:
+            self._leave(number, task.number, fault, evidence)
         return self._join_pass(number, sizes, evidence)
 
-    def _leave(self, number, part, evidence):
+    def _leave(self, number, part, fault, evidence):
         """Leaves the shapes of a part undecided, and with them all evidence of undecided shapes of the pass."""
         evidence.give_up()
         header = texts.Header(False, VERSION, self.plan.grid, None, self.plan.limits(number))
         paths = self._pass_paths(number, part)
         shutil.copyfile(self.folder.part(f'pass-{number}', part, 'cells'), paths['left'])
+        write_whole(paths['failed'], fault + '\n')
         GivenText(paths['decided'], f'{header}\n'.encode()).close()
 
     def _pass_paths(self, number, part):
@@ -142,7 +143,8 @@ class Run:
         self._timed(f'join of pass {number}', joins.join_given, files['decided'] + kept, self.folder.pass_text(number))
         left = self._join_lists(files['left'], number)
         shapes = sum(sizes.values())
-        facts = {'shapes': shapes, 'decided': shapes - left, 'evidence': None if evidence.is_over else evidence.bytes}
+        facts = {'shapes': shapes, 'decided': shapes - left, 'evidence': None if evidence.is_over else evidence.bytes,
+                 'failed': sum(sizes[part] for part, path in zip(sizes, files['failed']) if os.path.exists(path))}
         self.folder.record(f'pass-{number}', facts)
         return facts
 
@@ -176,10 +178,9 @@ class Run:
     def _merge_texts(self, passes, target):
         first = self.folder.work(FIRST)
         if not passes:
-            _same_file(first, target)
-            return
+            return _same_file(first, target)
         with WholeFile(target) as file:
-            program.pour([sys.executable, tool('merge'), first, *passes], None, file.write)
+            return program.pour([sys.executable, tool('merge'), first, *passes], None, file.write)
 
     def check(self):
         """Has `heesch check` judge what was made, and only then gives it its name."""
@@ -191,11 +192,12 @@ class Run:
         """Has it judge a text of `work`, which then gets its name in the folder."""
         told = []
         with open(self.folder.work(name), 'rb') as source:
-            program.pour([self.heesch, 'check', '--workers', str(min(self.jobs, 64))], source, told.append)
+            cost = program.pour([self.heesch, 'check', '--workers', str(min(self.jobs, 64))], source, told.append)
         said = b''.join(told).decode('ascii').strip()
         checked = self.folder.recorded('check') or {}
         self.folder.record('check', {**checked, target: said})
         os.replace(self.folder.work(name), self.folder.file(target))
+        return cost
 
     # ---- outer numbers
 
@@ -250,10 +252,10 @@ class Run:
                                  f'what is done is kept{further}')
 
     def _timed(self, stage, body, *arguments):
-        """Calls a body, and notes its time."""
+        """Calls a body, which may answer what a process took, and notes its time."""
         begun = time.time()
-        body(*arguments)
-        self.folder.note(stage=stage, begun=begun, seconds=time.time() - begun)
+        cost = body(*arguments) or {}
+        self.folder.note(stage=stage, begun=begun, seconds=time.time() - begun, **cost)
 
 
 def tool(name):
