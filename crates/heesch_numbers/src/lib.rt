@@ -5,6 +5,7 @@ mod common;
 mod counts;
 mod prefix;
 mod remain;
+mod room;
 mod seen;
 mod surround;
 mod walks;

@@ -20,7 +20,7 @@ loop-lit-preserved g c = λ around gives n x number m.
       | inl k ↦ c.loop-lit.invariant around gives n x number k
       | inr k ↦ elim (member_cases lit [] (literals.minus n) k) [
         | inl e ↦ when_true c.negated_remains.result _ _ c.if-not-negated_remains.false (c.negated_remains.ensures around gives) n x number e
-        | inr no ↦ absurd (no_member (literals.minus n) no)
+        | inr gone ↦ absurd (no_member (literals.minus n) gone)
       ]
     ]
 
