@@ -15,6 +15,7 @@ ghost use Rattle.heesch_numbers.specs.Common.{common_of, IsCommonNumber};
 use crate::counts::counts_of;
 use crate::prefix::Prefix;
 use crate::remain::{first_remain, all_negated_remain};
+use crate::room::are_within;
 use crate::walks::{left_of_covering, left_of_first, left_of_support};
 use heesch_cnf::{Left, Lit};
 use heesch_encode::{Plan, TurnedRing, last_below, rings_of, write_ring};
@@ -150,5 +151,14 @@ impl<G: Grid> CommonClauses<G> {
             return false;
         }
         all_negated_remain(&plan, clause, values)
+    }
+
+    /// Whether the clauses have at most so many literals. They are counted by the cells, and no clause is made.
+    pub fn fits(&self, alloc: Global, room: u32) -> Result<bool, NoMemory>
+        ensures { (around : List Cell → List Cell) → GivesCellsAround G.geometry around
+            → IfOk result (λ yes. IsTrue yes ↔ (formula_size (common_of G.geometry around self.now) ≤ room)) }
+    {
+        let plan = self.plan();
+        are_within(alloc, &plan, &self.first, room)
     }
 }
