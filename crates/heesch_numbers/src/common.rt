@@ -88,6 +88,7 @@ impl<G: Grid> CommonClauses<G> {
     /// The universe. A constant time.
     pub fn universe(&self) -> &Universe<G>
         ensures universe { result.now ≡ self.now }
+        ensures is_universe { IsUniverseOf G.geometry self.now }
         ensures few { length self.now.vars < 2 ^ 31 }
     {
         &self.universe

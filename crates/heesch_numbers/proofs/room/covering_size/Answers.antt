@@ -3,6 +3,7 @@ use Rattle.std.specs.Prelude.{min}
 use Rattle.heesch_grid.specs.declared.Cell.{Cell}
 use Rattle.heesch_grid.specs.Cells.{has, origin}
 use Rattle.heesch_grid.specs.Clauses.{formula_size}
+use Rattle.heesch_place.specs.Universes.{covering}
 use Rattle.heesch_encode.proofs.Numbered.{no_entry}
 use Rattle.heesch_encode.proofs.Pieces.{covering_piece, covering_is, no_covering, around_outside, some_at}
 use Rattle.heesch_numbers.specs.Moves.{moved_by}
@@ -29,10 +30,17 @@ loop-i-preserved g c =
     let less : i < length cells = omega (arith, c.loop-i-test.true, c.len-i-end.ensures.count) in
     let is = c.at-c.ensures origin in
     let out = around_outside g.G.Grid.geometry x.tile x.tile cells cells i origin (c.surround_of-cells.ensures.listed x number) refl refl less in
+    let d : Cell = get_or cells i origin in
     let f = λ (d : Cell). formula_size (covering_piece shape vars n of d) in
     elim c.if-not-has.branch [
-      | then-not-has w ↦ ?
-      | else-not-has w ↦ ?
+      | then-not-has w ↦
+          let count = length w.covered_by.result.now in
+          let covered = ap length (w.covered_by.ensures ∙ ap (covering vars (of + 1)) is) in
+          let one = covering_one vars n x number shape of d (ap (has shape) (sym is) ∙ sym c.has.ensures ∙ w.if-not-has.true) out in
+          let sum : c.loop-i.size + count + 1 ≡ c.loop-i.size + (count + 1) = omega arith in
+          w.size-is ∙ min_more f cells i origin less c.args.most c.loop-i.size c.loop-i.invariant (count + 1) w.min-size.result (omega (arith, covered, one)) (w.min-size.ensures ∙ ap (λ z. min z c.args.most) sum)
+      | else-not-has w ↦
+          w.size-is ∙ min_none f cells i origin less c.args.most c.loop-i.size c.loop-i.invariant (sym (covering_none vars n x number shape of d (ap (has shape) (sym is) ∙ sym c.has.ensures ∙ w.if-not-has.false)))
     ]
 
 pub returns : goal.returns

@@ -14,7 +14,7 @@ loop-c-preserved g c =
     let vars = c.args.plan.now.universe.now.vars in
     let f = λ (d : Cell). length (clause_of literals no_variable (covers 1 d) vars) in
     let at : Cell = get_or c.args.cells.now c.loop-c.c-index origin in
-    min_more f c.args.cells.now c.loop-c.c-index origin c.loop-c-test.true c.args.most c.loop-c.size c.loop-c.invariant c.len.result c.min-size.result (c.len.ensures ∙ ap length c.covered_by.ensures ∙ sym (choice_size vars at)) c.min-size.ensures
+    min_more f c.args.cells.now c.loop-c.c-index origin c.loop-c-test.true c.args.most c.loop-c.size c.loop-c.invariant (length c.covered_by.result.now) c.min-size.result (ap length c.covered_by.ensures ∙ sym (choice_size vars at)) c.min-size.ensures
 
 pub returns : goal.returns
 returns g c =

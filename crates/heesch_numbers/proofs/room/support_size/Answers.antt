@@ -7,7 +7,7 @@ use Rattle.heesch_grid.specs.Listing.{ListsExactly}
 use Rattle.heesch_encode.proofs.Numbered.{no_entry}
 use Rattle.heesch_encode.proofs.Pieces.{some_at}
 use Rattle.heesch_numbers.proofs.Members.{no_support}
-use Rattle.heesch_numbers.proofs.Sizes.{support_one}
+use Rattle.heesch_numbers.proofs.Sizes.{support_one, supporting_few}
 use Rattle.heesch_numbers.proofs.room.support_size.Goals as goal
 
 pub returns-then-of-lt2-clause-size : goal.returns-then-of-lt2-clause-size
@@ -29,3 +29,10 @@ returns-clause-size g c = λ x number.
     let size = support_one c.args.plan.now.universe.now.vars c.args.var x number g.G.Grid.geometry c.level_of-of.result c.shape-tile.result.now (c.level_of-of.ensures x number) c.if-of-lt2.false (c.shape-tile.ensures ∙ c.placement_of.ensures.tile x number) in
     let listed = ap length c.in_ok-list_supporting.ensures.listed in
     omega (arith, size, listed, c.len.ensures)
+
+pub returns-clause-small : goal.returns-clause-small
+returns-clause-small g c =
+    let listed = ap length c.in_ok-list_supporting.ensures.listed in
+    let few = supporting_few g.G.Grid.geometry c.args.plan.now.universe.now.vars (c.level_of-of.result - 1) c.shape-tile.result.now in
+    let all = c.requires.plan.few in
+    omega (arith, listed, few, all, c.len.ensures)
