@@ -14,7 +14,7 @@ ghost use Rattle.heesch_numbers.specs.Common.{common_of, IsCommonNumber};
 
 use crate::counts::counts_of;
 use crate::prefix::Prefix;
-use crate::remain::{first_remain, all_negated_remain};
+use crate::remain::{all_negated_remain, first_remain};
 use crate::room::are_within;
 use crate::walks::{left_of_covering, left_of_first, left_of_support};
 use heesch_cnf::{Left, Lit};

@@ -18,11 +18,7 @@ use heesch_encode::Plan;
 use heesch_grid::{Cell, Grid};
 
 /// Of family 1, over these cells.
-pub(crate) fn first_remain<G: Grid>(
-    plan: &Plan<G>,
-    cells: &[Cell],
-    values: &[Option<bool>],
-) -> bool
+pub(crate) fn first_remain<G: Grid>(plan: &Plan<G>, cells: &[Cell], values: &[Option<bool>]) -> bool
     requires room { length plan.now.universe.now.vars < length values.now }
     ensures { let clauses = map (λ c. clause_of literals no_variable (covers 1 c) plan.now.universe.now.vars) cells.now in
         MatchBool result (AllRemain (held values.now) clauses) (¬ AllRemain (held values.now) clauses) }
@@ -116,7 +112,7 @@ fn negated_remains<G: Grid>(plan: &Plan<G>, lit: Lit, values: &[Option<bool>]) -
     requires room { length plan.now.universe.now.vars < length values.now }
     ensures { (around : List Cell → List Cell) → GivesCellsAround G.geometry around →
         let remain = (n : ℕ) (x : Variable) → IsNumbered plan.now.universe.now.vars n x → lit ≡ literals.minus n
-            → VariableRemains (held values.now) G.geometry around plan.now.universe.now (n, x) in
+        → VariableRemains (held values.now) G.geometry around plan.now.universe.now (n, x) in
         MatchBool result remain (¬ remain) }
 {
     if lit.positive {
@@ -140,7 +136,7 @@ pub(crate) fn all_negated_remain<G: Grid>(
     requires room { length plan.now.universe.now.vars < length values.now }
     ensures { (around : List Cell → List Cell) → GivesCellsAround G.geometry around →
         let remain = (n : ℕ) (x : Variable) → IsNumbered plan.now.universe.now.vars n x → Contains clause.now (literals.minus n)
-            → VariableRemains (held values.now) G.geometry around plan.now.universe.now (n, x) in
+        → VariableRemains (held values.now) G.geometry around plan.now.universe.now (n, x) in
         MatchBool result remain (¬ remain) }
 {
     for lit in clause {

@@ -77,11 +77,7 @@ struct Finder {
 }
 
 /// How many literals the clause of family 3 of a variable has, or 0 where it has none.
-fn support_size<G: Grid>(
-    plan: &Plan<G>,
-    var: u32,
-    finder: &mut Finder,
-) -> Result<usize, NoMemory>
+fn support_size<G: Grid>(plan: &Plan<G>, var: u32, finder: &mut Finder) -> Result<usize, NoMemory>
     requires plan { IsPlan G.geometry plan.now.universe.now plan.now.shape.now plan.now.level plan.now.rings.now }
     requires number { (1 ≤ var) × (var ≤ length plan.now.universe.now.vars) }
     requires unmarked { AreUnmarked (length plan.now.universe.now.vars) finder.old.marks.words.items }
@@ -107,11 +103,7 @@ fn support_size<G: Grid>(
 }
 
 /// How many literals the clauses of family 3 have, or `most` where there are more. It stops there.
-fn support_sizes<G: Grid>(
-    alloc: Global,
-    plan: &Plan<G>,
-    most: usize,
-) -> Result<usize, NoMemory>
+fn support_sizes<G: Grid>(alloc: Global, plan: &Plan<G>, most: usize) -> Result<usize, NoMemory>
     requires plan { IsPlan G.geometry plan.now.universe.now plan.now.shape.now plan.now.level plan.now.rings.now }
     requires most { most ≤ 2 ^ 32 }
     ensures { IfOk result (λ size. size ≡ min (formula_size (flat_map (support_at G.geometry plan.now.universe.now.vars) (enumerate_from 1 plan.now.universe.now.vars))) most) }

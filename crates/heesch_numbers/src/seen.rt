@@ -30,13 +30,7 @@ pub(crate) fn left_with(left: Left, values: &[Option<bool>], lit: Lit) -> Left
     }
     match left {
         Left::Nothing => Left::One(lit),
-        Left::One(one) => {
-            if one == lit {
-                left
-            } else {
-                Left::More
-            }
-        }
+        Left::One(one) => { if one == lit { left } else { Left::More } }
         Left::More => Left::More,
     }
 }
