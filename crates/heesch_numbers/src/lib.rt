@@ -6,6 +6,7 @@ mod counts;
 mod owners;
 mod prefix;
 mod remain;
+mod room;
 mod seen;
 mod surround;
 mod walks;
