@@ -1,7 +1,7 @@
 -- The literals of the clauses of the families, as sets.
-use Rattle.std.proofs.Common.{◌≡◌, refl, sym, ap, subst, ◌∙◌, ℕ, ◌+◌, ◌-◌, ◌<◌, ◌≤◌, List, [], ◌∷◌, ◌++◌, map, filter, length, get_or, Bool, true, false, cond, not, ◌&&◌, inl, inr, ◌⊎◌, arith, All, Contains, true≢false, eq-eqb, eqb-true, ne_eqb, ltb-true}
-use Rattle.std.specs.Prelude.{Some, None, unwrap_or, ◌==◌, flat_map, nat_lt}
-use Rattle.std.specs.List.{enumerate_from}
+use Rattle.std.proofs.Common.{◌≡◌, refl, sym, ap, subst, ◌∙◌, ℕ, zero, suc, ◌+◌, ◌-◌, ◌<◌, ◌≤◌, List, [], ◌∷◌, ◌++◌, map, filter, length, get_or, Bool, true, false, cond, not, ◌&&◌, inl, inr, ◌⊎◌, arith, All, Contains, true≢false, eq-eqb, eqb-true, ne_eqb, ltb-true, lt-ltb}
+use Rattle.std.specs.Prelude.{Some, None, unwrap_or, ◌==◌, flat_map, nat_lt, nat_le}
+use Rattle.std.specs.List.{enumerate_from, slice_get}
 use Rattle.std.proofs.lemmas.Bool.{and_parts, and_from, and_left, and_right, cases_Bool, cases_lt, not-true}
 use Rattle.std.proofs.lemmas.List.{length-map, get_or-map}
 use Rattle.std.proofs.lemmas.List.Elements.{All-contains, Contains-get_or}
@@ -24,7 +24,7 @@ use Rattle.heesch_grid.specs.Pairs.{has-true}
 use Rattle.heesch_grid.proofs.TileFacts.{contact, touch_by}
 use Rattle.heesch_cert.specs.Literals.{literals}
 use Rattle.heesch_place.specs.Universes.{covering}
-use Rattle.heesch_encode.specs.Families.{covering_at}
+use Rattle.heesch_encode.specs.Families.{covering_at, support_at}
 use Rattle.heesch_encode.specs.Literals.{plus_all}
 use Rattle.heesch_encode.specs.Meeting.{covering_after}
 use Rattle.heesch_encode.proofs.ClauseLists.{IsLiteral, clause_listed, choice_is, entry_range}
@@ -112,7 +112,7 @@ covering_left values vars n most v c numbers left number outside is seen =
 pub tile_at : (vars : List Variable) (m : ℕ) (w : Variable) → Contains (enumerate_from 1 vars) (m, w) → tile_of vars m ≡ w.tile
 tile_at vars m w is_in = go vars (m - 1) (entry_at vars 1 (m, w) is_in).1
   where
-    go : (vs : List Variable) (i : ℕ) → _ → (get_or vs i (record { level = 0; tile = [] })).tile ≡ w.tile
+    go : (vs : List Variable) (i : ℕ) → slice_get vs i ≡ Some w → (get_or vs i (record { level = 0; tile = [] })).tile ≡ w.tile
     go [] i e = absurd (let bad : None ≡ Some w = e in cc)
     go (x ∷ vs) zero e = ap (λ o. (unwrap_or o x).tile) e
     go (x ∷ vs) (suc i) e = go vs i e
@@ -187,3 +187,17 @@ after_range vars above most c =
     let f = filter_member (nat_lt above) (covering vars most c) n m in
     let r = map_member (λ (x : ℕ × Variable). x.0) (filter (covers most c) (enumerate_from 1 vars)) n f.0 in
     subst (λ k. (1 ≤ k) × (k ≤ length vars)) r.2 (entry_range vars r.0 (filter_member (covers most c) (enumerate_from 1 vars) r.0 r.1).0))
+
+pub covering_length : (around : List Cell → List Cell) (shape : List Cell) (j : ℕ) (vars : List Variable) (n : ℕ) (v : Variable) → v.level < j → length (covering_at around shape j vars (n, v)) ≡ length (outside shape (around v.tile))
+covering_length around shape j vars n v l =
+    ap (λ b. length (cond b (map (λ c. clause_of literals (is_numbered n) (covers (v.level + 1) c) vars) (outside shape (around v.tile))) [])) (lt-ltb v.level j l)
+    ∙ length-map (outside shape (around v.tile)) (λ c. clause_of literals (is_numbered n) (covers (v.level + 1) c) vars)
+
+-- a variable of a level below 2 has no clause of family 3
+pub no_support : (g : Geometry) (vars : List Variable) (n level : ℕ) (v : Variable) → level ≡ v.level → level < 2 → [] ≡ support_at g vars (n, v)
+no_support g vars n level v at below = sym (ap (λ b. cond b (clause_of literals (is_numbered n) (λ y. (y.1.level + 1 == v.level) && touch g y.1.tile v.tile) vars ∷ []) []) (not_two v.level (omega (arith, at, below))))
+  where
+    not_two : (l : ℕ) → l < 2 → nat_le 2 l ≡ false
+    not_two zero h = refl
+    not_two (suc zero) h = refl
+    not_two (suc (suc l)) h = absurd (omega arith)

@@ -20,8 +20,7 @@ use Rattle.heesch_grid.proofs.WindowFacts.{map_member, flat_map_member, member_f
 use Rattle.heesch_grid.proofs.ClauseFacts.{entry_at, entry_made, entry_same}
 use Rattle.heesch_cert.specs.Literals.{literals}
 use Rattle.heesch_place.specs.Universes.{Levels}
-use Rattle.heesch_encode.specs.Families.{covering_at, support_at, clauses_at}
-use Rattle.heesch_encode.specs.declared.families.Family.TheVariants.{Covering, Support}
+use Rattle.heesch_encode.specs.Families.{covering_at, support_at}
 use Rattle.heesch_encode.proofs.Numbered.{no_entry}
 use Rattle.heesch_encode.proofs.Pieces.{some_at, entry_read, covering_family, support_family}
 use Rattle.heesch_numbers.specs.Common.{common_of, AllRemain, VariableRemains, covering_counts, outside}
@@ -33,7 +32,7 @@ use Rattle.heesch_numbers.proofs.Counting.{counts_of, all_counted}
 pub filter_from : {X : Type 0} (p : X → Bool) (xs : List X) (a : ℕ) (d : X) → ((i : ℕ) → i < length xs → i < a → p (get_or xs i d) ≡ false) → ((i : ℕ) → i < length xs → a ≤ i → p (get_or xs i d) ≡ true) → filter p xs ≡ drop a xs
 filter_from p [] zero d low high = refl
 filter_from p [] (suc a) d low high = refl
-filter_from p (x ∷ xs) zero d low high =
+filter_from {X = X} p (x ∷ xs) zero d low high =
     ap (λ b. cond b (x ∷ filter p xs) (filter p xs)) (high 0 (omega arith) (omega arith)) ∙ ap (λ ys. x ∷ ys) (filter_from p xs zero d (λ i l m. absurd (omega arith)) (λ i l m. high (suc i) (omega arith) (omega arith)) ∙ whole xs)
   where
     whole : (ys : List X) → drop 0 ys ≡ ys
@@ -71,7 +70,7 @@ module _ (vars : List Variable) (lowest : ℕ) (low : (n : ℕ) (x : Variable) �
       not_two (suc (suc l)) h = absurd (omega arith)
 
   module _ (g : Geometry) where
-    abbrev support_clause : ℕ × Variable → List Lit
+    abbrev pub support_clause : ℕ × Variable → List Lit
     support_clause x = clause_of literals (is_numbered x.0) (λ y. (y.1.level + 1 == x.1.level) && touch g y.1.tile x.1.tile) vars
 
     supports_are : support_clauses literals g vars ≡ map support_clause (drop lowest entries)

@@ -1,9 +1,10 @@
 -- How many literals the clauses of families 1 to 3 have.
-use Rattle.std.proofs.Common.{◌≡◌, refl, sym, ap, subst, ◌∙◌, ℕ, zero, suc, ◌+◌, ◌-◌, ◌<◌, ◌≤◌, List, [], ◌∷◌, ◌++◌, map, filter, length, Bool, true, false, cond, not, ◌&&◌, inl, inr, arith, All, Contains, filter_map, lt-ltb, ltb-true, le-leb, ne_eqb, eq-eqb}
+use Rattle.std.proofs.Common.{◌≡◌, refl, sym, ap, subst, ◌∙◌, ℕ, zero, suc, ◌+◌, ◌-◌, ◌<◌, ◌≤◌, List, [], ◌∷◌, ◌++◌, map, filter, length, Bool, true, false, cond, not, ◌&&◌, inl, inr, arith, All, Contains, filter_map, lt-ltb, ltb-true, le-leb, ne_eqb, eq-eqb, eqb-true}
 use Rattle.std.specs.Prelude.{IsTrue, Some, None, Option, nat_lt, nat_le, ◌==◌, sum_by}
 use Rattle.std.specs.List.{enumerate_from, cons_option}
 use Rattle.std.proofs.lemmas.Bool.{and_left, and_right}
 use Rattle.std.proofs.lemmas.List.{length-map}
+use Rattle.std.proofs.lemmas.List.FromFn.{length-enumerate_from}
 use Rattle.std.proofs.lemmas.List.Elements.{All-contains}
 use Rattle.heesch_cnf.specs.declared.literal.Lit.{Lit}
 use Rattle.heesch_grid.specs.declared.Cell.{Cell}
@@ -11,7 +12,8 @@ use Rattle.heesch_grid.specs.Listing.{IsRising}
 use Rattle.heesch_grid.specs.Cells.{has}
 use Rattle.heesch_grid.specs.Geometry.{Geometry}
 use Rattle.heesch_grid.specs.Placement.{touch}
-use Rattle.heesch_grid.specs.Clauses.{clause_of, is_numbered, no_variable}
+use Rattle.heesch_grid.specs.Integers.{same_truth}
+use Rattle.heesch_grid.specs.Clauses.{clause_of, formula_size, is_numbered, no_variable}
 use Rattle.heesch_grid.specs.CoronaFormula.{Variable, IsNumbered, covers}
 use Rattle.heesch_grid.proofs.ListFacts.{member_cases, member_here, member_there, no_member}
 use Rattle.heesch_grid.proofs.ClauseFacts.{entry_made, entries_rising}
@@ -19,7 +21,10 @@ use Rattle.heesch_cert.specs.Literals.{literals}
 use Rattle.heesch_place.specs.Universes.{covering}
 use Rattle.heesch_encode.specs.Literals.{plus_all}
 use Rattle.heesch_encode.specs.Meeting.{numbers_of, supporting}
+use Rattle.heesch_encode.specs.Families.{support_at}
 use Rattle.heesch_encode.proofs.ClauseLists.{choice_is}
+use Rattle.heesch_encode.proofs.Pieces.{covering_piece, support_is}
+use Rattle.heesch_numbers.proofs.Rooms.{size_one}
 
 abbrev Entry : Type 0
 Entry = ℕ × Variable
@@ -63,3 +68,49 @@ implication_size vars p n v number off =
     let long = length-map (filter p (enumerate_from 1 vars)) (λ (x : Entry). x.0) in
     let size = size_with n p (enumerate_from 1 vars) v (entries_rising vars 1) (entry_made vars n v number) off in
     omega (arith, long, size)
+
+-- ---- the clauses of a variable
+
+module _ (vars : List Variable) (n : ℕ) (v : Variable) (number : IsNumbered vars n v) where
+  -- family 2: of a cell around its tile, in the shape or outside
+  pub covering_none : (shape : List Cell) (level : ℕ) (c : Cell) → has shape c ≡ true → formula_size (covering_piece shape vars n level c) ≡ 0
+  covering_none shape level c t = ap (λ b. formula_size (cond (not b) (clause_of literals (is_numbered n) (covers (level + 1) c) vars ∷ []) [])) t
+
+  pub covering_one : (shape : List Cell) (level : ℕ) (c : Cell) → has shape c ≡ false → has v.tile c ≡ false → formula_size (covering_piece shape vars n level c) ≡ length (covering vars (level + 1) c) + 1
+  covering_one shape level c f out =
+      let one = ap (λ b. formula_size (cond (not b) (clause_of literals (is_numbered n) (covers (level + 1) c) vars ∷ []) [])) f in
+      let size = size_one (clause_of literals (is_numbered n) (covers (level + 1) c) vars) in
+      let all = implication_size vars (covers (level + 1) c) n v number (and_right (nat_le v.level (level + 1)) (has v.tile c) out) in
+      omega (arith, one, size, all)
+
+  -- family 3
+  pub support_one : (g : Geometry) (of : ℕ) (tile : List Cell) → of ≡ v.level → 2 ≤ of → tile ≡ v.tile → formula_size (support_at g vars (n, v)) ≡ length (supporting g vars (of - 1) tile) + 1
+  support_one g of tile at two is =
+      let clause : List Lit = clause_of literals (is_numbered n) (λ y. (y.1.level + 1 == v.level) && touch g y.1.tile v.tile) vars in
+      let one = ap formula_size (sym (support_is g vars n of v at two)) in
+      let size = size_one clause in
+      let all = implication_size vars (λ y. (y.1.level + 1 == v.level) && touch g y.1.tile v.tile) n v number (and_left (v.level + 1 == v.level) (touch g v.tile v.tile) (ne_eqb (v.level + 1) v.level (λ e. omega arith))) in
+      let at_back = sym at in
+      let is_back = sym is in
+      let same : numbers_of (filter (λ (y : Entry). (y.1.level + 1 == v.level) && touch g y.1.tile v.tile) (enumerate_from 1 vars)) ≡ supporting g vars (of - 1) tile =
+      (λ i. numbers_of (filter (λ (y : Entry). (y.1.level + 1 == at_back i) && touch g y.1.tile (is_back i)) (enumerate_from 1 vars)))
+      ∙ sym (λ i. numbers_of (filter (λ (y : Entry). one_below y.1.level of two i && touch g y.1.tile tile) (enumerate_from 1 vars)))
+      in
+      let long = ap length same in
+      omega (arith, one, size, all, long)
+    where
+      one_below : (l of : ℕ) → 2 ≤ of → (l == of - 1) ≡ (l + 1 == of)
+      one_below l of two = same_truth (l == of - 1) (l + 1 == of) (λ t. let e = eqb-true l (of - 1) t in eq-eqb (l + 1) of (omega arith)) (λ t. let e = eqb-true (l + 1) of t in eq-eqb l (of - 1) (omega arith))
+
+kept_few : (p : Entry → Bool) (xs : List Entry) → length (filter p xs) ≤ length xs
+kept_few p [] = omega arith
+kept_few p (x ∷ xs) = let r = kept_few p xs in elim (p x) as (λ b. length (cond b (x ∷ filter p xs) (filter p xs)) ≤ length (x ∷ xs)) [ true ↦ omega (arith, r) | false ↦ omega (arith, r) ]
+
+-- no more support a tile than there are
+pub supporting_few : (g : Geometry) (vars : List Variable) (level : ℕ) (tile : List Cell) → length (supporting g vars level tile) ≤ length vars
+supporting_few g vars level tile =
+    let test = λ (x : Entry). x.1.level == level && touch g x.1.tile tile in
+    let few = kept_few test (enumerate_from 1 vars) in
+    let same = length-map (filter test (enumerate_from 1 vars)) (λ (x : Entry). x.0) in
+    let long = length-enumerate_from 1 vars in
+    omega (arith, few, same, long)

@@ -8,12 +8,14 @@ ghost use Rattle.heesch_grid.specs.declared.Cell.{Cell};
 ghost use Rattle.heesch_grid.specs.Clauses.{formula_size};
 ghost use Rattle.heesch_grid.specs.CoronaFormula.{GivesCellsAround};
 ghost use Rattle.heesch_grid.specs.Polyform.{IsCanonicalListOf};
+ghost use Rattle.heesch_place.specs.Universes.{IsUniverseOf};
 ghost use Rattle.heesch_encode.specs.Plans.{IsPlan};
 ghost use Rattle.heesch_numbers.specs.Common.{common_of, IsCommonNumber};
 
 use crate::counts::counts_of;
 use crate::prefix::Prefix;
-use crate::remain::{first_remain, negated_remain};
+use crate::remain::{first_remain, all_negated_remain};
+use crate::room::are_within;
 use crate::walks::{left_of_covering, left_of_first, left_of_support};
 use heesch_cnf::{Left, Lit};
 use heesch_encode::{Plan, TurnedRing, last_below, rings_of, write_ring};
@@ -56,6 +58,7 @@ impl<G: Grid> CommonClauses<G> {
         universe: Universe<G>,
     ) -> Result<CommonClauses<G>, NoMemory>
         requires canonical { IsCanonicalListOf G.geometry shape.now shape.now }
+        requires universe { IsUniverseOf G.geometry universe }
         requires shape { universe.shape ≡ shape.now }
         requires few { length universe.vars < 2 ^ 31 }
         ensures { IfOk result (λ c. c ≡ universe) }
@@ -85,6 +88,7 @@ impl<G: Grid> CommonClauses<G> {
     /// The universe. A constant time.
     pub fn universe(&self) -> &Universe<G>
         ensures universe { result.now ≡ self.now }
+        ensures is_universe { IsUniverseOf G.geometry self.now }
         ensures few { length self.now.vars < 2 ^ 31 }
     {
         &self.universe
@@ -147,6 +151,15 @@ impl<G: Grid> CommonClauses<G> {
         if !first_remain(&plan, &self.first, values) {
             return false;
         }
-        negated_remain(&plan, clause, values)
+        all_negated_remain(&plan, clause, values)
+    }
+
+    /// Whether the clauses have at most so many literals. They are counted by the cells, and no clause is made.
+    pub fn fits(&self, alloc: Global, room: u32) -> Result<bool, NoMemory>
+        ensures { (around : List Cell → List Cell) → GivesCellsAround G.geometry around
+            → IfOk result (λ yes. IsTrue yes ↔ (formula_size (common_of G.geometry around self.now) ≤ room)) }
+    {
+        let plan = self.plan();
+        are_within(alloc, &plan, &self.first, room)
     }
 }

@@ -17,10 +17,11 @@ use std::alloc::Global;
 fn count_of<G: Grid>(plan: &Plan<G>, var: u32) -> usize
     requires plan { IsPlan G.geometry plan.now.universe.now plan.now.shape.now plan.now.level plan.now.rings.now }
     requires number { (1 ≤ var) × (var ≤ length plan.now.universe.now.vars) }
-    ensures count { (around : List Cell → List Cell) (x : Variable) → GivesCellsAround G.geometry around → IsNumbered plan.now.universe.now.vars var x
+    ensures { (around : List Cell → List Cell) (x : Variable) → GivesCellsAround G.geometry around → IsNumbered plan.now.universe.now.vars var x
         → result ≡ length (covering_at around plan.now.shape.now plan.now.level plan.now.universe.now.vars (var, x)) }
 {
-    if plan.universe.level_of(var) >= plan.level {
+    let of = plan.universe.level_of(var);
+    if of >= plan.level {
         return 0;
     }
     let cells = surround_of(plan.rings, plan.universe, var);

@@ -1,17 +1,19 @@
 //! Whether each clause of families 1 to 3 has a literal that isn't false.
-ghost use Rattle.std.specs.Prelude.{◌≡◌, ◌<◌, ◌≤◌, ℕ, List, All, Contains, MatchBool, map, length};
+ghost use Rattle.std.specs.Prelude.{◌≡◌, ◌<◌, ◌≤◌, ◌+◌, ◌∷◌, [], ℕ, List, All, false, not, cond, Contains, MatchBool, map, length};
 ghost use Rattle.heesch_cnf.specs.Literals.{held};
 ghost use Rattle.heesch_grid.specs.declared.Cell.{Cell};
-ghost use Rattle.heesch_grid.specs.Clauses.{clause_of, no_variable};
+ghost use Rattle.heesch_grid.specs.Cells.{has};
+ghost use Rattle.heesch_grid.specs.Clauses.{clause_of, is_numbered, no_variable};
 ghost use Rattle.heesch_grid.specs.CoronaFormula.{Variable, GivesCellsAround, IsNumbered, covers};
 ghost use Rattle.heesch_cert.specs.Literals.{literals};
 ghost use Rattle.heesch_encode.specs.Families.{covering_at, support_at};
 ghost use Rattle.heesch_encode.specs.Plans.{IsPlan};
 ghost use Rattle.heesch_numbers.specs.Common.{AllRemain, VariableRemains};
 
+use crate::seen::remains;
 use crate::surround::surround_of;
 use crate::walks::{left_of_cover, left_of_first, left_of_support};
-use heesch_cnf::{Left, Lit};
+use heesch_cnf::Lit;
 use heesch_encode::Plan;
 use heesch_grid::{Cell, Grid};
 
@@ -26,11 +28,31 @@ pub(crate) fn first_remain<G: Grid>(
         MatchBool result (AllRemain (held values.now) clauses) (¬ AllRemain (held values.now) clauses) }
 {
     for c in cells {
-        if let Left::Nothing = left_of_first(plan, *c, values) {
+        if !remains(left_of_first(plan, *c, values)) {
             return false;
         }
     }
     true
+}
+
+/// Of family 2, that of a variable and of a cell around its tile, if the cell lies outside the shape.
+fn cell_remains<G: Grid>(
+    plan: &Plan<G>,
+    var: u32,
+    c: Cell,
+    most: u32,
+    values: &[Option<bool>],
+) -> bool
+    requires number { (1 ≤ var) × (var ≤ length plan.now.universe.now.vars) }
+    requires room { length plan.now.universe.now.vars < length values.now }
+    ensures { (x : Variable) → IsNumbered plan.now.universe.now.vars var x → has x.tile c ≡ false →
+        let clauses = cond (not (has plan.now.shape.now c)) (clause_of literals (is_numbered var) (covers most c) plan.now.universe.now.vars ∷ []) [] in
+        MatchBool result (AllRemain (held values.now) clauses) (¬ AllRemain (held values.now) clauses) }
+{
+    if plan.shape.has(c) {
+        return true;
+    }
+    remains(left_of_cover(plan, var, c, most, values))
 }
 
 /// Of family 2, those of a variable.
@@ -49,10 +71,8 @@ fn covering_remain<G: Grid>(plan: &Plan<G>, var: u32, values: &[Option<bool>]) -
     let cells = surround_of(plan.rings, plan.universe, var);
     for i in 0..cells.len() {
         let c = cells.at(i);
-        if !plan.shape.has(c) {
-            if let Left::Nothing = left_of_cover(plan, var, c, of + 1, values) {
-                return false;
-            }
+        if !cell_remains(plan, var, c, of + 1, values) {
+            return false;
         }
     }
     true
@@ -67,14 +87,11 @@ fn support_remains<G: Grid>(plan: &Plan<G>, var: u32, values: &[Option<bool>]) -
         let clauses = support_at G.geometry plan.now.universe.now.vars (var, x) in
         MatchBool result (AllRemain (held values.now) clauses) (¬ AllRemain (held values.now) clauses) }
 {
-    if plan.universe.level_of(var) < 2 {
+    let of = plan.universe.level_of(var);
+    if of < 2 {
         return true;
     }
-    match left_of_support(plan, var, values) {
-        Left::Nothing => false,
-        Left::One(_) => true,
-        Left::More => true,
-    }
+    remains(left_of_support(plan, var, values))
 }
 
 /// Those of a variable.
@@ -92,8 +109,28 @@ fn variable_remains<G: Grid>(plan: &Plan<G>, var: u32, values: &[Option<bool>]) 
     support_remains(plan, var, values)
 }
 
+/// Those of the variable that the literal negates, if it negates one of the universe.
+fn negated_remains<G: Grid>(plan: &Plan<G>, lit: Lit, values: &[Option<bool>]) -> bool
+    requires plan { IsPlan G.geometry plan.now.universe.now plan.now.shape.now plan.now.level plan.now.rings.now }
+    requires variable { 1 ≤ lit.var }
+    requires room { length plan.now.universe.now.vars < length values.now }
+    ensures { (around : List Cell → List Cell) → GivesCellsAround G.geometry around →
+        let remain = (n : ℕ) (x : Variable) → IsNumbered plan.now.universe.now.vars n x → lit ≡ literals.minus n
+            → VariableRemains (held values.now) G.geometry around plan.now.universe.now (n, x) in
+        MatchBool result remain (¬ remain) }
+{
+    if lit.positive {
+        return true;
+    }
+    let count = plan.universe.count();
+    if lit.var > count {
+        return true;
+    }
+    variable_remains(plan, lit.var, values)
+}
+
 /// Those of the variables that the clause has negated.
-pub(crate) fn negated_remain<G: Grid>(
+pub(crate) fn all_negated_remain<G: Grid>(
     plan: &Plan<G>,
     clause: &[Lit],
     values: &[Option<bool>],
@@ -106,9 +143,8 @@ pub(crate) fn negated_remain<G: Grid>(
             → VariableRemains (held values.now) G.geometry around plan.now.universe.now (n, x) in
         MatchBool result remain (¬ remain) }
 {
-    let count = plan.universe.count();
     for lit in clause {
-        if !lit.positive && lit.var <= count && !variable_remains(plan, lit.var, values) {
+        if !negated_remains(plan, *lit, values) {
             return false;
         }
     }

@@ -1,7 +1,9 @@
 //! What is left of literals that are looked at one after another.
-ghost use Rattle.std.specs.Prelude.{◌≡◌, ◌<◌, ◌++◌, ◌∷◌, [], List, All, length};
+ghost use Rattle.std.specs.Prelude.{◌≡◌, ◌<◌, ◌++◌, ◌∷◌, [], List, All, MatchBool, length};
 ghost use Rattle.heesch_cnf.specs.declared.literal.Lit.{Lit};
-ghost use Rattle.heesch_cnf.specs.Literals.{held};
+ghost use Rattle.heesch_cnf.specs.Clauses.{left_of};
+ghost use Rattle.heesch_cnf.specs.Left.{IsLeft};
+ghost use Rattle.heesch_cnf.specs.Literals.{Values, held};
 ghost use Rattle.heesch_encode.specs.Literals.{plus_all};
 ghost use Rattle.heesch_numbers.specs.Seen.{is_out, IsSeen};
 
@@ -56,4 +58,15 @@ pub(crate) fn left_with_all(left: Left, values: &[Option<bool>], numbers: &[u32]
         }
     }
     now
+}
+
+/// Whether something is left.
+pub(crate) fn remains(left: Left) -> bool
+    ensures { (values : Values) (clause : List Lit) → IsLeft values clause left → MatchBool result (¬ (left_of values clause ≡ [])) (left_of values clause ≡ []) }
+{
+    match left {
+        Left::Nothing => false,
+        Left::One(_) => true,
+        Left::More => true,
+    }
 }

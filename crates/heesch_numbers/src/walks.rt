@@ -69,6 +69,8 @@ pub(crate) fn left_of_covering<G: Grid>(
 {
     let cells = surround_of(plan.rings, plan.universe, var);
     let c = cell_outside(plan.shape, &cells, place);
+    // Reading the level tells the proof that it is small.
+    let _top = plan.universe.level();
     left_of_cover(plan, var, c, plan.universe.level_of(var) + 1, values)
 }
 

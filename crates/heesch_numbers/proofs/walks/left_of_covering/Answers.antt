@@ -40,3 +40,18 @@ returns g c = λ around x gives number.
     subst (λ (clause : List Lit). IsLeft v clause left)
     (ap (λ l. clause_of literals (is_numbered n) (covers (l + 1) cell) vars) (c.level_of.ensures x number) ∙ ap (λ z. clause_of literals (is_numbered n) (covers (x.level + 1) z) vars) is ∙ sym p.2)
     (c.left_of_cover.ensures x number apart)
+
+pub overflow_add-level_of : goal.overflow_add-level_of
+overflow_add-level_of g c =
+    let vars = c.args.plan.now.universe.now.vars in
+    let shape = c.args.plan.now.shape.now in
+    let x = get_or vars (c.args.var - 1) no_entry.1 in
+    let number = some_at vars c.args.var c.requires.number.0 c.requires.number.1 in
+    let around = cells_around g.G.Grid.geometry in
+    let gives = around_given g.G.Grid.geometry g.met.G.Grid.laws in
+    let p = covering_place around shape c.args.plan.now.level vars c.args.var c.args.place x (c.requires.place around x gives number) in
+    let at = c.level_of.ensures x number in
+    let less = p.0 in
+    let top = c.level-top.ensures.range.1 in
+    let is = c.requires.plan.level_is in
+    omega (arith, at, less, top, is)
