@@ -29,7 +29,7 @@ pub struct CoronaSource<G: Grid> {
 }
 
 impl<G: Grid> Model for CoronaSource<G> {
-    ghost use Rattle.std.specs.Prelude.{◌≤◌, ◌×◌, ◌^◌, length};
+    ghost use Rattle.std.specs.Prelude.{◌≤◌, ◌^◌, length};
     ghost use Rattle.heesch_numbers.specs.OwnerCounts.{AreOwners};
     ghost use Rattle.heesch_numbers.specs.Sourced.{Sourced, owned_formula};
 
@@ -69,8 +69,8 @@ impl<G: Grid> CoronaSource<G> {
         if !common.fits(alloc, left)? {
             return Err(EncodeStop::TooLarge);
         }
-        let count = common.count() + owners.count(common.universe()) as usize;
-        if count > CLAUSES_MAX {
+        let owned = owners.count(common.universe()) as usize;
+        if common.count().saturating_add(owned) > CLAUSES_MAX {
             return Err(EncodeStop::NoMemory);
         }
         Ok(CoronaSource { common, owners })
@@ -108,6 +108,9 @@ impl<G: Grid> ClauseSource for CoronaSource<G> {
 
 impl<G: Grid> NewnessSource for CoronaSource<G> {
     fn is_new(&self, clause: &[Lit], values: &[Option<bool>]) -> bool {
-        self.common.is_new(clause, values) && self.owners.is_new(self.common.universe(), clause)
+        if !self.common.is_new(clause, values) {
+            return false;
+        }
+        self.owners.is_new(self.common.universe(), clause)
     }
 }
