@@ -19,9 +19,9 @@ use std::alloc::Global;
 
 /// The cells around the shape under one turn, in cell order, and its first cell there.
 #[derive(Drop)]
-pub(crate) struct TurnedRing {
-    first: Cell,
-    ring: Vec<Cell>,
+pub struct TurnedRing {
+    pub first: Cell,
+    pub ring: Vec<Cell>,
 }
 
 /// The cells around the shape under turn k.
@@ -42,8 +42,9 @@ fn turned_ring<G: Grid>(alloc: Global, shape: &Shape<G>, k: u32) -> Result<Turne
     Ok(TurnedRing { first, ring })
 }
 
-/// The cells around the shape under each of the turns.
-pub(crate) fn rings_of<G: Grid>(
+/// The cells around the shape under each of the turns. Condition: the coordinates of its cells lie within 200 of 0. It goes once
+/// over the neighbours of each cell of each turned shape.
+pub fn rings_of<G: Grid>(
     alloc: Global,
     shape: &Shape<G>,
 ) -> Result<Vec<TurnedRing>, NoMemory>
@@ -59,7 +60,7 @@ pub(crate) fn rings_of<G: Grid>(
 }
 
 /// Lists the cells around the tile of a variable, in cell order, in place of what the list had. A step for each of them.
-pub(crate) fn write_moved<G: Grid>(
+pub fn write_moved<G: Grid>(
     ring: &mut Vec<Cell>,
     rings: &[TurnedRing],
     universe: &Universe<G>,

@@ -15,8 +15,8 @@ use heesch_io::NoMemory;
 use heesch_place::Universe;
 use heesch_shape::Shape;
 
-/// Those of the rising numbers that are above n.
-fn numbers_after(numbers: &[u32], n: u32) -> &[u32]
+/// Those of the rising numbers that are above n. A binary search.
+pub fn numbers_after(numbers: &[u32], n: u32) -> &[u32]
     requires rising { IsRising nat_lt numbers.now }
     requires small { n < 2 ^ 31 }
     ensures { result.now ≡ filter (nat_lt n) numbers.now }
@@ -64,7 +64,7 @@ pub(crate) fn list_meeting<G: Grid>(
 }
 
 /// The number of the last variable of a lower level than this, and 0 where there is none. A binary search.
-fn last_below<G: Grid>(universe: &Universe<G>, level: u32) -> u32
+pub fn last_below<G: Grid>(universe: &Universe<G>, level: u32) -> u32
     requires { IsUniverseOf G.geometry universe.now }
     ensures bound { result ≤ length universe.now.vars }
     ensures low { (n : ℕ) (x : Variable) → IsNumbered universe.now.vars n x → n ≤ result → x.level < level }
@@ -84,8 +84,9 @@ fn last_below<G: Grid>(universe: &Universe<G>, level: u32) -> u32
 }
 
 /// Lists the variables of a level, rising, whose tile touches the given one, by the cells around it: those that have one of
-/// them and none of its own.
-pub(crate) fn list_supporting<G: Grid>(
+/// them and none of its own. They are marked and read off, and no mark is left. A look-up for each cell, and a step for each
+/// variable found.
+pub fn list_supporting<G: Grid>(
     numbers: &mut Vec<u32>,
     marks: &mut Marks,
     universe: &Universe<G>,

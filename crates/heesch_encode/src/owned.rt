@@ -16,16 +16,17 @@ use std::alloc::Global;
 /// A formula has fewer variables than this.
 const VARIABLES_MAX: u32 = 1 << 31;
 
-/// The numbers, rising, of the variables of any level whose tile has the cell.
-pub(crate) fn holders_of<G: Grid>(universe: &Universe<G>, c: Cell) -> &[u32]
+/// The numbers, rising, of the variables of any level whose tile has the cell. One look-up; it takes no memory.
+pub fn holders_of<G: Grid>(universe: &Universe<G>, c: Cell) -> &[u32]
     requires { IsUniverseOf G.geometry universe.now }
     ensures { result.now ≡ holders universe.now.vars c }
 {
     universe.covered_by(c, universe.level())
 }
 
-/// How many binary digits the greatest rank of so many variables has, which count from 0.
-pub(crate) fn digits_of_ranks(number: usize) -> u32
+/// How many binary digits the greatest rank of so many variables has, at least two, whose ranks count from 0. It takes a fixed
+/// number of steps.
+pub fn digits_of_ranks(number: usize) -> u32
     requires { 2 ≤ number }
     ensures digits { result ≡ digits (number - 1) }
     ensures bound { result ≤ 64 }
@@ -61,7 +62,7 @@ fn add_owned<G: Grid>(
 
 /// The cells that at least two variables have, in cell order. A look-up for each cell of each variable's tile, and a sort of
 /// the cells found.
-pub(crate) fn owned_cells<G: Grid>(
+pub fn owned_cells<G: Grid>(
     alloc: Global,
     universe: &Universe<G>,
 ) -> Result<Vec<Cell>, NoMemory>

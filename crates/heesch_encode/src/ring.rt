@@ -29,7 +29,7 @@ fn add_touching<G: Grid>(ring: &mut Vec<Cell>, tile: &Shape<G>, c: Cell) -> Resu
 
 /// Lists the cells around a tile, in cell order, in place of what the list had. It looks at the neighbours of each cell once,
 /// and sorts at most 384.
-pub(crate) fn write_ring<G: Grid>(ring: &mut Vec<Cell>, tile: &Shape<G>) -> Result<(), NoMemory>
+pub fn write_ring<G: Grid>(ring: &mut Vec<Cell>, tile: &Shape<G>) -> Result<(), NoMemory>
     ensures listed { OnOk result (ListsExactly cell_before (IsAround G.geometry tile.now) ring.new.items) }
     ensures given { OnOk result ((around : List Cell → List Cell) → GivesCellsAround G.geometry around → ring.new.items ≡ around tile.now) }
 {

@@ -1,0 +1,113 @@
+//! The second corona formula as a source of clauses.
+ghost use Rattle.std.specs.Prelude.{◌≡◌, ◌≤◌, IfOk, IsErrOf};
+ghost use Rattle.heesch_cert.specs.Formulas.{IsCountedFormula};
+ghost use Rattle.heesch_cert.specs.Proofs.{IsTooLarge};
+ghost use Rattle.heesch_cnf.specs.declared.version.Version.TheVariants.{Two};
+ghost use Rattle.heesch_grid.specs.Clauses.{formula_size};
+ghost use Rattle.heesch_grid.specs.Polyform.{IsCanonicalListOf};
+ghost use Rattle.heesch_place.specs.Universes.{IsUniverseOf};
+
+use crate::common::CommonClauses;
+use crate::owners::OwnerClauses;
+use heesch_cnf::{ClauseSource, Left, Lit, NewnessSource};
+use heesch_encode::EncodeStop;
+use heesch_grid::Grid;
+use heesch_place::Universe;
+use heesch_shape::Shape;
+use std::alloc::Global;
+use std::marker::Model;
+
+/// The most clauses of a formula.
+const CLAUSES_MAX: usize = 1 << 31;
+
+/// The second corona formula of a shape and a level, with its universe: a clause is computed where it is asked for. What is kept
+/// are the universe, the cells that several of its variables have, and sums of counts.
+#[derive(Drop)]
+pub struct CoronaSource<G: Grid> {
+    common: CommonClauses<G>,
+    owners: OwnerClauses,
+}
+
+impl<G: Grid> Model for CoronaSource<G> {
+    ghost use Rattle.std.specs.Prelude.{◌≤◌, ◌×◌, ◌^◌, length};
+    ghost use Rattle.heesch_numbers.specs.OwnerCounts.{AreOwners};
+    ghost use Rattle.heesch_numbers.specs.Sourced.{Sourced, owned_formula};
+
+    ghost Value = { Sourced };
+
+    ghost view = { λ s. record { universe = s.common; formula = owned_formula G.geometry s.common s.owners.cells.items } };
+
+    ghost invariant = { λ s. AreOwners s.common.vars s.owners × (length (owned_formula G.geometry s.common s.owners.cells.items).clauses ≤ 2 ^ 31) };
+}
+
+impl<G: Grid> CoronaSource<G> {
+    /// The source of the formula of a shape and a level, where the formula has at most `size` literals; these are counted, and no
+    /// clause is made.
+    ///
+    /// Condition: the shape is canonical, the level 1 to 6, the size 1 to 60,000,000. `TooLarge` exactly where the formula has
+    /// more than `size` literals; `NoMemory` says nothing more. The cost is that of the universe, a look-up for each cell of each
+    /// variable's tile and around it, and a walk over the variables of the level below that touch each variable.
+    pub fn of(
+        alloc: Global,
+        shape: &Shape<G>,
+        level: u32,
+        size: u32,
+    ) -> Result<CoronaSource<G>, EncodeStop>
+        requires level { (1 ≤ level) × (level ≤ 6) }
+        requires canonical { IsCanonicalListOf G.geometry shape.now shape.now }
+        requires size { (1 ≤ size) × (size ≤ 60000000) }
+        ensures universe { IfOk result (λ s. IsUniverseOf G.geometry s.universe) }
+        ensures shape { IfOk result (λ s. s.universe.shape ≡ shape.now) }
+        ensures level { IfOk result (λ s. s.universe.level ≡ level) }
+        ensures formula { IfOk result (λ s. IsCountedFormula Two G.geometry shape.now level s.universe.vars s.formula.vars s.formula.clauses) }
+        ensures fits { IfOk result (λ s. formula_size s.formula.clauses ≤ size) }
+        ensures too_large { IsErrOf result EncodeStop.TooLarge → IsTooLarge Two G.geometry shape.now level size }
+    {
+        let universe = Universe::of(alloc, shape, level)?;
+        let (owners, left) = OwnerClauses::of(alloc, &universe, size)?;
+        let common = CommonClauses::of(alloc, shape, universe)?;
+        if !common.fits(alloc, left)? {
+            return Err(EncodeStop::TooLarge);
+        }
+        let count = common.count() + owners.count(common.universe()) as usize;
+        if count > CLAUSES_MAX {
+            return Err(EncodeStop::NoMemory);
+        }
+        Ok(CoronaSource { common, owners })
+    }
+
+    /// The universe. It takes no memory and a constant time.
+    pub fn universe(&self) -> &Universe<G>
+        ensures { result.now ≡ self.now.universe }
+    {
+        self.common.universe()
+    }
+}
+
+impl<G: Grid> ClauseSource for CoronaSource<G> {
+    ghost listed = { λ s. s.formula };
+
+    fn vars(&self) -> u32 {
+        self.owners.vars(self.common.universe())
+    }
+
+    fn count(&self) -> usize {
+        self.common.count() + self.owners.count(self.common.universe()) as usize
+    }
+
+    fn left(&self, number: u32, values: &[Option<bool>]) -> Left {
+        let count = self.common.count();
+        if number as usize <= count {
+            self.common.left(number, values)
+        } else {
+            self.owners
+                .left(self.common.universe(), number - count as u32 - 1, values)
+        }
+    }
+}
+
+impl<G: Grid> NewnessSource for CoronaSource<G> {
+    fn is_new(&self, clause: &[Lit], values: &[Option<bool>]) -> bool {
+        self.common.is_new(clause, values) && self.owners.is_new(self.common.universe(), clause)
+    }
+}
