@@ -21,5 +21,6 @@ pub use encoding::{Encoded, FlatEncoded, encode, encode_flat};
 pub use marks::Marks;
 pub use meeting::{last_below, list_supporting, numbers_after};
 pub use owned::{digits_of_ranks, holders_of, owned_cells};
+pub use plan::Plan;
 pub use ring::write_ring;
 pub use stop::EncodeStop;

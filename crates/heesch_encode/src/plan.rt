@@ -19,7 +19,7 @@ use std::alloc::Global;
 
 /// A shape, a level and the universe of both, with the cells around the shape under each turn.
 #[derive(Drop)]
-pub(crate) struct Plan<'a, G: Grid> {
+pub struct Plan<'a, G: Grid> {
     pub universe: &'a Universe<G>,
     pub shape: &'a Shape<G>,
     pub level: u32,
@@ -28,7 +28,7 @@ pub(crate) struct Plan<'a, G: Grid> {
 
 impl<'a, G: Grid> Plan<'a, G> {
     /// The formula of a version.
-    pub fn formula(
+    pub(crate) fn formula(
         &self,
         alloc: Global,
         size: u32,

@@ -3,9 +3,10 @@ use Rattle.std.proofs.Common.{◌≡◌, sym, ap, ◌∙◌, ℕ, zero, suc, ◌
 use Rattle.std.specs.Int.{bit_at, bit_not, trailing_zeros}
 use lib.Bits.{bit_and, bit_or}
 use Rattle.std.proofs.lemmas.Nat.Bits.{bit_at_or, bit_at_and, bit_at-zero, bit_at-lt, bit_at_above, bit_at_not, bit_at-trailing_zeros, same_from_bits}
-use Rattle.std.proofs.lemmas.Nat.{and_le_l}
+use Rattle.std.proofs.lemmas.Nat.{and_le_l, and_assoc, and_comm}
 use Rattle.std.proofs.lemmas.Bool.{cases_lt, eqb-true}
-use Rattle.heesch_exact.specs.Branches.{without, IsPart}
+use Rattle.heesch_exact.specs.Covers.{is_within, without}
+use Rattle.heesch_exact.specs.Branches.{IsPart}
 
 -- a mask has no point beyond 63
 pub above : (m k : ℕ) → m < 2 ^ 64 → 64 ≤ k → bit_at m k ≡ 0
@@ -122,3 +123,43 @@ point_without left one fits small not =
     let s = some_point (bit_and left (bit_not w64 one)) (omega arith) (omega (arith, l)) in
     let e = and_not left one s.0 small s.1 in
     (s.0, omega (arith, e, s.2, bit_at-lt left s.0), omega (arith, e, s.2, bit_at-lt one s.0))
+
+-- ---- one set beside another
+
+pub without_small : (p m : ℕ) → p < 2 ^ 64 → without p m < 2 ^ 64
+without_small p m fits = let l = and_le_l p (bit_not w64 m) in omega (arith, l, fits)
+
+pub within_part : (p m : ℕ) → p < 2 ^ 64 → m < 2 ^ 64 → is_within p m ≡ true → IsPart m p
+within_part p m fits small e = part_from_none m p small fits (eqb-true (bit_and m (bit_not w64 p)) 0 e)
+
+pub part_within : (p m : ℕ) → p < 2 ^ 64 → m < 2 ^ 64 → ((k : ℕ) → k < 64 → bit_at m k ≤ bit_at p k) → is_within p m ≡ true
+part_within p m fits small part = eq-eqb (bit_and m (bit_not w64 p)) 0 (none_from_part m p small fits part)
+
+module _ (p c m : ℕ) (fits : p < 2 ^ 64) (other : c < 2 ^ 64) (small : m < 2 ^ 64) where
+  beside_bits : is_within (without p c) m ≡ true → (k : ℕ) → k < 64 → bit_at m k ≤ min (bit_at p k) (1 - bit_at c k)
+  beside_bits e k l =
+      let part = within_part (without p c) m (without_small p c fits) small e k in
+      let is = and_not p c k other l in
+      omega (arith, part, is)
+
+  pub within_less : is_within (without p c) m ≡ true → is_within p m ≡ true
+  within_less e = part_within p m fits small (λ k l. let b = beside_bits e k l in omega (arith, b))
+
+  pub lacks_point : (k : ℕ) → bit_at c k ≡ 1 → bit_at m k ≡ 1 → is_within (without p c) m ≡ true → ⊥
+  lacks_point k a b e =
+      elim (cases_lt k 64) [
+        | inl l ↦ let s = beside_bits e k l in omega (arith, s, a, b)
+        | inr l ↦ let z = above m k small l in omega (arith, z, b)
+      ]
+
+  pub exchange : is_within p c ≡ true → is_within (without p c) m ≡ true → is_within (without p m) c ≡ true
+  exchange w e = part_within (without p m) c (without_small p m fits) other each
+    where
+      last : (a b x r : ℕ) → a ≤ x → b ≤ min x (1 - a) → r ≡ min x (1 - b) → b < 2 → a < 2 → a ≤ r
+      last a b x r i j e k l = omega arith
+
+      each : (k : ℕ) → k < 64 → bit_at c k ≤ bit_at (without p m) k
+      each k l = last (bit_at c k) (bit_at m k) (bit_at p k) (bit_at (without p m) k) (within_part p c fits other w k) (beside_bits e k l) (and_not p m k small l) (bit_at-lt m k) (bit_at-lt c k)
+
+pub without_swapped : (p c m : ℕ) → without (without p c) m ≡ without (without p m) c
+without_swapped p c m = and_assoc (bit_not w64 m) p (bit_not w64 c) ∙ ap (bit_and p) (and_comm (bit_not w64 c) (bit_not w64 m)) ∙ sym (and_assoc (bit_not w64 c) p (bit_not w64 m))

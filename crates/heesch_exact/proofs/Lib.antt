@@ -2,6 +2,6 @@ pub mod Bits
 pub mod Sums
 pub mod Nodes
 pub mod Listing
-pub mod Budget
+pub mod Partial
 pub mod Steps
 pub mod Whole

@@ -1,13 +1,15 @@
 -- Lists of candidates, and what they cover.
-use Rattle.std.proofs.Common.{◌≡◌, subst, ℕ, ◌+◌, ◌^◌, ◌<◌, ◌≤◌, false, List, [], ◌∷◌, ◌++◌, length, get_or, slice_index, filter, All, inl, inr, arith, w64}
+use Rattle.std.proofs.Common.{◌≡◌, ◌⊎◌, sym, ap, ◌∙◌, subst, ℕ, ◌+◌, ◌^◌, ◌<◌, ◌≤◌, true, false, cond, List, [], ◌∷◌, ◌++◌, length, get_or, slice_index, take, map, filter, All, inl, inr, arith, w64}
 use Rattle.std.specs.Int.{bit_at, bit_not}
 use lib.Bits.{bit_and}
 use Rattle.std.specs.List.{Contains}
-use Rattle.std.proofs.lemmas.Bool.{cases_lt, false≢true}
+use Rattle.std.proofs.lemmas.Bool.{cases_lt, cases_Bool, eqb-true}
 use Rattle.std.proofs.lemmas.Nat.Bits.{bit_at-lt}
+use Rattle.std.proofs.lemmas.List.{map-append, append-nil}
 use Rattle.std.proofs.lemmas.List.Sums.{sum_by-cons, sum_by-append, sum_by_push, get_or-le-sum_by}
-use Rattle.std.proofs.lemmas.List.Elements.{All-push, All-append, All-head, All-tail, All-filter, All-contains, filter_passes, Contains-push, Contains-append_left}
-use Rattle.heesch_exact.specs.Branches.{times, without, is_apart, IsPart, AreCandidates, HasNoCover, AreAdded, IsTried}
+use Rattle.std.proofs.lemmas.List.Elements.{All-push, All-append, All-head, All-tail, All-filter, All-contains, filter_more, filter_passes, Contains-push, Contains-append_left}
+use Rattle.heesch_exact.specs.Covers.{is_within, without}
+use Rattle.heesch_exact.specs.Branches.{times, is_apart, IsPart, AreCandidates, HasNoCover, AreAdded, IsTried}
 use Rattle.heesch_exact.proofs.Bits.{none_from_part, bit_at_without, apart_bits, apart_from_bits, pos_from_bit}
 use Rattle.heesch_exact.proofs.Sums.{some_counted, all_left, all_right, contains_filter, kept_and_counted}
 
@@ -33,6 +35,28 @@ all_more_no masks points xs i small fits not h j l part =
           absurd (not (none_from_part (slice_index masks i) points small fits (λ k _. p k)))
     ]
 
+module _ (masks : List ℕ) (points : ℕ) (xs : List ℕ) (i : ℕ) (below : i < length masks) where
+  abbrev sets_before : Type 0
+  sets_before = map (λ j. slice_index masks j) xs ≡ filter (is_within points) (take i masks)
+
+  pub one_more_set : is_within points (slice_index masks i) ≡ true → sets_before → map (λ j. slice_index masks j) (xs ++ (i ∷ [])) ≡ filter (is_within points) (take (i + 1) masks)
+  one_more_set e was =
+      map-append (λ j. slice_index masks j) xs (i ∷ [])
+      ∙ ap (λ ys. ys ++ (slice_index masks i ∷ [])) was
+      ∙ ap (λ b. filter (is_within points) (take i masks) ++ cond b (slice_index masks i ∷ []) []) (sym e)
+      ∙ sym (filter_more (is_within points) masks i 0 below)
+
+  pub no_more_set : (bit_and (slice_index masks i) (bit_not w64 points) ≡ 0 → ⊥) → sets_before → map (λ j. slice_index masks j) xs ≡ filter (is_within points) (take (i + 1) masks)
+  no_more_set not was =
+      was
+      ∙ sym (append-nil (filter (is_within points) (take i masks)))
+      ∙ ap (λ b. filter (is_within points) (take i masks) ++ cond b (slice_index masks i ∷ []) []) (sym (outside (cases_Bool (is_within points (slice_index masks i)))))
+      ∙ sym (filter_more (is_within points) masks i 0 below)
+    where
+      outside : (is_within points (slice_index masks i) ≡ true) ⊎ (is_within points (slice_index masks i) ≡ false) → is_within points (slice_index masks i) ≡ false
+      outside (inl t) = absurd (not (eqb-true (bit_and (slice_index masks i) (bit_not w64 points)) 0 t))
+      outside (inr f) = f
+
 -- ---- one set is chosen
 
 -- the candidates that are apart from a candidate have points of the rest alone
@@ -56,14 +80,6 @@ fewer_apart masks mask point xs e =
 
     none : (b m : ℕ) → b + m ≤ 1 → m ≡ 1 → b ≡ 0
     none b m l e = omega arith
-
-pub times_at_most : (masks xs : List ℕ) (point : ℕ) → times masks xs point ≤ length xs
-times_at_most masks xs point =
-    let k = kept_and_counted (λ _. false) (λ i. bit_at (slice_index masks i) point) (λ i. most (bit_at (slice_index masks i) point) (bit_at-lt (slice_index masks i) point)) (λ i t. absurd (false≢true t)) xs in
-    omega (arith, k)
-  where
-    most : (b : ℕ) → b < 2 → b ≤ 1
-    most b l = omega arith
 
 -- what covers the rest behind the chosen set covers the points
 pub added_with : (masks : List ℕ) (points : ℕ) (before after : List ℕ) (i point : ℕ) → points < 2 ^ 64 → slice_index masks i < 2 ^ 64 → i < length masks → IsPart (slice_index masks i) points → bit_at (slice_index masks i) point ≡ 1 → AreAdded masks (without points (slice_index masks i)) (before ++ (i ∷ [])) after → AreAdded masks points before after

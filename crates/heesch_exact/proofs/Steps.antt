@@ -1,17 +1,20 @@
 -- One candidate of a node is looked at.
-use Rattle.std.proofs.Common.{◌≡◌, refl, sym, ap, ◌∙◌, subst, ℕ, ◌+◌, ◌-◌, ◌*◌, ◌^◌, ◌/◌, ◌<◌, ◌≤◌, List, [], ◌∷◌, ◌++◌, length, get_or, slice_index, take, drop, filter, min, Bool, All, arith}
+use Rattle.std.proofs.Common.{◌≡◌, refl, sym, ap, ◌∙◌, subst, ℕ, ◌+◌, ◌-◌, ◌^◌, ◌/◌, ◌<◌, ◌≤◌, cond, nat_eq, eq-eqb, List, [], ◌∷◌, ◌++◌, length, get_or, slice_index, take, drop, filter, min, Bool, All, arith}
 use Rattle.std.specs.Int.{bit_at}
 use lib.Bits.{bit_and}
+use Rattle.std.specs.List.{sum_by}
 use Rattle.std.proofs.lemmas.Nat.Bits.{bit_at-lt, shr_and_one}
 use Rattle.std.proofs.lemmas.List.{append-nil, length-append, length-drop, length_push, drop_at, take_all, take_at, take_rest}
-use Rattle.std.proofs.lemmas.List.Sums.{sum_by_more, sum_by_more_le}
+use Rattle.std.proofs.lemmas.List.Sums.{sum_by_more, sum_by_more_le, sum_by-take-le}
 use Rattle.std.proofs.lemmas.List.Elements.{All-more}
 use Rattle.heesch_exact.specs.declared.search.Ending.{Ending}
 use Rattle.heesch_exact.specs.declared.search.Ending.TheVariants.{Covered, Failed, Open}
-use Rattle.heesch_exact.specs.Branches.{times, without, is_apart, IsPart, AreCandidates, HasNoCover, IsTried, IsEnding}
+use Rattle.heesch_exact.specs.Covers.{is_within, without}
+use Rattle.heesch_exact.specs.Branches.{times, is_apart, IsPart, AreCandidates, HasNoCover, IsTried, IsEnding, ways}
 use Rattle.heesch_exact.proofs.Nodes.{apart_candidates, fewer_apart, added_with}
 use Rattle.heesch_exact.proofs.Listing.{candidate_at, within_drop}
-use Rattle.heesch_exact.proofs.Budget.{step_budget, covered_budget, open_budget}
+use Rattle.heesch_exact.proofs.Bits.{part_within}
+use Rattle.heesch_exact.proofs.Partial.{through, by_point, fewer_ways, not_both, are_both}
 
 -- the candidate at this place has this number
 pub record IsCandidateAt (masks : List ℕ) (left : ℕ) (here : List ℕ) (place number : ℕ) : Type 0 where
@@ -25,23 +28,21 @@ module _ (masks : List ℕ) (left : ℕ) (here : List ℕ) (place number : ℕ) 
   pub is_part : (number < length masks) × IsPart (slice_index masks number) left
   is_part = subst (λ i. (i < length masks) × IsPart (slice_index masks i) left) (sym c.at) (c.candidates place 0 c.below)
 
-  counted : (point : ℕ) → times masks (take (place + 1) here) point ≡ times masks (take place here) point + bit_at (slice_index masks number) point
-  counted point =
-      sum_by_more (λ i. bit_at (slice_index masks i) point) here place 0 c.below
-      ∙ ap (λ i. times masks (take place here) point + bit_at (slice_index masks i) point) (sym c.at)
-
   -- it doesn't have the point
   pub tried_without : (point : ℕ) → bit_at (slice_index masks number) point ≡ 0 → All (IsTried masks left here point) (take place here) → All (IsTried masks left here point) (take (place + 1) here)
   tried_without point none was =
       All-more (IsTried masks left here point) here place 0 c.below was (subst (IsTried masks left here point) c.at (λ e. absurd (omega (arith, e, none))))
 
-  pub budget_without : (point : ℕ) → bit_at (slice_index masks number) point ≡ 0 → (w before now : ℕ) → before ≤ now + times masks (take place here) point * w → before ≤ now + times masks (take (place + 1) here) point * w
-  budget_without point none w before now h =
-      let e : times masks (take (place + 1) here) point ≡ times masks (take place here) point = counted point ∙ same (times masks (take place here) point) (bit_at (slice_index masks number) point) none in
-      subst (λ t. before ≤ now + t * w) (sym e) h
-    where
-      same : (t b : ℕ) → b ≡ 0 → t + b ≡ t
-      same t b e = omega arith
+  tried_more : (point : ℕ) → sum_by (through masks point here left) (take (place + 1) here) ≡ sum_by (through masks point here left) (take place here) + through masks point here left number
+  tried_more point =
+      sum_by_more (through masks point here left) here place 0 c.below
+      ∙ ap (λ i. sum_by (through masks point here left) (take place here) + through masks point here left i) (sym c.at)
+
+  pub spent_without : (point : ℕ) → bit_at (slice_index masks number) point ≡ 0 → (before now : ℕ) → before ≤ now + sum_by (through masks point here left) (take place here) → before ≤ now + sum_by (through masks point here left) (take (place + 1) here)
+  spent_without point none before now h =
+      let e = tried_more point in
+      let z = ap (λ b. cond b (ways masks here (without left (slice_index masks number))) 0) (not_both (is_within left (slice_index masks number)) (nat_eq (bit_at (slice_index masks number) point) 1) (ap (λ b. nat_eq b 1) none)) in
+      omega (arith, e, z, h)
 
   -- it has the point
   module _ (point : ℕ) (has : bit_at (slice_index masks number) point ≡ 1) where
@@ -64,26 +65,44 @@ module _ (masks : List ℕ) (left : ℕ) (here : List ℕ) (place number : ℕ) 
     tried_with none was =
         All-more (IsTried masks left here point) here place 0 c.below was (subst (IsTried masks left here point) c.at (λ _. none))
 
-    pub budget_with : (before now after : ℕ) → before ≤ now + times masks (take place here) point * 2 ^ (length here - times masks here point) → now ≤ after + 2 ^ length apart → before ≤ after + times masks (take (place + 1) here) point * 2 ^ (length here - times masks here point)
-    budget_with before now after h l =
-        let e : times masks (take (place + 1) here) point ≡ times masks (take place here) point + 1 = counted point ∙ ap (λ b. times masks (take place here) point + b) has in
-        subst (λ t. before ≤ after + t * 2 ^ (length here - times masks here point)) (sym e) (step_budget (length here) (times masks here point) (times masks (take place here) point) (length apart) fewer one_tried before now after h l)
+    tried_here : through masks point here left number ≡ ways masks here (without left (slice_index masks number))
+    tried_here =
+        let fit = part_within left (slice_index masks number) c.fits (c.small number) (λ k _. is_part.1 k) in
+        ap (λ b. cond b (ways masks here (without left (slice_index masks number))) 0) (are_both (is_within left (slice_index masks number)) (nat_eq (bit_at (slice_index masks number) point) 1) fit (eq-eqb (bit_at (slice_index masks number) point) 1 has))
 
-    pub budget_covered : (before now after : ℕ) → before ≤ now + times masks (take place here) point * 2 ^ (length here - times masks here point) → now ≤ after + 2 ^ length apart → before + 1 ≤ after + 2 ^ length here
-    budget_covered before now after h l = covered_budget (length here) (times masks here point) (times masks (take place here) point) (length apart) fewer one_tried before now after h l
+    fewer_here : ways masks apart (without left (slice_index masks number)) ≤ through masks point here left number
+    fewer_here = subst (λ n. ways masks apart (without left (slice_index masks number)) ≤ n) (sym tried_here) (fewer_ways masks (is_apart masks (slice_index masks number)) here (without left (slice_index masks number)))
 
-    pub ending_with : (ending : Ending) (before after : List ℕ) (first now : ℕ) → (ending ≡ Failed → ⊥) → first ≤ now + times masks (take place here) point * 2 ^ (length here - times masks here point) → IsEnding masks (without left (slice_index masks number)) apart (before ++ (number ∷ [])) after now ending → IsEnding masks left here before after (first + 1) ending
-    ending_with Covered before after first now not h is = added_with masks left before after number point c.fits (c.small number) is_part.0 is_part.1 has is
-    ending_with Failed before after first now not h is = absurd (not refl)
-    ending_with Open before after first now not h is = open_budget (length here) (times masks here point) (times masks (take place here) point) (length apart) fewer one_tried first now h is
+    pub spent_with : (before now after : ℕ) → before ≤ now + sum_by (through masks point here left) (take place here) → now ≤ after + ways masks apart (without left (slice_index masks number)) → before ≤ after + sum_by (through masks point here left) (take (place + 1) here)
+    spent_with before now after h l =
+        let e = tried_more point in
+        let f = fewer_here in
+        omega (arith, e, f, h, l)
+
+    within_whole : sum_by (through masks point here left) (take place here) + ways masks apart (without left (slice_index masks number)) + 1 ≤ ways masks here left
+    within_whole =
+        let e = tried_more point in
+        let f = fewer_here in
+        let t = sum_by-take-le (through masks point here left) here (place + 1) in
+        let w = by_point masks c.small point here left c.fits in
+        omega (arith, e, f, t, w)
+
+    pub spent_covered : (before now after : ℕ) → before ≤ now + sum_by (through masks point here left) (take place here) → now ≤ after + ways masks apart (without left (slice_index masks number)) → before + 1 ≤ after + ways masks here left
+    spent_covered before now after h l = let w = within_whole in omega (arith, w, h, l)
+
+    pub ending_with : (ending : Ending) (before after : List ℕ) (first now last : ℕ) → (ending ≡ Failed → ⊥) → first ≤ now + sum_by (through masks point here left) (take place here) → IsEnding masks (without left (slice_index masks number)) apart (before ++ (number ∷ [])) after now last ending → IsEnding masks left here before after (first + 1) last ending
+    ending_with Covered before after first now last not h is = added_with masks left before after number point c.fits (c.small number) is_part.0 is_part.1 has is
+    ending_with Failed before after first now last not h is = absurd (not refl)
+    ending_with Open before after first now last not h is = let w = within_whole in let few = is.1 in (is.0, omega (arith, w, h, few))
 
 -- the same ending, of lists that are the same
-pub ending_inside : (masks : List ℕ) (points : ℕ) (given candidates pushed first last : List ℕ) (nodes : ℕ) (ending : Ending) → given ≡ candidates → pushed ≡ first → IsEnding masks points given pushed last nodes ending → IsEnding masks points candidates first last nodes ending
-ending_inside masks points given candidates pushed first last nodes ending e f h =
-    subst (λ xs. IsEnding masks points xs first last nodes ending) e (subst (λ xs. IsEnding masks points given xs last nodes ending) f h)
+pub ending_inside : (masks : List ℕ) (points : ℕ) (given candidates pushed first last : List ℕ) (nodes left : ℕ) (ending : Ending) → given ≡ candidates → pushed ≡ first → IsEnding masks points given pushed last nodes left ending → IsEnding masks points candidates first last nodes left ending
+ending_inside masks points given candidates pushed first last nodes left ending e f h =
+    subst (λ xs. IsEnding masks points xs first last nodes left ending) e (subst (λ xs. IsEnding masks points given xs last nodes left ending) f h)
 
-pub budget_inside : (n m before after : ℕ) → n ≡ m → before ≤ after + 2 ^ n → before ≤ after + 2 ^ m
-budget_inside n m before after e h = subst (λ x. before ≤ after + 2 ^ x) e h
+-- all candidates with the point were tried
+pub spent_all : (masks : List ℕ) (small : (i : ℕ) → slice_index masks i < 2 ^ 64) (point : ℕ) (here : List ℕ) (left : ℕ) → left < 2 ^ 64 → (before after : ℕ) → before ≤ after + sum_by (through masks point here left) here → before + 1 ≤ after + ways masks here left
+spent_all masks small point here left fits before after h = let w = by_point masks small point here left fits in omega (arith, w, h)
 
 -- the test of a bit
 pub has_from_test : (mask point : ℕ) → (bit_and (mask / 2 ^ point) 1 ≡ 0 → ⊥) → bit_at mask point ≡ 1
@@ -161,15 +180,14 @@ taken masks left point old now new from k to number at not same pushed long =
 
 module _ (masks : List ℕ) (left point : ℕ) (old new : List ℕ) (from k to number : ℕ) (x : IsTaken masks left point old new from k to number) where
   -- how the search behind it ended
-  pub taken_end : (first mid last : List ℕ) (nodes : ℕ) (ending : Ending) → mid ≡ first ++ (number ∷ []) → IsEnding masks (without left (slice_index masks number)) (drop to new) mid last nodes ending →
-      IsEnding masks (without left (slice_index masks number)) (filter (is_apart masks (slice_index masks number)) (drop from old)) (first ++ (number ∷ [])) last nodes ending
-  taken_end first mid last nodes ending pushed h =
-      ending_inside masks (without left (slice_index masks number)) (drop to new) (filter (is_apart masks (slice_index masks number)) (drop from old)) mid (first ++ (number ∷ [])) last nodes ending x.added pushed h
+  pub taken_end : (first mid last : List ℕ) (nodes after : ℕ) (ending : Ending) → mid ≡ first ++ (number ∷ []) → IsEnding masks (without left (slice_index masks number)) (drop to new) mid last nodes after ending →
+      IsEnding masks (without left (slice_index masks number)) (filter (is_apart masks (slice_index masks number)) (drop from old)) (first ++ (number ∷ [])) last nodes after ending
+  taken_end first mid last nodes after ending pushed h =
+      ending_inside masks (without left (slice_index masks number)) (drop to new) (filter (is_apart masks (slice_index masks number)) (drop from old)) mid (first ++ (number ∷ [])) last nodes after ending x.added pushed h
 
   -- and how many nodes it took
-  pub taken_few : (n now after : ℕ) → n ≡ length new → now ≤ after + 2 ^ (n - to) → now ≤ after + 2 ^ length (filter (is_apart masks (slice_index masks number)) (drop from old))
-  taken_few n now after long h =
-      budget_inside (n - to) (length (filter (is_apart masks (slice_index masks number)) (drop from old))) now after (let more = x.longer in let end = x.end in omega (arith, more, end, long)) h
+  pub taken_spent : (now after : ℕ) → now ≤ after + ways masks (drop to new) (without left (slice_index masks number)) → now ≤ after + ways masks (filter (is_apart masks (slice_index masks number)) (drop from old)) (without left (slice_index masks number))
+  taken_spent now after h = subst (λ xs. now ≤ after + ways masks xs (without left (slice_index masks number))) x.added h
 
 -- all candidates were tried
 pub all_tried : (old : List ℕ) (from k : ℕ) → length old ≤ k → take (k - from) (drop from old) ≡ drop from old

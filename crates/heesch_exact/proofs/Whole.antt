@@ -1,17 +1,17 @@
 -- From the whole search to its answer.
-use Rattle.std.proofs.Common.{◌≡◌, refl, sym, ap, ◌∙◌, ℕ, zero, suc, ◌+◌, ◌^◌, ◌<◌, ◌≤◌, cond, nat_eq, List, [], length, get_or, slice_index, inl, inr, arith, lit<}
+use Rattle.std.proofs.Common.{◌≡◌, refl, sym, ap, ◌∙◌, subst, ℕ, zero, suc, ◌+◌, ◌^◌, ◌<◌, ◌≤◌, cond, nat_eq, List, [], length, get_or, slice_index, map, filter, inl, inr, arith}
 use Rattle.std.specs.Int.{bit_at}
 use Rattle.std.specs.List.{count_by, Contains}
 use Rattle.std.specs.List.Sorted.{IsPermutation, IsNonDecreasing, IsStrictlyIncreasing}
-use Rattle.std.proofs.Math.Nat.{pow-le-pow_right}
 use Rattle.std.proofs.lemmas.Bool.{cases_lt}
 use Rattle.std.proofs.lemmas.Nat.Bits.{bit_at-lt}
 use Rattle.std.proofs.lemmas.List.Sums.{get_or-le-sum_by}
 use Rattle.std.proofs.lemmas.List.Elements.{All-nil}
 use Rattle.std.proofs.lemmas.List.Sorted.{All-permutation, sum_by-IsPermutation}
-use Rattle.heesch_exact.specs.Branches.{times, IsPart, HasNoCover, AreSets, AreAdded}
-use Rattle.heesch_exact.specs.Covers.{has_point, IsExactCover}
+use Rattle.heesch_exact.specs.Branches.{times, IsPart, HasNoCover, AreSets, AreAdded, ways}
+use Rattle.heesch_exact.specs.Covers.{has_point, is_within, partial_covers, IsExactCover}
 use Rattle.heesch_exact.proofs.Bits.{above, some_point}
+use Rattle.heesch_exact.proofs.Partial.{fewer_covers, at_most_power}
 use Rattle.heesch_exact.proofs.Sums.{sum_zero, count_is_sum, two_counted}
 
 module _ (masks : List ℕ) (points : ℕ) (small : (i : ℕ) → slice_index masks i < 2 ^ 64) (fits : points < 2 ^ 64) where
@@ -74,8 +74,12 @@ module _ (masks : List ℕ) (points : ℕ) (small : (i : ℕ) → slice_index ma
     pub not_covered : (candidates : List ℕ) → ((i : ℕ) → i < length masks → IsPart (slice_index masks i) points → Contains candidates i) → HasNoCover masks points candidates → ⊥
     not_covered candidates all none = none chosen (λ n d l. all (get_or chosen n d) (cover.within n d l) (parts n d l)) everywhere
 
-pub fewer_nodes : (a b nodes : ℕ) → a ≤ b → nodes < 2 ^ a → nodes < 2 ^ b
-fewer_nodes a b nodes l h = let p : 2 ^ a ≤ 2 ^ b = pow-le-pow_right (lit< tt) l in omega (arith, p, h)
+-- there are no more ways to choose candidates than to choose sets
+pub all_ways : (masks : List ℕ) (points : ℕ) (candidates : List ℕ) → map (λ i. slice_index masks i) candidates ≡ filter (is_within points) masks → ways masks candidates points ≤ partial_covers masks points
+all_ways masks points candidates same = subst (λ xs. partial_covers xs points ≤ partial_covers masks points) (sym same) (fewer_covers (is_within points) masks points)
 
-pub budget_within : (a b before after : ℕ) → a ≤ b → before ≤ after + 2 ^ a → before ≤ after + 2 ^ b
-budget_within a b before after l h = let p : 2 ^ a ≤ 2 ^ b = pow-le-pow_right (lit< tt) l in omega (arith, p, h)
+pub ways_spent : (masks : List ℕ) (points : ℕ) (candidates : List ℕ) → map (λ i. slice_index masks i) candidates ≡ filter (is_within points) masks → (before after : ℕ) → before ≤ after + ways masks candidates points → before ≤ after + partial_covers masks points
+ways_spent masks points candidates same before after h = let w = all_ways masks points candidates same in omega (arith, w, h)
+
+pub power_spent : (masks : List ℕ) (points before after : ℕ) → before ≤ after + partial_covers masks points → before ≤ after + 2 ^ length masks
+power_spent masks points before after h = let p = at_most_power masks points in omega (arith, p, h)

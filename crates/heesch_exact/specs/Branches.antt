@@ -1,18 +1,15 @@
 -- What a branch of the search is: the points that are left, and the candidates that may still be chosen for them.
-use Rattle.std.specs.Prelude.{◌≡◌, ℕ, ◌+◌, ◌<◌, ◌≤◌, ◌^◌, ◌==◌, Bool, List, length, slice_index, All, filter}
-use Rattle.std.specs.Int.{bit_at, bit_not, w64}
+use Rattle.std.specs.Prelude.{◌≡◌, ℕ, ◌+◌, ◌<◌, ◌≤◌, ◌==◌, Bool, List, length, slice_index, map, All, filter}
+use Rattle.std.specs.Int.{bit_at}
 use Rattle.std.specs.Int.RustNames.{bit_and}
 use Rattle.std.specs.List.{sum_by, Contains}
+use Rattle.heesch_exact.specs.Covers.{without, partial_covers}
 use Rattle.heesch_exact.specs.declared.search.Ending.{Ending}
 use Rattle.heesch_exact.specs.declared.search.Ending.TheVariants.{Covered, Failed, Open}
 
 -- how many of the sets with these numbers have the point
 abbrev pub times : List ℕ → List ℕ → ℕ → ℕ
 times masks numbers k = sum_by (λ i. bit_at (slice_index masks i) k) numbers
-
--- the points without those of a set
-abbrev pub without : ℕ → ℕ → ℕ
-without points mask = bit_and points (bit_not w64 mask)
 
 -- whether the set with this number has no point of the mask
 abbrev pub is_apart : List ℕ → ℕ → ℕ → Bool
@@ -40,11 +37,15 @@ pub record AreAdded (masks : List ℕ) (points : ℕ) (before after : List ℕ) 
   pub sets : AreSets masks before → AreSets masks after
   pub once : (k : ℕ) → times masks after k ≡ times masks before k + bit_at points k
 
--- Covered: the points that were left are covered; Failed: these candidates don't cover them; Open: the nodes were too few
-abbrev pub IsEnding : List ℕ → ℕ → List ℕ → List ℕ → List ℕ → ℕ → Ending → Type 0
-IsEnding masks points candidates before after nodes Covered = AreAdded masks points before after
-IsEnding masks points candidates before after nodes Failed = (after ≡ before) × HasNoCover masks points candidates
-IsEnding masks points candidates before after nodes Open = nodes < 2 ^ length candidates
+-- how many choices of the sets with these numbers have each of the points at most once, and no other point
+abbrev pub ways : List ℕ → List ℕ → ℕ → ℕ
+ways masks candidates points = partial_covers (map (λ i. slice_index masks i) candidates) points
+
+-- Covered: the points are covered; Failed: these candidates don't cover them; Open: all nodes were used, and too few
+abbrev pub IsEnding : List ℕ → ℕ → List ℕ → List ℕ → List ℕ → ℕ → ℕ → Ending → Type 0
+IsEnding masks points candidates before after nodes left Covered = AreAdded masks points before after
+IsEnding masks points candidates before after nodes left Failed = (after ≡ before) × HasNoCover masks points candidates
+IsEnding masks points candidates before after nodes left Open = (left ≡ 0) × (nodes < ways masks candidates points)
 
 -- where the set has the point, the candidates apart from it don't cover the points without its own
 abbrev pub IsTried : List ℕ → ℕ → List ℕ → ℕ → ℕ → Type 0

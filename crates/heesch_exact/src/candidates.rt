@@ -1,6 +1,7 @@
 //! Lists of candidates: the numbers of sets that may still be chosen.
-ghost use Rattle.std.specs.Prelude.{◌≡◌, ◌≤◌, ◌<◌, ◌^◌, ℕ, ◌++◌, length, slice_index, All, drop, filter, vec_len, IfOk, OnOk};
+ghost use Rattle.std.specs.Prelude.{◌≡◌, ◌≤◌, ◌<◌, ◌^◌, ℕ, ◌++◌, length, slice_index, All, drop, map, filter, vec_len, IfOk, OnOk};
 ghost use Rattle.std.specs.List.{Contains};
+ghost use Rattle.heesch_exact.specs.Covers.{is_within};
 ghost use Rattle.heesch_exact.specs.Branches.{AreCandidates, IsPart, is_apart};
 
 use heesch_io::NoMemory;
@@ -12,7 +13,8 @@ pub(crate) fn within(alloc: Global, masks: &[u64], points: u64) -> Result<Vec<u3
     ensures candidates { IfOk result (λ numbers. AreCandidates masks.now points numbers.items) }
     ensures all { IfOk result (λ numbers. (i : ℕ) → i < length masks.now → IsPart (slice_index masks.now i) points
         → Contains numbers.items i) }
-    ensures few { IfOk result (λ numbers. vec_len numbers ≤ length masks.now) }
+    ensures sets { IfOk result (λ numbers. map (λ i. slice_index masks.now i) numbers.items
+        ≡ filter (is_within points) masks.now) }
 {
     let mut numbers = Vec::new(alloc);
     for (i, mask) in masks.iter().enumerate() {

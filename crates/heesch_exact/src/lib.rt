@@ -9,7 +9,7 @@ mod counts;
 mod search;
 
 ghost use Rattle.std.specs.Prelude.{◌+◌, ◌≤◌, ◌<◌, ◌^◌, length, IfOk, OnOk, IsErr, ◌≡◌};
-ghost use Rattle.heesch_exact.specs.Covers.{IsAnswer};
+ghost use Rattle.heesch_exact.specs.Covers.{IsAnswer, partial_covers};
 
 use crate::candidates::within;
 use crate::search::{Ending, Search};
@@ -23,7 +23,7 @@ pub enum CoverAnswer {
     Cover { chosen: Seq<u32> },
     /// None do.
     None,
-    /// The nodes were too few to tell.
+    /// The nodes were used up before it could be told.
     Open,
 }
 
@@ -32,9 +32,10 @@ pub enum CoverAnswer {
 /// A point is a number below 64, and a mask has it where that bit is set. A node of the search takes one of `nodes`, and
 /// counts for each point that is left the candidates that have it, up to three. Where a point has none, the branch ends;
 /// else the least point with one candidate is covered next, else the least with two, else the least that is left. So a
-/// node costs one pass over its candidates, and one more for each of them that it tries. There are at most 2^n nodes for
-/// n sets, and `Open` comes only where `nodes` was below that; the search is at most 64 deep. Memory is taken for the
-/// candidates of the nodes on the way alone.
+/// node costs one pass over its candidates, and one more for each of them that it tries. Each node stands for another
+/// partial cover: a choice of the sets that has each of the points at most once, and no other point. So the nodes that
+/// are spent are at most the partial covers, and at most 2^n for n sets; `Open` comes only where `nodes` was below that
+/// and is used up. The search is at most 64 deep. Memory is taken for the candidates of the nodes on the way alone.
 pub fn exact_cover(
     alloc: Global,
     masks: &[u64],
@@ -42,9 +43,10 @@ pub fn exact_cover(
     nodes: &mut u32,
 ) -> Result<CoverAnswer, NoMemory>
     requires few { length masks.now < 2 ^ 31 }
-    ensures answer { IfOk result (IsAnswer masks.now points nodes.old) }
+    ensures answer { IfOk result (IsAnswer masks.now points nodes.old nodes.new) }
     ensures nodes { nodes.new ≤ nodes.old }
     ensures kept { IsErr result → nodes.new ≡ nodes.old }
+    ensures spent { OnOk result (nodes.old ≤ nodes.new + partial_covers masks.now points) }
     ensures few { OnOk result (nodes.old ≤ nodes.new + 2 ^ length masks.now) }
 {
     let mut search = Search {

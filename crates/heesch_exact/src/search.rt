@@ -1,7 +1,7 @@
 //! The search: a branch has points that are left, and the candidates for them.
-ghost use Rattle.std.specs.Prelude.{◌≡◌, ◌+◌, ◌-◌, ◌≤◌, ◌<◌, ◌^◌, drop, vec_len, IfOk, OnOk};
+ghost use Rattle.std.specs.Prelude.{◌≡◌, ◌+◌, ◌≤◌, ◌<◌, drop, vec_len, IfOk, OnOk};
 ghost use Rattle.std.specs.Int.{bit_at};
-ghost use Rattle.heesch_exact.specs.Branches.{AreCandidates, IsEnding};
+ghost use Rattle.heesch_exact.specs.Branches.{AreCandidates, IsEnding, ways};
 
 use crate::candidates::push_apart;
 use crate::counts::Counts;
@@ -43,9 +43,10 @@ impl Search {
         requires candidates { AreCandidates masks.now left (drop from self.old.candidates.items) }
         ensures candidates { OnOk result (self.new.candidates.items ≡ self.old.candidates.items) }
         ensures ending { IfOk result (IsEnding masks.now left (drop from self.old.candidates.items)
-            self.old.chosen.items self.new.chosen.items self.old.nodes) }
+            self.old.chosen.items self.new.chosen.items self.old.nodes self.new.nodes) }
         ensures nodes { self.new.nodes ≤ self.old.nodes }
-        ensures few { OnOk result (self.old.nodes ≤ self.new.nodes + 2 ^ (vec_len self.old.candidates - from)) }
+        ensures spent { OnOk result (self.old.nodes
+            ≤ self.new.nodes + ways masks.now (drop from self.old.candidates.items) left) }
     {
         if left == 0 {
             return Ok(Ending::Covered);
@@ -75,9 +76,10 @@ impl Search {
         requires point { bit_at left point ≡ 1 }
         ensures candidates { OnOk result (self.new.candidates.items ≡ self.old.candidates.items) }
         ensures ending { IfOk result (IsEnding masks.now left (drop from self.old.candidates.items)
-            self.old.chosen.items self.new.chosen.items (self.old.nodes + 1)) }
+            self.old.chosen.items self.new.chosen.items (self.old.nodes + 1) self.new.nodes) }
         ensures nodes { self.new.nodes ≤ self.old.nodes }
-        ensures few { OnOk result (self.old.nodes + 1 ≤ self.new.nodes + 2 ^ (vec_len self.old.candidates - from)) }
+        ensures spent { OnOk result (self.old.nodes + 1
+            ≤ self.new.nodes + ways masks.now (drop from self.old.candidates.items) left) }
     {
         let to = self.candidates.len();
         for k in from..to {

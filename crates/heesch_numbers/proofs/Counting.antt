@@ -1,5 +1,5 @@
 -- Sums of counts, and the clause of a number in a list that comes in parts.
-use Rattle.std.proofs.Common.{◌≡◌, refl, sym, ap, subst, ◌∙◌, ℕ, zero, suc, ◌+◌, ◌-◌, ◌<◌, ◌≤◌, List, [], ◌∷◌, ◌++◌, map, length, get_or, take, drop, All, arith}
+use Rattle.std.proofs.Common.{◌≡◌, refl, sym, ap, subst, ◌∙◌, ℕ, zero, suc, ◌+◌, ◌-◌, ◌<◌, ◌≤◌, List, [], ◌∷◌, ◌++◌, map, length, get_or, take, drop, All, inl, inr, arith}
 use Rattle.std.specs.Prelude.{flat_map, sum, sum_by}
 use Rattle.std.specs.List.Sorted.{IsNonDecreasingBy}
 use Rattle.std.proofs.lemmas.Bool.{cases_order}
@@ -36,6 +36,14 @@ sum-before start (e ∷ es) size (suc i) a l =
     let rest = sum-before e es size i a.1 (omega arith) in
     omega (arith, s, low, rest)
 
+-- where a part that isn't the first begins, as it is read
+pub start-sum : (ends : List ℕ) (size part : ℕ) → AreEnds 0 ends size → part ≤ length ends → ¬ (part ≡ 0) → get_or ends (part - 1) 0 ≡ sum (take part (gaps 0 ends))
+start-sum ends size part a l some =
+    let s = sum-before 0 ends size part a l in
+    let k : part ≡ suc (part - 1) = omega (arith, some) in
+    let r : start_at 0 ends part ≡ get_or ends (part - 1) 0 = ap (λ n. get_or (0 ∷ ends) n 0) k in
+    omega (arith, s, r)
+
 pub gap-at : (start : ℕ) (ends : List ℕ) (i : ℕ) → i < length ends → get_or (gaps start ends) i 0 ≡ get_or ends i 0 - start_at start ends i
 gap-at start [] i l = absurd (omega arith)
 gap-at start (e ∷ es) zero l = refl
@@ -61,7 +69,7 @@ ends-rise start (e ∷ es) size a (suc i) (suc j) d le l = ends-rise e es size a
 last-end : (start : ℕ) (ends : List ℕ) (size : ℕ) → AreEnds start ends size → 0 < length ends → get_or ends (length ends - 1) 0 ≡ size
 last-end start [] size a l = absurd (omega arith)
 last-end start (e ∷ []) size a l = a.1
-last-end start (e ∷ f ∷ es) size a l = last-end e (f ∷ es) size a.1 (omega arith)
+last-end start (e ∷ f ∷ es) size a l = let k : length (e ∷ f ∷ es) - 1 ≡ suc (length (f ∷ es) - 1) = omega arith in ap (λ n. get_or (e ∷ f ∷ es) n 0) k ∙ last-end e (f ∷ es) size a.1 (omega arith)
 
 -- where a place falls, by the ends before it
 module _ (ends : List ℕ) (size place part : ℕ) (a : AreEnds 0 ends size) (to : place < size) (bound : part ≤ length ends) (below : All (λ m. m ≤ place) (take part ends)) (above : All (λ m. place < m) (drop part ends)) where

@@ -1,7 +1,14 @@
 //! The clauses of a corona formula by their numbers: each is computed where it is asked for, and none is kept.
 #![tactic(auto)]
 
+mod common;
+mod counts;
 mod owners;
 mod prefix;
+mod remain;
+mod seen;
+mod surround;
+mod walks;
 
+pub use common::CommonClauses;
 pub use prefix::Prefix;

@@ -15,7 +15,7 @@ pub struct Prefix {
 }
 
 impl Model for Prefix {
-    ghost use Rattle.std.specs.Prelude.{List};
+    ghost use Rattle.std.specs.Prelude.{ℕ, List};
     ghost use Rattle.heesch_io.specs.Pieces.{AreEnds};
     ghost use Rattle.heesch_numbers.specs.Counts.{gaps};
 

@@ -98,7 +98,7 @@ fn line_holds<C: ClauseSource>(
 
 /// The first line from one to before another, counted from 0, that doesn't hold, if there is one. The clauses of all these lines
 /// stand in `added`. The assignment is all open before and after.
-fn first_failing<C: ClauseSource, S: Steps>(
+pub fn first_failing<C: ClauseSource, S: Steps>(
     assignment: &mut Assignment,
     formula: &C,
     added: &FlatFormula,
@@ -236,7 +236,7 @@ pub fn bad_line<R: Threads + Sync, C: ClauseSource + Sync, S: Steps + Sync>(
 }
 
 /// The answer where all lines hold, by the final line.
-fn final_answer<C: ClauseSource, S: Steps>(
+pub fn final_answer<C: ClauseSource, S: Steps>(
     assignment: &mut Assignment,
     formula: &C,
     added: &FlatFormula,

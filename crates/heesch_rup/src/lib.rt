@@ -6,6 +6,7 @@ mod assignment;
 mod check;
 mod chunks;
 mod hints;
+mod in_turn;
 mod indexed;
 mod newness;
 mod numbers;
@@ -16,6 +17,7 @@ mod status;
 mod steps;
 
 pub use check::{LogAnswer, check_log, check_steps};
+pub use in_turn::{check_steps_in_turn, is_spent_in_turn};
 pub use newness::{all_new, all_new_steps};
 pub use spent::{is_spent, is_spent_over};
 pub use steps::Steps;

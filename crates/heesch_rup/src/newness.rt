@@ -136,8 +136,31 @@ fn are_new_in_chunks<R: Threads + Sync, N: NewnessSource + Sync, S: Steps + Sync
     Ok(true)
 }
 
-/// Whether no line contains an earlier clause, where the clauses that the lines add are these. The lines are checked by chunks
-/// where they are `LEAST_SPLIT` or more, and else in their order, in the caller's thread; each is listed after its check.
+/// Whether no line contains an earlier clause, where the clauses that the lines add are these. The lines are checked in their
+/// order, in the caller's thread; each is listed after its check.
+pub fn are_new_in_turn<N: NewnessSource, S: Steps>(
+    alloc: Global,
+    formula: &N,
+    added: &FlatFormula,
+    steps: &S,
+) -> Result<bool, NoMemory>
+    requires lines { let f = N.listed formula.now in LinesHold f.vars f.clauses (S.written steps.now).lines }
+    requires added { added.now ≡ record { vars = (N.listed formula.now).vars; clauses = clauses_of (S.written steps.now).lines } }
+    ensures { IfOk result (λ yes. IsTrue yes ↔ LinesAreNew (N.listed formula.now).clauses (S.written steps.now).lines) }
+{
+    let vars = added.vars();
+    let mut listed = occurrences_of(alloc, added, 0, added)?;
+    let mut assignment = Assignment::new(alloc, vars)?;
+    for i in 0..steps.count() {
+        if !is_new(&listed, &mut assignment, formula, added, i, steps.clause(i))? {
+            return Ok(false);
+        }
+        listed.list_next(added)?;
+    }
+    Ok(true)
+}
+
+/// The same, where the lines are checked by chunks where they are `LEAST_SPLIT` or more.
 pub fn are_new<R: Threads + Sync, N: NewnessSource + Sync, S: Steps + Sync>(
     rt: &R,
     alloc: Global,
@@ -149,20 +172,12 @@ pub fn are_new<R: Threads + Sync, N: NewnessSource + Sync, S: Steps + Sync>(
     requires added { added.now ≡ record { vars = (N.listed formula.now).vars; clauses = clauses_of (S.written steps.now).lines } }
     ensures { IfOk result (λ yes. IsTrue yes ↔ LinesAreNew (N.listed formula.now).clauses (S.written steps.now).lines) }
 {
-    let (vars, count) = (added.vars(), added.len());
-    if LEAST_SPLIT <= count {
-        let listed = occurrences_of(alloc, added, count, added)?;
-        return are_new_in_chunks(rt, alloc, &listed, formula, added, steps);
+    let (_vars, count) = (added.vars(), added.len());
+    if count < LEAST_SPLIT {
+        return are_new_in_turn(alloc, formula, added, steps);
     }
-    let mut listed = occurrences_of(alloc, added, 0, added)?;
-    let mut assignment = Assignment::new(alloc, vars)?;
-    for i in 0..steps.count() {
-        if !is_new(&listed, &mut assignment, formula, added, i, steps.clause(i))? {
-            return Ok(false);
-        }
-        listed.list_next(added)?;
-    }
-    Ok(true)
+    let listed = occurrences_of(alloc, added, count, added)?;
+    are_new_in_chunks(rt, alloc, &listed, formula, added, steps)
 }
 
 /// Whether no line contains an earlier clause, be it of the formula or of a line, wherever the lines stand. It costs as many

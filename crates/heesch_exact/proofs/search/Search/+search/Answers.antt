@@ -1,11 +1,24 @@
-use Rattle.std.proofs.Common.{◌+◌, ◌-◌, ◌*◌, ◌≤◌, ◌^◌, ◌++◌, ◌∷◌, [], refl, sym, ap, ◌∙◌, subst, drop, take, filter, get_or, vec_len, All, length, arith}
-use Rattle.heesch_exact.specs.Branches.{AreCandidates, IsEnding, IsTried, times, without, is_apart}
+use Rattle.std.proofs.Common.{◌+◌, ◌-◌, ◌≤◌, ◌++◌, ◌∷◌, [], refl, sym, ap, ◌∙◌, subst, drop, take, filter, get_or, vec_len, All, arith}
+use Rattle.std.specs.List.{sum_by}
+use Rattle.heesch_exact.specs.Covers.{without}
+use Rattle.heesch_exact.specs.Branches.{AreCandidates, IsEnding, IsTried, is_apart}
 use Rattle.std.proofs.lemmas.List.{length-drop}
-use Rattle.heesch_exact.proofs.Nodes.{no_cover, no_cover_without, times_at_most}
-use Rattle.heesch_exact.proofs.Budget.{end_budget}
+use Rattle.heesch_exact.proofs.Nodes.{no_cover, no_cover_without}
+use Rattle.heesch_exact.proofs.Partial.{through, some_way}
 use Rattle.heesch_exact.proofs.Listing.{next_place}
-use Rattle.heesch_exact.proofs.Steps.{candidate_here, is_part, none_from_counts, lacks_from_test, tried_without, budget_without, fewer, one_tried, rest, popped, ending_with, tried_with, budget_with, budget_covered, budget_inside, taken, taken_end, taken_few, all_tried}
+use Rattle.heesch_exact.proofs.Steps.{candidate_here, is_part, none_from_counts, lacks_from_test, tried_without, spent_without, fewer, one_tried, rest, popped, ending_with, tried_with, spent_with, spent_covered, spent_all, taken, taken_end, taken_spent, all_tried}
 use Rattle.heesch_exact.proofs.search.Search.+search.Goals as goal
+
+pub cover-returns-then-self-eq0-clause-ending : goal.cover-returns-then-self-eq0-clause-ending
+cover-returns-then-self-eq0-clause-ending t c =
+    let some = some_way c.args.masks.now (drop c.args.from c.args.self.now.candidates.items) c.args.left in
+    let none = c.if-self-eq0.true in
+    (none, omega (arith, some, none))
+
+pub cover-returns-in-None-clause-spent : goal.cover-returns-in-None-clause-spent
+cover-returns-in-None-clause-spent t c =
+    let some = some_way c.args.masks.now (drop c.args.from c.args.self.now.candidates.items) c.args.left in
+    omega (arith, some)
 
 pub cover-returns-in-None-clause-ending : goal.cover-returns-in-None-clause-ending
 cover-returns-in-None-clause-ending t c =
@@ -35,8 +48,8 @@ cover_point-loop-k-preserved-then-mask-point-eq0 t c =
       chosen = was.chosen;
       tried = subst (λ n. All (IsTried masks c.args.left here point) (take n here)) next (tried_without masks c.args.left here (c.loop-k.k - c.args.from) c.index-number.result.now at point lacks was.tried);
       nodes = was.nodes;
-      few = subst (λ n. c.args.self.now.nodes ≤ c.loop-k.self.nodes + times masks (take n here) point * 2 ^ (length here - times masks here point)) next
-          (budget_without masks c.args.left here (c.loop-k.k - c.args.from) c.index-number.result.now at point lacks (2 ^ (length here - times masks here point)) c.args.self.now.nodes c.loop-k.self.nodes was.few);
+      spent = subst (λ n. c.args.self.now.nodes ≤ c.loop-k.self.nodes + sum_by (through masks point here c.args.left) (take n here)) next
+          (spent_without masks c.args.left here (c.loop-k.k - c.args.from) c.index-number.result.now at point lacks c.args.self.now.nodes c.loop-k.self.nodes was.spent);
     }
 
 pub cover_point-cover-requires : goal.cover_point-cover-requires
@@ -58,15 +71,13 @@ cover_point-returns-in_default t c =
     let at = candidate_here c.args.masks.now c.args.left c.args.self.now.candidates.items c.loop-k.self.candidates.items c.args.from c.loop-k.k c.index-number.result.now (λ i. (c.type_inv.masks i).fits) c.ranges.left.fits c.requires.candidates c.loop-k.invariant.candidates c.loop-k.auto.k (omega arith) c.index-number.ensures in
     let x = taken c.args.masks.now c.args.left c.args.point c.args.self.now.candidates.items c.loop-k.self.candidates.items c.push_apart.new.candidates.items c.args.from c.loop-k.k c.len-to.result c.index-number.result.now at c.if-mask-point-eq0.false c.loop-k.invariant.candidates c.in_ok-push_apart.ensures (omega arith) in
     let here = drop c.args.from c.args.self.now.candidates.items in
-    let shorter = length-drop c.args.from c.args.self.now.candidates.items in
-    let few = taken_few c.args.masks.now c.args.left c.args.point c.args.self.now.candidates.items c.push_apart.new.candidates.items c.args.from c.loop-k.k c.len-to.result c.index-number.result.now x (vec_len c.push_apart.new.candidates) c.loop-k.self.nodes c.cover.new.self.nodes (omega arith) c.in_ok-ending.ensures.few in
+    let spent = taken_spent c.args.masks.now c.args.left c.args.point c.args.self.now.candidates.items c.push_apart.new.candidates.items c.args.from c.loop-k.k c.len-to.result c.index-number.result.now x c.loop-k.self.nodes c.cover.new.self.nodes c.in_ok-ending.ensures.spent in
     record {
       candidates = c.truncate.ensures.items ∙ ap (take c.len-to.result) c.in_ok-ending.ensures.candidates ∙ x.kept;
-      ending = ending_with c.args.masks.now c.args.left here (c.loop-k.k - c.args.from) c.index-number.result.now at c.args.point x.has c.in_ok-ending.ending c.args.self.now.chosen.items c.cover.new.self.chosen.items c.args.self.now.nodes c.loop-k.self.nodes c.in_default.not-Failed was.few
-          (taken_end c.args.masks.now c.args.left c.args.point c.args.self.now.candidates.items c.push_apart.new.candidates.items c.args.from c.loop-k.k c.len-to.result c.index-number.result.now x c.args.self.now.chosen.items c.push.new.self.items c.cover.new.self.chosen.items c.loop-k.self.nodes c.in_ok-ending.ending (c.in_ok-push.ensures.items ∙ ap (λ xs. xs ++ (c.index-number.result.now ∷ [])) was.chosen) c.in_ok-ending.ensures.ending);
+      ending = ending_with c.args.masks.now c.args.left here (c.loop-k.k - c.args.from) c.index-number.result.now at c.args.point x.has c.in_ok-ending.ending c.args.self.now.chosen.items c.cover.new.self.chosen.items c.args.self.now.nodes c.loop-k.self.nodes c.cover.new.self.nodes c.in_default.not-Failed was.spent
+          (taken_end c.args.masks.now c.args.left c.args.point c.args.self.now.candidates.items c.push_apart.new.candidates.items c.args.from c.loop-k.k c.len-to.result c.index-number.result.now x c.args.self.now.chosen.items c.push.new.self.items c.cover.new.self.chosen.items c.loop-k.self.nodes c.cover.new.self.nodes c.in_ok-ending.ending (c.in_ok-push.ensures.items ∙ ap (λ xs. xs ++ (c.index-number.result.now ∷ [])) was.chosen) c.in_ok-ending.ensures.ending);
       nodes = omega (arith, c.in_ok-ending.ensures.nodes, was.nodes);
-      few = budget_inside (length here) (vec_len c.args.self.now.candidates - c.args.from) (c.args.self.now.nodes + 1) c.cover.new.self.nodes (omega (arith, shorter))
-          (budget_covered c.args.masks.now c.args.left here (c.loop-k.k - c.args.from) c.index-number.result.now at c.args.point x.has c.args.self.now.nodes c.loop-k.self.nodes c.cover.new.self.nodes was.few few);
+      spent = spent_covered c.args.masks.now c.args.left here (c.loop-k.k - c.args.from) c.index-number.result.now at c.args.point x.has c.args.self.now.nodes c.loop-k.self.nodes c.cover.new.self.nodes was.spent spent;
     }
 
 pub cover_point-loop-k-preserved : goal.cover_point-loop-k-preserved
@@ -77,18 +88,18 @@ cover_point-loop-k-preserved t c =
     let was = c.loop-k.invariant in
     let at = candidate_here c.args.masks.now c.args.left c.args.self.now.candidates.items c.loop-k.self.candidates.items c.args.from c.loop-k.k c.index-number.result.now (λ i. (c.type_inv.masks i).fits) c.ranges.left.fits c.requires.candidates c.loop-k.invariant.candidates c.loop-k.auto.k (omega arith) c.index-number.ensures in
     let x = taken c.args.masks.now c.args.left c.args.point c.args.self.now.candidates.items c.loop-k.self.candidates.items c.push_apart.new.candidates.items c.args.from c.loop-k.k c.len-to.result c.index-number.result.now at c.if-mask-point-eq0.false c.loop-k.invariant.candidates c.in_ok-push_apart.ensures (omega arith) in
-    let end = taken_end c.args.masks.now c.args.left c.args.point c.args.self.now.candidates.items c.push_apart.new.candidates.items c.args.from c.loop-k.k c.len-to.result c.index-number.result.now x c.args.self.now.chosen.items c.push.new.self.items c.cover.new.self.chosen.items c.loop-k.self.nodes c.in_ok-ending.ending (c.in_ok-push.ensures.items ∙ ap (λ xs. xs ++ (c.index-number.result.now ∷ [])) was.chosen) c.in_ok-ending.ensures.ending in
+    let end = taken_end c.args.masks.now c.args.left c.args.point c.args.self.now.candidates.items c.push_apart.new.candidates.items c.args.from c.loop-k.k c.len-to.result c.index-number.result.now x c.args.self.now.chosen.items c.push.new.self.items c.cover.new.self.chosen.items c.loop-k.self.nodes c.cover.new.self.nodes c.in_ok-ending.ending (c.in_ok-push.ensures.items ∙ ap (λ xs. xs ++ (c.index-number.result.now ∷ [])) was.chosen) c.in_ok-ending.ensures.ending in
     let first = c.args.self.now.chosen.items in
-    let failed = subst (IsEnding masks (without c.args.left (get_or masks c.index-number.result.now 0)) (filter (is_apart masks (get_or masks c.index-number.result.now 0)) here) (first ++ (c.index-number.result.now ∷ [])) c.cover.new.self.chosen.items c.loop-k.self.nodes) c.in-Failed.is end in
-    let few = taken_few c.args.masks.now c.args.left c.args.point c.args.self.now.candidates.items c.push_apart.new.candidates.items c.args.from c.loop-k.k c.len-to.result c.index-number.result.now x (vec_len c.push_apart.new.candidates) c.loop-k.self.nodes c.cover.new.self.nodes (omega arith) c.in_ok-ending.ensures.few in
+    let failed = subst (IsEnding masks (without c.args.left (get_or masks c.index-number.result.now 0)) (filter (is_apart masks (get_or masks c.index-number.result.now 0)) here) (first ++ (c.index-number.result.now ∷ [])) c.cover.new.self.chosen.items c.loop-k.self.nodes c.cover.new.self.nodes) c.in-Failed.is end in
+    let spent = taken_spent c.args.masks.now c.args.left c.args.point c.args.self.now.candidates.items c.push_apart.new.candidates.items c.args.from c.loop-k.k c.len-to.result c.index-number.result.now x c.loop-k.self.nodes c.cover.new.self.nodes c.in_ok-ending.ensures.spent in
     let next = next_place c.args.from c.loop-k.k c.loop-k.auto.k in
     record {
       candidates = c.truncate.ensures.items ∙ ap (take c.len-to.result) c.in_ok-ending.ensures.candidates ∙ x.kept;
       chosen = popped first c.cover.new.self.chosen.items c.pop.new.self.items c.index-number.result.now (vec_len c.cover.new.self.chosen) failed.0 (omega arith) c.pop.ensures.rest;
       tried = subst (λ n. All (IsTried masks c.args.left here point) (take n here)) next (tried_with masks c.args.left here (c.loop-k.k - c.args.from) c.index-number.result.now at point x.has failed.1 was.tried);
       nodes = omega (arith, c.in_ok-ending.ensures.nodes, was.nodes);
-      few = subst (λ n. c.args.self.now.nodes ≤ c.cover.new.self.nodes + times masks (take n here) point * 2 ^ (length here - times masks here point)) next
-          (budget_with masks c.args.left here (c.loop-k.k - c.args.from) c.index-number.result.now at point x.has c.args.self.now.nodes c.loop-k.self.nodes c.cover.new.self.nodes was.few few);
+      spent = subst (λ n. c.args.self.now.nodes ≤ c.cover.new.self.nodes + sum_by (through masks point here c.args.left) (take n here)) next
+          (spent_with masks c.args.left here (c.loop-k.k - c.args.from) c.index-number.result.now at point x.has c.args.self.now.nodes c.loop-k.self.nodes c.cover.new.self.nodes was.spent spent);
     }
 
 pub cover_point-returns-clause-ending : goal.cover_point-returns-clause-ending
@@ -97,14 +108,10 @@ cover_point-returns-clause-ending t c =
     let all = all_tried c.args.self.now.candidates.items c.args.from c.loop-k.k (omega arith) in
     (c.loop-k.invariant.chosen, no_cover c.args.masks.now c.args.left here c.args.point (λ i. (c.type_inv.masks i).fits) c.ranges.left.fits c.requires.candidates c.requires.point (subst (All (IsTried c.args.masks.now c.args.left here c.args.point)) all c.loop-k.invariant.tried))
 
-pub cover_point-returns-clause-few : goal.cover_point-returns-clause-few
-cover_point-returns-clause-few t c =
+pub cover_point-returns-clause-spent : goal.cover_point-returns-clause-spent
+cover_point-returns-clause-spent t c =
     let masks = c.args.masks.now in
-    let point = c.args.point in
     let here = drop c.args.from c.args.self.now.candidates.items in
     let all = all_tried c.args.self.now.candidates.items c.args.from c.loop-k.k (omega arith) in
-    let first = c.args.self.now.nodes in
-    let last = c.loop-k.self.nodes in
-    let tried = subst (λ xs. first ≤ last + times masks xs point * 2 ^ (length here - times masks here point)) all c.loop-k.invariant.few in
-    let shorter = length-drop c.args.from c.args.self.now.candidates.items in
-    budget_inside (length here) (vec_len c.args.self.now.candidates - c.args.from) (first + 1) last (omega (arith, shorter)) (end_budget (length here) (times masks here point) first last (times_at_most masks here point) tried)
+    let tried = subst (λ xs. c.args.self.now.nodes ≤ c.loop-k.self.nodes + sum_by (through masks c.args.point here c.args.left) xs) all c.loop-k.invariant.spent in
+    spent_all masks (λ i. (c.type_inv.masks i).fits) c.args.point here c.args.left c.ranges.left.fits c.args.self.now.nodes c.loop-k.self.nodes tried

@@ -1,5 +1,7 @@
-use Rattle.std.proofs.Common.{◌≡◌, ◌≤◌, ◌+◌, ◌-◌, ◌*◌, ◌^◌, All, length, take, drop, vec_len}
-use Rattle.heesch_exact.specs.Branches.{times, IsTried}
+use Rattle.std.proofs.Common.{◌≡◌, ◌≤◌, ◌+◌, ◌-◌, ◌*◌, All, take, drop, vec_len}
+use Rattle.std.specs.List.{sum_by}
+use Rattle.heesch_exact.specs.Branches.{IsTried}
+use Rattle.heesch_exact.proofs.Partial.{through}
 use Rattle.heesch_exact.proofs.search.Search.+search.Given as goal
 
 abbrev pub decreases-cover : goal.decreases-cover
@@ -16,5 +18,5 @@ invariant-cover_point-loop-k l =
       chosen : l.self.chosen.items ≡ l.initial.self.chosen.items;
       tried : All (IsTried l.masks l.left here l.point) (take (l.k - l.from) here);
       nodes : l.self.nodes ≤ l.initial.self.nodes;
-      few : l.initial.self.nodes ≤ l.self.nodes + times l.masks (take (l.k - l.from) here) l.point * 2 ^ (length here - times l.masks here l.point);
+      spent : l.initial.self.nodes ≤ l.self.nodes + sum_by (through l.masks l.point here l.left) (take (l.k - l.from) here);
     }

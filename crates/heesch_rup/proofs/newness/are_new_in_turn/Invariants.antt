@@ -5,7 +5,7 @@ use Rattle.heesch_cnf.specs.Clauses.{IsNew}
 use Rattle.heesch_cnf.specs.Lines.{clause_of, clauses_with}
 use Rattle.heesch_rup.specs.Assigned.{all_open}
 use Rattle.heesch_rup.specs.Listed.{ListsFirst}
-use Rattle.heesch_rup.proofs.newness.are_new.Given as goal
+use Rattle.heesch_rup.proofs.newness.are_new_in_turn.Given as goal
 
 abbrev pub invariant-loop-i : goal.invariant-loop-i
 invariant-loop-i g l =
