@@ -27,7 +27,7 @@ pub enum EntryAnswer {
     Invalid { part: u32 },
 }
 
-impl<'a, G: Grid + Sync> Audited<'a, G> {
+impl<'a, G: Grid> Audited<'a, G> {
     /// The least of the parts 2 to 8 that fails, where the shape is that of the entry.
     pub(crate) fn failing_part<R: Threads + Sync>(&self, rt: &R) -> Result<Option<u32>, NoMemory>
         requires shape { IsCanonicalShape G.geometry self.now.shape.now }
@@ -63,7 +63,7 @@ impl<'a, G: Grid + Sync> Audited<'a, G> {
 /// literals, besides the formula that it is over: that of a level is made once where both searches are of one level,
 /// and let go before the next is made, and its clauses stand in one array. A proof is read where it stands: while it is
 /// checked, its clauses stand once more in one array, and those of its cuts are made.
-pub fn audit<G: Grid + Sync, R: Threads + Sync>(
+pub fn audit<G: Grid, R: Threads + Sync>(
     rt: &R,
     alloc: Global,
     entry: &Entry,

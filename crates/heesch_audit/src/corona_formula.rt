@@ -5,7 +5,7 @@ ghost use Rattle.heesch_audit.specs.Ends.{LogEnds};
 ghost use Rattle.heesch_audit.specs.Formulas.{formula_of, universe_of, IsFormulaUpTo, IsLevelFormula};
 ghost use Rattle.heesch_audit.specs.Shapes.{IsCanonicalShape};
 
-use crate::logs::{is_ended, is_ended_over};
+use crate::logs::{is_ended, is_ended_in_turn};
 use crate::proof_end::ProofEnd;
 use crate::proof_log::ProofLog;
 use heesch_cert::Limits;
@@ -94,9 +94,7 @@ impl<G: Grid> CoronaFormula<G> {
             CoronaFormula::Numbered { source } => source.universe(),
         }
     }
-}
 
-impl<G: Grid + Sync> CoronaFormula<G> {
     /// Whether the log refutes the formula, or is spent for so many turns over it, as asked.
     pub(crate) fn is_ended<R: Threads + Sync>(
         &self,
@@ -114,7 +112,7 @@ impl<G: Grid + Sync> CoronaFormula<G> {
                 is_ended(rt, alloc, &encoded.formula, log, end, turns)
             }
             CoronaFormula::Numbered { source } => {
-                is_ended_over(rt, alloc, source, log, end, turns)
+                is_ended_in_turn(alloc, source, log, end, turns)
             }
         }
     }

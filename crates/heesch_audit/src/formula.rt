@@ -71,9 +71,7 @@ impl<G: Grid> LevelFormula<G> {
             Some(_) => false,
         }
     }
-}
 
-impl<G: Grid + Sync> LevelFormula<G> {
     /// Whether the proof refutes the formula, or is spent over it for the limit on turns, and its cuts are lawful.
     pub(crate) fn is_ended_by<R: Threads + Sync>(
         &self,

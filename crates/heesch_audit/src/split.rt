@@ -22,7 +22,7 @@ pub fn most_portions(entry: &Entry) -> usize
     triples_of(&entry.evidence).len().max(1)
 }
 
-impl<'a, G: Grid + Sync> Audited<'a, G> {
+impl<'a, G: Grid> Audited<'a, G> {
     /// Whether the parts 2 to 8 of the entry hold, where this is the first portion and the shape that of the entry; no
     /// other portion asks for them.
     fn are_parts_due<R: Threads + Sync>(&self, rt: &R, portion: u32) -> Result<bool, NoMemory>
@@ -57,7 +57,7 @@ fn is_bare(portion: u32, triples: usize) -> bool
 /// Cost: that of the proofs of its triples, and in the first portion of all else that `audit` looks at. In each that
 /// has a triple the shape and the list of the triples that are asked for are made anew; where others are written, no
 /// proof is read.
-pub fn portion_holds<G: Grid + Sync, R: Threads + Sync>(
+pub fn portion_holds<G: Grid, R: Threads + Sync>(
     rt: &R,
     alloc: Global,
     entry: &Entry,

@@ -57,7 +57,7 @@ fn asks_formula(bare: &Bare) -> bool
 
 /// Whether the search with holes allowed ended at level m as is written, its proofs have no cut, and it is the same as
 /// that with holes forbidden exactly where a refutation has no cut. The formula of another level, or of m, is at hand.
-fn bare_holds<G: Grid + Sync, R: Threads + Sync>(
+fn bare_holds<G: Grid, R: Threads + Sync>(
     rt: &R,
     alloc: Global,
     shape: &Shape<G>,
@@ -90,7 +90,7 @@ fn bare_holds<G: Grid + Sync, R: Threads + Sync>(
     formula.is_ended_by(rt, alloc, shape, ended.end, ended.proof)
 }
 
-impl<'a, G: Grid + Sync> Audited<'a, G> {
+impl<'a, G: Grid> Audited<'a, G> {
     /// The first of the parts 6 to 8 that fails, the form being right: the wall, the open coronas, the search behind the
     /// wall. The formula of the wall serves for the search behind it, where they are of one level.
     pub(crate) fn failing_search<R: Threads + Sync>(&self, rt: &R) -> Result<Option<u32>, NoMemory>

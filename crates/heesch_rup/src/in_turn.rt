@@ -90,7 +90,9 @@ fn used_up_in_turn<C: ClauseSource, S: Steps>(
     }
 }
 
-/// What `is_spent_over` answers, in the caller's thread alone, and at the same cost.
+/// Whether the log is spent for so many turns over the clauses, wherever they and its lines stand, as `is_spent` tells it, but in
+/// the caller's thread alone. It costs what `check_steps_in_turn` does, and for each line the question whether it is new; the
+/// clauses of the lines are copied once.
 pub fn is_spent_in_turn<N: NewnessSource, S: Steps>(
     alloc: Global,
     formula: &N,

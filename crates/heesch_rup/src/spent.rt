@@ -7,7 +7,7 @@ use crate::check::bad_line;
 use crate::indexed::IndexedFormula;
 use crate::newness::are_new;
 use crate::steps::Steps;
-use heesch_cnf::{ClauseSource, FlatFormula, NewnessSource};
+use heesch_cnf::{ClauseSource, FlatFormula};
 use heesch_io::NoMemory;
 use std::alloc::Global;
 use std::thread::Threads;
@@ -43,27 +43,9 @@ fn used_up<R: Threads + Sync, C: ClauseSource + Sync, S: Steps + Sync>(
     }
 }
 
-/// Whether the log is spent for so many turns over the formula, wherever its clauses and its lines stand: it has just so many
-/// lines, each of which holds and is new, and no final line. It costs what `check_steps` does, and a question of each line
-/// whether it is new; the clauses of the lines are copied into one array.
-pub fn is_spent_over<R: Threads + Sync, N: NewnessSource + Sync, S: Steps + Sync>(
-    rt: &R,
-    alloc: Global,
-    formula: &N,
-    steps: &S,
-    turns: u32,
-) -> Result<bool, NoMemory>
-    ensures { let f = N.listed formula.now in
-        IfOk result (λ yes. IsTrue yes ↔ IsSpent f.vars f.clauses turns (S.written steps.now)) }
-{
-    let Some(added) = used_up(rt, alloc, formula, steps, turns)? else {
-        return Ok(false);
-    };
-    are_new(rt, alloc, formula, &added, steps)
-}
-
-/// The same over a formula in one array. It costs what `check_steps` and `all_new_steps` cost, but the clauses of the lines are
-/// copied once.
+/// Whether the log is spent for so many turns over the formula, wherever its lines stand: it has just so many lines, each of
+/// which holds and is new, and no final line. It costs what `check_steps` and `all_new_steps` cost, but the clauses of the lines
+/// are copied once.
 pub fn is_spent<R: Threads + Sync, S: Steps + Sync>(
     rt: &R,
     alloc: Global,
