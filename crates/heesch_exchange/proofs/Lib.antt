@@ -1,3 +1,5 @@
 pub mod NoFault
+pub mod OneFault
+pub mod OneModelFault
 pub mod ShapeLines
 pub mod Told

@@ -1,8 +1,8 @@
 //! The line of a shape, and the formula of its shape.
-ghost use Rattle.std.specs.Prelude.{◌≡◌, ◌≤◌, IfOk, IfErr};
+ghost use Rattle.std.specs.Prelude.{◌≡◌, ◌≤◌, IfOk, IfErr, OnOk};
 ghost use Rattle.heesch_line.specs.Scanning.{IsLineOf};
 ghost use Rattle.heesch_given.specs.Given.{IsShapeLine};
-ghost use Rattle.heesch_exchange.specs.Shapes.{IsLineStop, IsCellsStop, IsShapeStop, EncodesLine};
+ghost use Rattle.heesch_exchange.specs.Shapes.{IsInTime, IsTimeStop, IsLineStop, IsCellsStop, IsShapeStop, EncodesLine};
 
 use crate::asked::Asked;
 use heesch_cert::Cells;
@@ -16,8 +16,25 @@ use std::alloc::Global;
 /// The fault of a line that isn't cells.
 const NOT_CELLS: u32 = 6;
 
+/// The fault of a line on which the input goes on beyond the most bytes that are read.
+const TOO_LONG: u32 = 8;
+
 /// The fault of a line whose shape's formula is too large.
 const TOO_LARGE: u32 = 14;
+
+/// Whether the first line ends within the most bytes that are read, or the input does; else fault 8.
+pub fn ends_in_time(most: u64, input: &[u8], line: &[u8]) -> Result<(), LineStop<u32>>
+    ensures ok { OnOk result (IsInTime most input.now line.now) }
+    ensures stop { IfErr result (IsTimeStop most input.now line.now) }
+{
+    if line.len() as u64 >= most && input.len() as u64 > most {
+        return Err(LineStop::Fault {
+            line: 1,
+            fault: TOO_LONG,
+        });
+    }
+    Ok(())
+}
 
 /// The corona formula of the shape whose cells the first line is, or the fault of the line.
 ///
