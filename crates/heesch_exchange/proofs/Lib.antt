@@ -1,3 +1,4 @@
+pub mod FirstLines
 pub mod NoFault
 pub mod OneFault
 pub mod OneModelFault

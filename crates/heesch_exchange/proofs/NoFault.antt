@@ -26,32 +26,10 @@ use Rattle.heesch_shape.specs.Faults.{IsFault}
 use Rattle.heesch_exchange.specs.Answers.{HasEndedLine, IsAnswer, HasAnswerFault, IsModelFault, IsUnended}
 use Rattle.heesch_exchange.specs.Formulas.{IsFormula, HasFormulaFault}
 use Rattle.heesch_given.specs.Given.{IsShapeLine, IsLineFault}
-use Rattle.heesch_exchange.proofs.Told.{as_line}
+use Rattle.heesch_exchange.proofs.FirstLines.{as_line, not_endless, one_line}
 use Rattle.heesch_exchange.specs.Shapes.{HasFirstLine, HasFormula, IsEndless, IsInTime, IsShapeFault}
 
 -- ---- the first line
-
--- an input with a first line has one alone
-pub one_line : (input a b line behind : List ℕ) → HasFirstLine input a b → HasFirstLine input line behind → (a ≡ line) × (b ≡ behind)
-one_line input a b line behind x y = by x.text y.text
-  where
-    by : (input ≡ a ++ 10 ∷ b) ⊎ ((input ≡ a) × (b ≡ [])) → (input ≡ line ++ 10 ∷ behind) ⊎ ((input ≡ line) × (behind ≡ [])) → (a ≡ line) × (b ≡ behind)
-    by (inl p) (inl q) =
-        let both = cut_same 10 a (10 ∷ b) line (10 ∷ behind) x.whole y.whole refl refl (sym p ∙ q) in
-        (both.0, let same = both.1 in cc)
-    by (inl p) (inr q) =
-        let both = cut_same 10 a (10 ∷ b) line [] x.whole y.whole refl tt (sym p ∙ q.0 ∙ sym (append-nil line)) in
-        absurd (let same = both.1 in cc)
-    by (inr p) (inl q) =
-        let both = cut_same 10 a [] line (10 ∷ behind) x.whole y.whole tt refl (append-nil a ∙ sym p.0 ∙ q) in
-        absurd (let same = both.1 in cc)
-    by (inr p) (inr q) = (sym p.0 ∙ q.0, p.1 ∙ sym q.1)
-
--- a first line that ends in time is no endless one
-pub not_endless : (most : ℕ) (input line behind : List ℕ) → HasFirstLine input line behind → IsInTime most input line → IsEndless most input → ⊥
-not_endless most input line behind first in_time e =
-    let lines = one_line input line behind e.line e.behind first e.first in
-    e.late (subst (IsInTime most input) lines.0 in_time)
 
 -- a line that ends is something
 pub ended_some : (input line model : List ℕ) → HasEndedLine input line model → input ≢ []

@@ -10,9 +10,9 @@ use Rattle.heesch_shape.specs.Faults.{IsFault}
 use Rattle.heesch_exchange.specs.Answers.{HasAnswerFault, HasEndedShapeFault, HasModelFault, IsModelFault, IsUnended}
 use Rattle.heesch_exchange.specs.Formulas.{HasFormulaFault, HasSecondLine, HasShapeFault}
 use Rattle.heesch_exchange.specs.Shapes.{IsEndless, IsShapeFault}
-use Rattle.heesch_exchange.proofs.NoFault.{ended_not_unended, ended_some, faultless, no_shape_fault, not_endless, one_count, one_line}
+use Rattle.heesch_exchange.proofs.FirstLines.{as_line, not_endless, one_line}
+use Rattle.heesch_exchange.proofs.NoFault.{ended_not_unended, ended_some, faultless, no_shape_fault, one_count}
 use Rattle.heesch_exchange.proofs.OneModelFault.{one_model_fault}
-use Rattle.heesch_exchange.proofs.Told.{as_line}
 
 -- ---- the line of the shape
 

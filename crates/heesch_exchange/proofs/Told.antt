@@ -32,7 +32,7 @@ use Rattle.heesch_text.specs.Catalogue.{coronas_text}
 use Rattle.heesch_exchange.specs.Answers.{HasEndedLine, IsAnswer, IsAnswerStop, IsModelStop, IsUnended, TellsCoronas, TellsFalse}
 use Rattle.heesch_exchange.specs.Formulas.{IsFormula, IsFormulaStop, HasSecondLine}
 use Rattle.heesch_given.specs.Given.{IsShapeLine}
-use Rattle.heesch_exchange.specs.Shapes.{HasFirstLine, HasFormula, IsInTime, IsLineStop, IsShapeStop, IsTimeStop, EncodesLine}
+use Rattle.heesch_exchange.specs.Shapes.{HasFirstLine, HasFormula, IsInTime, IsLineStop, IsShapeStop, EncodesLine}
 
 -- ---- empty texts
 
@@ -43,6 +43,16 @@ not_empty (x ∷ xs) b is f = λ e. cc
 pub empty_is : (xs : List ℕ) (b : Bool) → b ≡ (length xs == 0) → b ≡ true → xs ≡ []
 empty_is [] b is t = refl
 empty_is (x ∷ xs) b is t = let none : length (x ∷ xs) ≡ 0 = eqb-true (length (x ∷ xs)) 0 (sym is ∙ t) in absurd (omega arith)
+
+-- ---- the first line that doesn't end in time
+
+-- it is told of an input to `formula`
+pub formula_late : (most : ℕ) (version : Version) (g : Geometry) (j size : ℕ) (input line behind : List ℕ) → HasFirstLine input line behind → (IsInTime most input line → ⊥) → IsFormulaStop most version g j size input (Fault 1 8)
+formula_late most version g j size input line behind first late = inr (inl (record { line = line; behind = behind; first = first; late = late }, refl, refl))
+
+-- and of one to `answer`
+pub answer_late : (most : ℕ) (version : Version) (g : Geometry) (j size : ℕ) (input line behind : List ℕ) → HasFirstLine input line behind → (IsInTime most input line → ⊥) → IsAnswerStop most version g j size input (Fault 1 8)
+answer_late most version g j size input line behind first late = inr (inl (record { line = line; behind = behind; first = first; late = late }, refl, refl))
 
 -- ---- the line of the shape
 
@@ -73,11 +83,6 @@ module _ (version : Version) (g : Geometry) (j size : ℕ) (line : List ℕ) whe
   }, one)))
   formula_stop most input behind some first in_time NoMemory _ = tt
 
-  -- and so is it that the line doesn't end in time
-  pub formula_late : (most : ℕ) (input behind : List ℕ) → HasFirstLine input line behind → (stop : LineStop ℕ) → IsTimeStop most input line stop → IsFormulaStop most version g j size input stop
-  formula_late most input behind first (Fault at number) (one, eight, late) = inr (inl (record { line = line; behind = behind; first = first; late = late }, one, eight))
-  formula_late most input behind first NoMemory no = absurd no
-
   -- and of one to `answer`
   pub answer_stop : (most : ℕ) (input model : List ℕ) → HasEndedLine input line model → IsInTime most input line → (stop : LineStop ℕ) → IsShapeStop version g j size line stop → IsAnswerStop most version g j size input stop
   answer_stop most input model ended in_time (Fault at number) (one, fault) = inr (inr (inr (inl (record {
@@ -88,11 +93,6 @@ module _ (version : Version) (g : Geometry) (j size : ℕ) (line : List ℕ) whe
     fault = fault;
   }, one))))
   answer_stop most input model ended in_time NoMemory _ = tt
-
-  -- and that the line doesn't end in time
-  pub answer_late : (most : ℕ) (input behind : List ℕ) → HasFirstLine input line behind → (stop : LineStop ℕ) → IsTimeStop most input line stop → IsAnswerStop most version g j size input stop
-  answer_late most input behind first (Fault at number) (one, eight, late) = inr (inl (record { line = line; behind = behind; first = first; late = late }, one, eight))
-  answer_late most input behind first NoMemory no = absurd no
 
   -- its formula, over a universe of its shape
   pub encodes : (shape : List Cell) (u : Levels) (count : ℕ) (clauses : List (List Lit)) → u.shape ≡ shape → u.level ≡ j → IsShapeLine g line shape → IsCountedFormula version g shape j u.vars count clauses → formula_size clauses ≤ size
@@ -159,14 +159,6 @@ tells_coronas g shape j vars v clauses layers text satisfies spelled coronas is 
 -- it has one line, without its newline
 pub unended : (most : ℕ) (version : Version) (g : Geometry) (j size : ℕ) (input : List ℕ) → input ≢ [] → HasNoNewline input → IsInTime most input input → IsAnswerStop most version g j size input (Fault 1 6)
 unended most version g j size input some whole in_time = inr (inr (inl (record { some = some; whole = whole; in_time = in_time }, refl, refl)))
-
--- such an input is its first line
-pub alone : (input : List ℕ) → HasNoNewline input → HasFirstLine input input []
-alone input whole = record { whole = whole; text = inr (refl, refl) }
-
--- and a line that ends is a first line
-pub as_line : (input line model : List ℕ) → HasEndedLine input line model → HasFirstLine input line model
-as_line input line model ended = record { whole = ended.whole; text = inl ended.text }
 
 module _ (most : ℕ) (version : Version) (g : Geometry) (j size : ℕ) (input line model : List ℕ) (ended : HasEndedLine input line model) (in_time : IsInTime most input line) (encoded : HasFormula version g j size line) where
   -- the fault of the model text is told

@@ -63,11 +63,6 @@ abbrev pub IsLineStop : Geometry → List ℕ → LineStop ℕ → Type 0
 IsLineStop g line (Fault at number) = (at ≡ 1) × IsLineFault g line number
 IsLineStop g line NoMemory = ⊤
 
--- the line ends in time, or it has fault 8
-abbrev pub IsTimeStop : (most : ℕ) (input line : List ℕ) → LineStop ℕ → Type 0
-IsTimeStop most input line (Fault at number) = (at ≡ 1) × (number ≡ 8) × (IsInTime most input line → ⊥)
-IsTimeStop most input line NoMemory = ⊥
-
 -- the first line isn't cells, unless memory was refused
 abbrev pub IsCellsStop : List ℕ → LineStop ℕ → Type 0
 IsCellsStop line (Fault at number) = (at ≡ 1) × (number ≡ 6) × IsNoLine line

@@ -5,7 +5,7 @@ ghost use Rattle.heesch_exchange.specs.Answers.{IsAnswer, IsAnswerStop, false_te
 
 use crate::asked::Asked;
 use crate::model::values_of;
-use crate::shapes::{encode_line, ends_in_time};
+use crate::shapes::{TOO_LONG, encode_line, first_line, is_late};
 use heesch_cnf::Version;
 use heesch_dimacs::{cut_line, first_false};
 use heesch_grid::{Grid, GridName};
@@ -68,14 +68,18 @@ fn answer_of<G: Grid>(alloc: Global, asked: Asked, input: &[u8]) -> Result<Vec<u
             fault: NO_LINE,
         });
     }
+    if is_late(asked.most, input, first_line(input).0) {
+        return Err(LineStop::Fault {
+            line: 1,
+            fault: TOO_LONG,
+        });
+    }
     let Some((line, model)) = cut_line(input) else {
-        ends_in_time(asked.most, input, input)?;
         return Err(LineStop::Fault {
             line: 1,
             fault: NOT_ENDED,
         });
     };
-    ends_in_time(asked.most, input, line)?;
     let encoded = encode_line::<G>(alloc, line, asked)?;
     let values = values_of(alloc, model, encoded.formula.vars())?;
     let mut text = Vec::new(alloc);

@@ -1,13 +1,12 @@
 //! The answer to `formula`.
 ghost use Rattle.std.specs.Prelude.{◌≡◌, ◌≤◌, IfOk, IfErr};
 ghost use Rattle.heesch_grid.specs.Names.{geometry_of};
-ghost use Rattle.heesch_exchange.specs.Shapes.{HasFirstLine};
 ghost use Rattle.heesch_exchange.specs.Formulas.{IsFormula, IsFormulaStop};
 
 use crate::asked::Asked;
-use crate::shapes::{encode_line, ends_in_time};
+use crate::shapes::{TOO_LONG, encode_line, first_line, is_late};
 use heesch_cnf::Version;
-use heesch_dimacs::{cut_line, write_flat_cnf};
+use heesch_dimacs::write_flat_cnf;
 use heesch_grid::{Grid, GridName};
 use heesch_kite::on_grid;
 use heesch_line::LineStop;
@@ -60,7 +59,12 @@ fn formula_of<G: Grid>(alloc: Global, asked: Asked, input: &[u8]) -> Result<Vec<
         });
     }
     let (line, behind) = first_line(input);
-    ends_in_time(asked.most, input, line)?;
+    if is_late(asked.most, input, line) {
+        return Err(LineStop::Fault {
+            line: 1,
+            fault: TOO_LONG,
+        });
+    }
     let encoded = encode_line::<G>(alloc, line, asked)?;
     if !behind.is_empty() {
         return Err(LineStop::Fault {
@@ -71,14 +75,4 @@ fn formula_of<G: Grid>(alloc: Global, asked: Asked, input: &[u8]) -> Result<Vec<
     let mut text = Vec::new(alloc);
     write_flat_cnf(&encoded.formula, &mut text)?;
     Ok(text)
-}
-
-/// The first line without its newline, and the bytes behind it.
-fn first_line(input: &[u8]) -> (&[u8], &[u8])
-    ensures { HasFirstLine input.now result.0.now result.1.now }
-{
-    match cut_line(input) {
-        Some(parts) => parts,
-        None => input.split_at(input.len()),
-    }
 }
