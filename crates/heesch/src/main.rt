@@ -2,7 +2,7 @@
 //! catalogue of the free polyforms of N cells.
 #![tactic(auto)]
 
-ghost use Rattle.std.specs.Prelude.{◌≡◌, Ok, Err, map, string_bytes, IfErr, IfOk, IsOk, MatchResult};
+ghost use Rattle.std.specs.Prelude.{◌≡◌, map, string_bytes, IfErr, IfOk, IsOk, MatchResult};
 ghost use Rattle.std.specs.Process.{exit_status};
 ghost use Rattle.heesch_app.specs.declared.status.Status.{Status as StatusOf};
 ghost use Rattle.heesch_app.specs.Statuses.{status_number};
@@ -24,10 +24,11 @@ fn main(rt: HostRuntime) -> ExitCode {
     end(&rt, alloc, words(alloc, env::args(&rt)), source, sink)
 }
 
-/// The arguments without the program's name, or the status where they can't be had: `Usage` where one isn't UTF-8, and
-/// `NoMemory` where memory was refused.
+/// The arguments without the program's name, or the status where they can't be had: `Usage` where one isn't UTF-8,
+/// and `NoMemory` where memory was refused.
 fn words(alloc: Global, args: io::Result<Args>) -> Result<Vec<String>, Status>
-    ensures had { IfOk args (λ all. MatchResult result (λ words. AreWords all words.items) (λ status. status ≡ Status.NoMemory)) }
+    ensures had { IfOk args (λ all.
+        MatchResult result (λ words. AreWords all words.items) (λ status. status ≡ Status.NoMemory)) }
     ensures missing { IfErr args (λ error. IfErr result (IsMissing error)) }
     ensures told { IfOk result (λ words. IsOk args) }
 {
@@ -52,8 +53,8 @@ fn all_words(alloc: Global, args: Args) -> Result<Vec<String>, Status>
     }
 }
 
-/// Runs over the words, and ends with the number of the run's status; of its own status where there are no words, and of
-/// `NoMemory` where there is no source or no sink.
+/// Runs over the words, and ends with the number of the run's status; with that of the status that stands in place of the
+/// words, and with that of `NoMemory` where there is no source or no sink.
 fn end<T: Threads + Sync, R: Source + Drop, W: Sink + Drop>(
     rt: &T,
     alloc: Global,
@@ -87,7 +88,8 @@ fn end_of_run<T: Threads + Sync, R: Source, W: Sink>(
     sink: &mut W,
 ) -> ExitCode
     ensures { (status : StatusOf) × (exit_status result ≡ status_number status)
-        × HasRun R.left R.faults W.held W.faults (map string_bytes words.now) source.old source.new sink.old sink.new status }
+        × HasRun R.left R.faults W.held W.faults (map string_bytes words.now)
+            source.old source.new sink.old sink.new status }
 {
     let status = run(rt, alloc, words, source, sink, &Open);
     exit_code(status)

@@ -31,8 +31,8 @@ pub enum Exchange {
     Answer,
 }
 
-/// What is asked of the source's bytes, or their first fault. Of a longer input than is read only fault 8 is told; else
-/// memory for it is wanting.
+/// What is asked of the source's bytes, or their first fault. Of a longer input than is read only fault 8 is told;
+/// else memory for it is wanting.
 pub fn exchange_reply<R: Source>(
     alloc: Global,
     asked: Exchange,

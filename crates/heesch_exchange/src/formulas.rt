@@ -18,11 +18,11 @@ const NOT_ONE_LINE: u32 = 13;
 /// The clause text of the corona formula of a level and a version, of the shape whose cells are the one line of the
 /// input. The line's newline may be missing. `MOST` is the most bytes that are read of an input.
 ///
-/// Condition: the level is 1 to 6, the size 1 to 60,000,000. `Fault` has the first line at fault, from 1, and the number
-/// of its fault: 13 where it is missing or one too many; 8 where it doesn't end within `MOST` bytes and the input goes on
-/// beyond them, and else 6 where it isn't cells; 1 to 5 where its cells are no shape; 14 where the shape's formula is too
-/// large. In one line 13 comes before 8 and 6, 6 before 1 to 5, and 14 last. 14 comes exactly where the formula has more
-/// than `size` literals. The cost is that of `encode_flat` and of the text.
+/// Condition: the level is 1 to 6, the size 1 to 60,000,000. `Fault` has the first line at fault, from 1, and the
+/// number of its fault: 13 where it is missing or one too many; 8 where it doesn't end within `MOST` bytes and the
+/// input goes on beyond them, and else 6 where it isn't cells; 1 to 5 where its cells are no shape; 14 where the
+/// shape's formula is too large. In one line 13 comes before 8 and 6, 6 before 1 to 5, and 14 last. 14 comes exactly
+/// where the formula has more than `size` literals. The cost is that of `encode_flat` and of the text.
 pub fn formula<const MOST: u64>(
     alloc: Global,
     grid: GridName,

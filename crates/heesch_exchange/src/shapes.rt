@@ -24,8 +24,8 @@ pub const TOO_LONG: u32 = 8;
 /// The fault of a line whose shape's formula is too large.
 const TOO_LARGE: u32 = 14;
 
-/// Whether each input that begins with these bytes has fault 8, however it goes on: their first line doesn't end within
-/// the first `MOST` of them, and there are more. It takes no memory; the cost is the line's length.
+/// Whether each input that begins with these bytes has fault 8, however it goes on: their first line doesn't end
+/// within the first `MOST` of them, and there are more. It takes no memory; the cost is the line's length.
 pub fn is_endless<const MOST: u64>(front: &[u8]) -> bool
     ensures endless { result ≡ true → (rest : List ℕ) → IsEndless MOST (front.now ++ rest) }
     ensures ends { result ≡ false → IsEndless MOST front.now → ⊥ }

@@ -59,8 +59,8 @@ impl Drop for Hold {
     }
 }
 
-/// Two workers audit five entries, each once: one of them comes to another entry while the gate holds the first. One worker
-/// alone lets the gate expire.
+/// Two workers audit five entries, each once: one of them comes to another entry while the gate holds the first. One
+/// worker alone lets the gate expire.
 #[test]
 fn check_uses_its_workers_and_its_gate(rt: HostRuntime) -> Result<(), Fail> {
     let alloc = rt.alloc();
