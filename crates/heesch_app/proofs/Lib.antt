@@ -2,6 +2,7 @@ mod Beginnings
 mod CatalogueEndings
 mod Consumed
 mod Endings
+mod Fronts
 mod GivenLists
 mod Headline
 mod OuterOutputs

@@ -1,10 +1,12 @@
 -- What is told of an exchange, and what was written of it.
-use Rattle.std.proofs.Common.{◌≡◌, ◌⊎◌, ℕ, List, Vec, Global, sym, subst, inl, inr}
+use Rattle.std.proofs.Common.{◌≡◌, ◌≤◌, ◌∙◌, ◌⊎◌, ℕ, List, ◌++◌, length, Vec, Global, refl, sym, subst, inl, inr}
 use Rattle.std.specs.Prelude.{Option, Result, Ok, Err, IfOk, IfErr, MatchResult}
 use Rattle.heesch_cnf.specs.declared.version.Version.{Version}
 use Rattle.heesch_line.specs.declared.stops.LineStop.{LineStop}
 use Rattle.heesch_line.specs.declared.stops.LineStop.TheVariants.{Fault, NoMemory}
+use Rattle.heesch_exchange.specs.Shapes.{IsEndless}
 use Rattle.heesch_grid.specs.declared.GridName.{GridName}
+use Rattle.heesch_grid.specs.Geometry.{Geometry}
 use Rattle.heesch_grid.specs.Names.{geometry_of}
 use Rattle.heesch_io.specs.declared.fault.IoStop.{IoStop}
 use Rattle.heesch_io.specs.Input.{IsAllOf}
@@ -13,10 +15,14 @@ use Rattle.heesch_words.specs.Requests.{Asks}
 use Rattle.heesch_app.specs.declared.reply.Reply.{Reply}
 use Rattle.heesch_app.specs.declared.status.Status.{Status}
 use Rattle.heesch_app.specs.declared.status.Status.TheVariants.{Done, BadInput}
-use Rattle.heesch_app.specs.Exchanges.{IsFaultTold, WritesFormula, WritesAnswer}
-use Rattle.heesch_app.specs.Inputs.{bad_input_text}
+use Rattle.heesch_app.specs.declared.exchanges.Exchange.{Exchange}
+use Rattle.heesch_app.specs.declared.exchanges.Exchange.TheVariants.{Formula, Answer}
+use Rattle.heesch_app.specs.Exchanges.{IsExchangeAnswer, IsFaultTold, WritesFormula, WritesAnswer}
+use Rattle.heesch_stream.specs.Taking.{input_max}
+use Rattle.heesch_app.specs.Inputs.{IsFrontOf, bad_input_text}
 use Rattle.heesch_app.specs.Outputs.{OfInput, Writes}
 use Rattle.heesch_app.proofs.Endings.{asked_output}
+use Rattle.heesch_app.proofs.Fronts.{split_front, whole_front}
 
 -- the text, which is as wanted, with the status Done, or the line of the fault
 told : {V : Type 0} (items : V → List ℕ) (P : List ℕ → Type 0) (Q : LineStop ℕ → Type 0) (text : Result V (LineStop ℕ)) (status : Status) (written : V)
@@ -28,11 +34,39 @@ told items P Q (Err NoMemory) status written _ _ none = absurd none
 
 -- what is told of all bytes that the source had left
 pub told_of_input : (P : List ℕ → List ℕ → Type 0) (Q : List ℕ → LineStop ℕ → Type 0) (left : Option (List ℕ)) (bytes input : List ℕ) (text : Result (Vec ℕ Global) (LineStop ℕ)) (reply : Result Reply IoStop)
-    → IsAllOf left bytes → input ≡ bytes → IfOk text (λ t. P input t.items) → IfErr text (Q input)
+    → IsFrontOf left bytes → input ≡ bytes → length bytes ≤ input_max → IfOk text (λ t. P input t.items) → IfErr text (Q input)
     → IfOk reply (λ r. MatchResult text (λ t. (r.status ≡ Done) × (r.text ≡ t)) (λ stop. IsFaultTold stop r.status r.text.items))
-    → IfOk reply (λ r. OfInput left (λ i. ((r.status ≡ Done) × P i r.text.items) ⊎ ((r.status ≡ BadInput) × ((line : ℕ) × (number : ℕ) × Q i (Fault line number) × (r.text.items ≡ bad_input_text line number)))))
-told_of_input P Q left bytes input text (Ok r) all same ok stop is = (input, subst (λ i. IsAllOf left i) (sym same) all, told (λ v. v.items) (P input) (Q input) text r.status r.text ok stop is)
-told_of_input P Q left bytes input text (Err e) all same ok stop is = tt
+    → IfOk reply (λ r. OfInput left (λ i. ((r.status ≡ Done) × (length i ≤ input_max) × P i r.text.items) ⊎ ((r.status ≡ BadInput) × ((line : ℕ) × (number : ℕ) × Q i (Fault line number) × (r.text.items ≡ bad_input_text line number)))))
+told_of_input P Q left bytes input text (Ok r) front same few ok stop is =
+    let short : length input ≤ input_max = subst (λ i. length i ≤ input_max) (sym same) few in
+    (input, subst (λ i. IsAllOf left i) (sym same) (whole_front left bytes front few), told (λ v. v.items) (λ t. (length input ≤ input_max) × P input t) (Q input) text r.status r.text (both text ok short) stop is)
+  where
+    both : (text : Result (Vec ℕ Global) (LineStop ℕ)) → IfOk text (λ t. P input t.items) → length input ≤ input_max → IfOk text (λ t. (length input ≤ input_max) × P input t.items)
+    both (Ok t) is short = (short, is)
+    both (Err e) is short = tt
+told_of_input P Q left bytes input text (Err e) front same few ok stop is = tt
+
+-- what is told of a front whose first line doesn't end in time
+pub told_endless : (asked : Exchange) (version : Version) (g : Geometry) (level size : ℕ) (left : Option (List ℕ)) (bytes front : List ℕ) (reply : Result Reply IoStop) → IsFrontOf left bytes → front ≡ bytes
+    → ((rest : List ℕ) → IsEndless input_max (front ++ rest)) → IfOk reply (λ r. r.status ≡ BadInput) → IfOk reply (λ r. r.text.items ≡ bad_input_text 1 8)
+    → IfOk reply (λ r. OfInput left (IsExchangeAnswer asked version g level size r.status r.text.items))
+told_endless Formula version g level size left bytes front (Ok r) is same endless bad text =
+    let (rest, all) = split_front left bytes is in
+    (bytes ++ rest, all, inr (bad, (1, 8, inr (inl (subst (λ t. IsEndless input_max (t ++ rest)) same (endless rest), refl, refl)), text)))
+told_endless Answer version g level size left bytes front (Ok r) is same endless bad text =
+    let (rest, all) = split_front left bytes is in
+    (bytes ++ rest, all, inr (bad, (1, 8, inr (inl (subst (λ t. IsEndless input_max (t ++ rest)) same (endless rest), refl, refl)), text)))
+told_endless asked version g level size left bytes front (Err e) is same endless bad text = tt
+
+-- a reply that tells a fault isn't Done
+pub bad_not_done : (P : Type 0) (reply : Result Reply IoStop) → IfOk reply (λ r. r.status ≡ BadInput) → IfOk reply (λ r. r.status ≡ Done → P)
+bad_not_done P (Ok r) bad = λ done. absurd (let no : BadInput ≡ Done = sym bad ∙ done in cc)
+bad_not_done P (Err e) bad = tt
+
+-- what holds anyhow holds where a reply is Done
+pub done_anyhow : (P : Type 0) (reply : Result Reply IoStop) → P → IfOk reply (λ r. r.status ≡ Done → P)
+done_anyhow P (Ok r) is = λ done. is
+done_anyhow P (Err e) is = tt
 
 -- of what is told with Done
 told_done : {P Q : Type 0} → ((Done ≡ Done) × P) ⊎ ((Done ≡ BadInput) × Q) → P
@@ -44,11 +78,11 @@ pub writes_formula : (words : List (List ℕ)) (left old new : Option (List ℕ)
     → Asks words (FormulaRequest grid level size version) → Writes words left Done old new → WritesFormula version (geometry_of grid) level size left old new
 writes_formula words left old new grid level size version asks (text, is, appends) =
     let (input, all, says) = asked_output words (FormulaRequest grid level size version) left Done text asks is in
-    (input, text, all, told_done says, appends)
+    (input, text, all, (told_done says).0, (told_done says).1, appends)
 
 -- where they ask for what a model says, so is what was written
 pub writes_answer : (words : List (List ℕ)) (left old new : Option (List ℕ)) (grid : GridName) (level size : ℕ) (version : Version)
     → Asks words (AnswerRequest grid level size version) → Writes words left Done old new → WritesAnswer version (geometry_of grid) level size left old new
 writes_answer words left old new grid level size version asks (text, is, appends) =
     let (input, all, says) = asked_output words (AnswerRequest grid level size version) left Done text asks is in
-    (input, text, all, told_done says, appends)
+    (input, text, all, (told_done says).0, (told_done says).1, appends)

@@ -80,10 +80,9 @@ Reads JoinRequest = ⊤
 Reads (OuterRequest grid Given limits workers) = ⊤
 Reads _ = ⊥
 
--- the request reads to the end what the source has left, as each that reads does but `check` and `table`
+-- the request reads to the end what the source has left, as each that reads does but `check`
 abbrev pub ReadsToEnd : Request → Type 0
 ReadsToEnd (CheckRequest workers) = ⊥
-ReadsToEnd TableRequest = ⊥
 ReadsToEnd request = Reads request
 
 -- what the request asks for is one text, which is put at once; a catalogue, a share of one and an outer text are written as they are made

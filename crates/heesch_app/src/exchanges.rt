@@ -1,5 +1,5 @@
 //! The answers to `formula` and `answer`.
-ghost use Rattle.std.specs.Prelude.{◌≡◌, ◌≢◌, ◌≤◌, Err, IfOk, IsOk, OnOk, MatchResult};
+ghost use Rattle.std.specs.Prelude.{◌≡◌, ◌≢◌, ◌≤◌, Err, IfOk, IsOk, MatchResult};
 ghost use Rattle.std.specs.Io.KnownBytes.{IsAtEnd};
 ghost use Rattle.heesch_grid.specs.Names.{geometry_of};
 ghost use Rattle.heesch_io.specs.Causes.{Rose};
@@ -9,14 +9,18 @@ ghost use Rattle.heesch_app.specs.Exchanges.{IsExchangeAnswer, IsFaultTold};
 
 use crate::Status;
 use crate::bad_input::bad_input;
-use crate::reading::read_all;
+use crate::reading::read_front;
 use crate::reply::Reply;
 use heesch_cnf::Version;
-use heesch_exchange::{answer, formula};
+use heesch_exchange::{answer, formula, is_endless};
 use heesch_grid::GridName;
 use heesch_io::{IoStop, Source};
 use heesch_line::LineStop;
+use heesch_stream::INPUT_MAX;
 use std::alloc::Global;
+
+/// The fault of a first line on which the input goes on beyond the most bytes that are read.
+const TOO_LONG: u32 = 8;
 
 /// What is asked of a source's bytes, which begin with the line of a shape.
 #[derive(Clone, Copy)]
@@ -27,7 +31,8 @@ pub enum Exchange {
     Answer,
 }
 
-/// What is asked of the source's bytes, or their first fault.
+/// What is asked of the source's bytes, or their first fault. Of a longer input than is read only fault 8 is told;
+/// else memory for it is wanting.
 pub fn exchange_reply<R: Source>(
     alloc: Global,
     asked: Exchange,
@@ -40,14 +45,26 @@ pub fn exchange_reply<R: Source>(
     requires level { (1 ≤ level) × (level ≤ 6) }
     requires size { (1 ≤ size) × (size ≤ 60000000) }
     ensures ok { IfOk result (λ r. OfInput (R.left source.old) (IsExchangeAnswer asked version (geometry_of grid) level size r.status r.text.items)) }
-    ensures ended { OnOk result (IsAtEnd (R.left source.new)) }
+    ensures ended { IfOk result (λ r. r.status ≡ Status.Done → IsAtEnd (R.left source.new)) }
     ensures consumed { ConsumesSome (R.left source.old) (R.left source.new) }
     ensures failed { result ≡ Err IoStop.Failed → Rose (R.faults source.old) (R.faults source.new) }
 {
-    let input = read_all(alloc, source)?;
+    let input = read_front(alloc, source)?;
+    if input.len() as u64 > INPUT_MAX {
+        if !is_endless::<INPUT_MAX>(&input) {
+            return Err(IoStop::NoMemory);
+        }
+        return bad_input(alloc, 1, TOO_LONG);
+    }
     match asked {
-        Exchange::Formula => told(alloc, formula(alloc, grid, level, size, version, &input)),
-        Exchange::Answer => told(alloc, answer(alloc, grid, level, size, version, &input)),
+        Exchange::Formula => {
+            let text = formula::<INPUT_MAX>(alloc, grid, level, size, version, &input);
+            told(alloc, text)
+        }
+        Exchange::Answer => {
+            let text = answer::<INPUT_MAX>(alloc, grid, level, size, version, &input);
+            told(alloc, text)
+        }
     }
 }
 

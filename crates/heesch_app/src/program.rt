@@ -60,7 +60,7 @@ pub fn run<T: Threads + Sync, R: Source, W: Sink, H: Gate + Sync>(
     // Whatever the status, the source gave some bytes, from the first on, or none.
     ensures consumed { ConsumesSome (R.left source.old) (R.left source.new) }
 
-    // A form that reads shapes or a model reads them to the end of the source before it ends Done.
+    // Each form that reads, but `check`, has read the source to its end where it ends Done.
     ensures read_to_end { result ≡ Status.Done → (request : RequestOf) → Asks (map string_bytes words.now) request
         → ReadsToEnd request → IsAtEnd (R.left source.new) }
 

@@ -1,30 +1,33 @@
-//! All bytes of a source.
-ghost use Rattle.std.specs.Prelude.{◌≡◌, ◌≤◌, Err, IfOk, OnOk};
+//! The bytes of a source, as many as are read.
+ghost use Rattle.std.specs.Prelude.{◌≡◌, ◌≤◌, Err, IfOk, length};
 ghost use Rattle.std.specs.Io.KnownBytes.{IsAtEnd};
 ghost use Rattle.heesch_io.specs.Causes.{Rose};
-ghost use Rattle.heesch_io.specs.Input.{IsAllOf};
-ghost use Rattle.heesch_app.specs.Inputs.{ConsumesSome};
+ghost use Rattle.heesch_stream.specs.Taking.{input_max};
+ghost use Rattle.heesch_app.specs.Inputs.{ConsumesSome, IsFrontOf};
 
 use heesch_io::{IoStop, Source};
+use heesch_stream::INPUT_MAX;
 use std::alloc::Global;
 
-/// The most bytes that are read. Memory for more is never there.
-const INPUT_MAX: usize = 1_099_511_627_776;
+/// The most bytes of a piece.
+const PIECE_MAX: usize = 4096;
 
-/// All bytes that the source has left. At an error some of them were read, from the first on. `NoMemory` comes where memory
-/// was refused, or the input has `INPUT_MAX` bytes or more. The cost is linear in their number.
+/// The bytes that the source has left: all of them, or where they are more than `INPUT_MAX`, the first `INPUT_MAX` and
+/// one more, which shows that the input is longer. At an error some of them were read, from the first on. `NoMemory`
+/// comes where memory was refused. The cost is linear in their number.
 #[tactic(auto, using(crate::proofs::Consumed::kept_consumed, crate::proofs::Consumed::more_consumed))]
-pub fn read_all<R: Source>(alloc: Global, source: &mut R) -> Result<Vec<u8>, IoStop>
-    ensures ok { IfOk result (λ bytes. IsAllOf (R.left source.old) bytes.items) }
-    ensures ended { OnOk result (IsAtEnd (R.left source.new)) }
+pub fn read_front<R: Source>(alloc: Global, source: &mut R) -> Result<Vec<u8>, IoStop>
+    ensures ok { IfOk result (λ bytes. IsFrontOf (R.left source.old) bytes.items) }
+    ensures ended { IfOk result (λ bytes. length bytes.items ≤ input_max → IsAtEnd (R.left source.new)) }
     ensures consumed { ConsumesSome (R.left source.old) (R.left source.new) }
     ensures failed { result ≡ Err IoStop.Failed → Rose (R.faults source.old) (R.faults source.new) }
     ensures later { R.faults source.old ≤ R.faults source.new }
 {
     let mut bytes = Vec::new(alloc);
-    let mut piece = [0; 4096];
-    while bytes.len() < INPUT_MAX {
-        let Ok(count) = source.read(&mut piece) else {
+    let mut piece = [0; PIECE_MAX];
+    while bytes.len() as u64 <= INPUT_MAX {
+        let room = (INPUT_MAX + 1 - bytes.len() as u64).min(PIECE_MAX as u64) as usize;
+        let Ok(count) = source.read(&mut piece[..room]) else {
             return Err(IoStop::Failed);
         };
         if count == 0 {
@@ -34,5 +37,5 @@ pub fn read_all<R: Source>(alloc: Global, source: &mut R) -> Result<Vec<u8>, IoS
             return Err(IoStop::NoMemory);
         }
     }
-    Err(IoStop::NoMemory)
+    Ok(bytes)
 }

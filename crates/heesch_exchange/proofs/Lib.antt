@@ -1,3 +1,6 @@
+pub mod FirstLines
 pub mod NoFault
+pub mod OneFault
+pub mod OneModelFault
 pub mod ShapeLines
 pub mod Told

@@ -23,32 +23,26 @@ use Rattle.heesch_dimacs.specs.Stops.{Stops}
 use Rattle.heesch_dimacs.proofs.Bytes.{cut_same}
 use Rattle.heesch_line.proofs.OneList.{cells_tell}
 use Rattle.heesch_shape.specs.Faults.{IsFault}
-use Rattle.heesch_exchange.specs.Answers.{HasEndedLine, IsAnswer, HasAnswerFault, IsModelFault}
+use Rattle.heesch_exchange.specs.Answers.{HasEndedLine, IsAnswer, HasAnswerFault, IsModelFault, IsUnended}
 use Rattle.heesch_exchange.specs.Formulas.{IsFormula, HasFormulaFault}
 use Rattle.heesch_given.specs.Given.{IsShapeLine, IsLineFault}
-use Rattle.heesch_exchange.specs.Shapes.{HasFirstLine, HasFormula, IsShapeFault}
+use Rattle.heesch_exchange.proofs.FirstLines.{as_line, not_endless, one_line}
+use Rattle.heesch_exchange.specs.Shapes.{HasFirstLine, HasFormula, IsEndless, IsInTime, IsShapeFault}
 
 -- ---- the first line
 
--- an input with a first line has one alone
-one_line : (input a b line behind : List ℕ) → HasFirstLine input a b → HasFirstLine input line behind → (a ≡ line) × (b ≡ behind)
-one_line input a b line behind x y = by x.text y.text
+-- a line that ends is something
+pub ended_some : (input line model : List ℕ) → HasEndedLine input line model → input ≢ []
+ended_some input line model ended empty = not_empty line (sym ended.text ∙ empty)
   where
-    by : (input ≡ a ++ 10 ∷ b) ⊎ ((input ≡ a) × (b ≡ [])) → (input ≡ line ++ 10 ∷ behind) ⊎ ((input ≡ line) × (behind ≡ [])) → (a ≡ line) × (b ≡ behind)
-    by (inl p) (inl q) =
-        let both = cut_same 10 a (10 ∷ b) line (10 ∷ behind) x.whole y.whole refl refl (sym p ∙ q) in
-        (both.0, let same = both.1 in cc)
-    by (inl p) (inr q) =
-        let both = cut_same 10 a (10 ∷ b) line [] x.whole y.whole refl tt (sym p ∙ q.0 ∙ sym (append-nil line)) in
-        absurd (let same = both.1 in cc)
-    by (inr p) (inl q) =
-        let both = cut_same 10 a [] line (10 ∷ behind) x.whole y.whole tt refl (append-nil a ∙ sym p.0 ∙ q) in
-        absurd (let same = both.1 in cc)
-    by (inr p) (inr q) = (sym p.0 ∙ q.0, p.1 ∙ sym q.1)
+    not_empty : (line : List ℕ) → line ++ 10 ∷ model ≢ []
+    not_empty [] is = cc
+    not_empty (b ∷ line) is = cc
 
--- a line that ends is a first line
-as_first : (input line model : List ℕ) → HasEndedLine input line model → HasFirstLine input line model
-as_first input line model ended = record { whole = ended.whole; text = inl ended.text }
+-- what has a line that ends isn't one without its newline
+pub ended_not_unended : (most : ℕ) (input line model : List ℕ) → HasEndedLine input line model → IsUnended most input → ⊥
+ended_not_unended most input line model ended u =
+    absurd (let same = (cut_same 10 line (10 ∷ model) input [] ended.whole u.whole refl tt (sym ended.text ∙ sym (append-nil input))).1 in cc)
 
 module _ (g : Geometry) (line : List ℕ) where
   -- a line has the shape of one canonical list
@@ -62,7 +56,7 @@ module _ (g : Geometry) (line : List ℕ) where
       one_canonical_list g q.shape a b (subst (λ (s : List Cell). IsCanonicalListOf g s a) shapes p.is_canonical) q.is_canonical
 
   -- the line of a shape has no fault by itself
-  faultless : (shape : List Cell) (number : ℕ) → IsShapeLine g line shape → IsLineFault g line number → ⊥
+  pub faultless : (shape : List Cell) (number : ℕ) → IsShapeLine g line shape → IsLineFault g line number → ⊥
   faultless shape number x (inr (none, _)) = none x.cells x.are_cells x.text
   faultless shape number x (inl f) =
       let cells : f.cells ≡ x.cells = cells_tell f.cells x.cells f.are_cells x.are_cells (sym f.text ∙ x.text) in
@@ -73,7 +67,7 @@ module _ (g : Geometry) (line : List ℕ) where
     polyform = let p = encoded.is_shape.is_canonical in image_polyform g law p.shape encoded.shape p.polyform p.is_canonical.is_image
 
     -- nor one by its formula, where that fits
-    no_shape_fault : (number : ℕ) → IsShapeFault version g j size line number → ⊥
+    pub no_shape_fault : (number : ℕ) → IsShapeFault version g j size line number → ⊥
     no_shape_fault number (inl f) = faultless encoded.shape number encoded.is_shape f
     no_shape_fault number (inr (large, _)) =
         let same : large.shape ≡ encoded.shape = one_shape large.shape encoded.shape large.is_shape encoded.is_shape in
@@ -83,7 +77,7 @@ module _ (g : Geometry) (line : List ℕ) where
         omega (arith, above, fits)
 
     -- a formula of the same line has as many variables
-    one_count : (other : List Cell) (vars : List Variable) (count : ℕ) (clauses : List (List Lit)) → IsShapeLine g line other → IsCountedFormula version g other j vars count clauses → encoded.count ≡ count
+    pub one_count : (other : List Cell) (vars : List Variable) (count : ℕ) (clauses : List (List Lit)) → IsShapeLine g line other → IsCountedFormula version g other j vars count clauses → encoded.count ≡ count
     one_count other vars count clauses is_other formula_too =
         let same : other ≡ encoded.shape = one_shape other encoded.shape is_other encoded.is_shape in
         (formulas_of_versions_are_unique _ literals (version_number version) g encoded.shape j encoded.vars vars encoded.count count encoded.clauses clauses law polyform encoded.formula
@@ -91,12 +85,13 @@ module _ (g : Geometry) (line : List ℕ) where
 
 -- ---- `formula`
 
-pub formula_has_none : (version : Version) (g : Geometry) (j size : ℕ) (input text : List ℕ) (at number : ℕ) → IsGrid g → IsFormula version g j size input text → HasFormulaFault version g j size input at number → ⊥
-formula_has_none version g j size input text at number law f (inl (empty, _, _)) = f.some empty
-formula_has_none version g j size input text at number law f (inr (inl (fault, _))) =
+pub formula_has_none : (most : ℕ) (version : Version) (g : Geometry) (j size : ℕ) (input text : List ℕ) (at number : ℕ) → IsGrid g → IsFormula most version g j size input text → HasFormulaFault most version g j size input at number → ⊥
+formula_has_none most version g j size input text at number law f (inl (empty, _, _)) = f.some empty
+formula_has_none most version g j size input text at number law f (inr (inl (endless, _, _))) = not_endless most input f.line [] f.only f.in_time endless
+formula_has_none most version g j size input text at number law f (inr (inr (inl (fault, _)))) =
     let lines = one_line input fault.line fault.behind f.line [] fault.first f.only in
     no_shape_fault g f.line law version j size f.encoded number (subst (λ (l : List ℕ). IsShapeFault version g j size l number) lines.0 fault.fault)
-formula_has_none version g j size input text at number law f (inr (inr (second, _, _))) =
+formula_has_none most version g j size input text at number law f (inr (inr (inr (second, _, _)))) =
     second.more (one_line input second.line second.behind f.line [] second.first f.only).1
 
 -- ---- `answer`
@@ -116,20 +111,15 @@ no_model_fault count model values at number m (inr (line, s, _, _)) =
     let whole : model ≡ (s.front ++ ended s.line) ++ h.rest = h.reached.text_is ∙ sym (append_assoc s.front (ended s.line) h.rest) in
     s.stranger (record { more = h.rest; literals = m.literals; text_is = subst (λ (t : List ℕ). IsModelText t m.literals) whole m.text_is; over = m.over })
 
-pub answer_has_none : (version : Version) (g : Geometry) (j size : ℕ) (input text : List ℕ) (at number : ℕ) → IsGrid g → IsAnswer version g j size input text → HasAnswerFault version g j size input at number → ⊥
-answer_has_none version g j size input text at number law a (inl (empty, _, _)) =
-    not_empty a.line (sym a.ended.text ∙ empty)
-  where
-    not_empty : (line : List ℕ) → line ++ 10 ∷ a.model ≢ []
-    not_empty [] is = cc
-    not_empty (b ∷ line) is = cc
-answer_has_none version g j size input text at number law a (inr (inl (_, whole, _, _))) =
-    absurd (let same = (cut_same 10 a.line (10 ∷ a.model) input [] a.ended.whole whole refl tt (sym a.ended.text ∙ sym (append-nil input))).1 in cc)
-answer_has_none version g j size input text at number law a (inr (inr (inl (fault, _)))) =
-    let lines = one_line input fault.line fault.model a.line a.model (as_first input fault.line fault.model fault.ended) (as_first input a.line a.model a.ended) in
+pub answer_has_none : (most : ℕ) (version : Version) (g : Geometry) (j size : ℕ) (input text : List ℕ) (at number : ℕ) → IsGrid g → IsAnswer most version g j size input text → HasAnswerFault most version g j size input at number → ⊥
+answer_has_none most version g j size input text at number law a (inl (empty, _, _)) = ended_some input a.line a.model a.ended empty
+answer_has_none most version g j size input text at number law a (inr (inl (endless, _, _))) = not_endless most input a.line a.model (as_line input a.line a.model a.ended) a.in_time endless
+answer_has_none most version g j size input text at number law a (inr (inr (inl (unended, _, _)))) = ended_not_unended most input a.line a.model a.ended unended
+answer_has_none most version g j size input text at number law a (inr (inr (inr (inl (fault, _))))) =
+    let lines = one_line input fault.line fault.model a.line a.model (as_line input fault.line fault.model fault.ended) (as_line input a.line a.model a.ended) in
     no_shape_fault g a.line law version j size a.encoded number (subst (λ (l : List ℕ). IsShapeFault version g j size l number) lines.0 fault.fault)
-answer_has_none version g j size input text at number law a (inr (inr (inr fault))) =
-    let lines = one_line input fault.line fault.model a.line a.model (as_first input fault.line fault.model fault.ended) (as_first input a.line a.model a.ended) in
+answer_has_none most version g j size input text at number law a (inr (inr (inr (inr fault)))) =
+    let lines = one_line input fault.line fault.model a.line a.model (as_line input fault.line fault.model fault.ended) (as_line input a.line a.model a.ended) in
     let other = fault.encoded in
     let is_shape : IsShapeLine g a.line other.shape = subst (λ (l : List ℕ). IsShapeLine g l other.shape) lines.0 other.is_shape in
     let counts : a.encoded.count ≡ other.count = one_count g a.line law version j size a.encoded other.shape other.vars other.count other.clauses is_shape other.formula in

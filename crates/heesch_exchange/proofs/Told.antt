@@ -24,14 +24,15 @@ use Rattle.heesch_dimacs.specs.declared.model.ModelStop.TheVariants.{NotText, St
 use Rattle.heesch_dimacs.specs.Formulas.{clause_text}
 use Rattle.heesch_dimacs.specs.Models.{IsModel, ended, text_of}
 use Rattle.heesch_dimacs.specs.Stops.{Stops, IsReached}
+use Rattle.heesch_line.specs.Forms.{HasNoNewline}
 use Rattle.heesch_line.specs.declared.stops.LineStop.{LineStop}
 use Rattle.heesch_line.specs.declared.stops.LineStop.TheVariants.{Fault, NoMemory}
 use Rattle.heesch_place.specs.Universes.{Levels}
 use Rattle.heesch_text.specs.Catalogue.{coronas_text}
-use Rattle.heesch_exchange.specs.Answers.{HasEndedLine, IsAnswer, IsAnswerStop, IsModelStop, TellsCoronas, TellsFalse}
+use Rattle.heesch_exchange.specs.Answers.{HasEndedLine, IsAnswer, IsAnswerStop, IsModelStop, IsUnended, TellsCoronas, TellsFalse}
 use Rattle.heesch_exchange.specs.Formulas.{IsFormula, IsFormulaStop, HasSecondLine}
 use Rattle.heesch_given.specs.Given.{IsShapeLine}
-use Rattle.heesch_exchange.specs.Shapes.{HasFirstLine, HasFormula, IsLineStop, IsShapeStop, EncodesLine}
+use Rattle.heesch_exchange.specs.Shapes.{HasFirstLine, HasFormula, IsInTime, IsLineStop, IsShapeStop, EncodesLine}
 
 -- ---- empty texts
 
@@ -42,6 +43,16 @@ not_empty (x ∷ xs) b is f = λ e. cc
 pub empty_is : (xs : List ℕ) (b : Bool) → b ≡ (length xs == 0) → b ≡ true → xs ≡ []
 empty_is [] b is t = refl
 empty_is (x ∷ xs) b is t = let none : length (x ∷ xs) ≡ 0 = eqb-true (length (x ∷ xs)) 0 (sym is ∙ t) in absurd (omega arith)
+
+-- ---- the first line that doesn't end in time
+
+-- it is told of an input to `formula`
+pub formula_late : (most : ℕ) (version : Version) (g : Geometry) (j size : ℕ) (input line behind : List ℕ) → HasFirstLine input line behind → (IsInTime most input line → ⊥) → IsFormulaStop most version g j size input (Fault 1 8)
+formula_late most version g j size input line behind first late = inr (inl (record { line = line; behind = behind; first = first; late = late }, refl, refl))
+
+-- and of one to `answer`
+pub answer_late : (most : ℕ) (version : Version) (g : Geometry) (j size : ℕ) (input line behind : List ℕ) → HasFirstLine input line behind → (IsInTime most input line → ⊥) → IsAnswerStop most version g j size input (Fault 1 8)
+answer_late most version g j size input line behind first late = inr (inl (record { line = line; behind = behind; first = first; late = late }, refl, refl))
 
 -- ---- the line of the shape
 
@@ -61,14 +72,27 @@ module _ (version : Version) (g : Geometry) (j size : ℕ) (line : List ℕ) whe
   too_large shape is_shape large = (refl, inr (record { shape = shape; is_shape = is_shape; too_large = large }, refl))
 
   -- its fault is told of an input to `formula`
-  pub formula_stop : (input behind : List ℕ) → input ≢ [] → HasFirstLine input line behind → (stop : LineStop ℕ) → IsShapeStop version g j size line stop → IsFormulaStop version g j size input stop
-  formula_stop input behind some first (Fault at number) (one, fault) = inr (inl (record { some = some; line = line; behind = behind; first = first; fault = fault }, one))
-  formula_stop input behind some first NoMemory _ = tt
+  pub formula_stop : (most : ℕ) (input behind : List ℕ) → input ≢ [] → HasFirstLine input line behind → IsInTime most input line → (stop : LineStop ℕ) → IsShapeStop version g j size line stop → IsFormulaStop most version g j size input stop
+  formula_stop most input behind some first in_time (Fault at number) (one, fault) = inr (inr (inl (record {
+    some = some;
+    line = line;
+    behind = behind;
+    first = first;
+    in_time = in_time;
+    fault = fault;
+  }, one)))
+  formula_stop most input behind some first in_time NoMemory _ = tt
 
   -- and of one to `answer`
-  pub answer_stop : (input model : List ℕ) → HasEndedLine input line model → (stop : LineStop ℕ) → IsShapeStop version g j size line stop → IsAnswerStop version g j size input stop
-  answer_stop input model ended (Fault at number) (one, fault) = inr (inr (inl (record { line = line; model = model; ended = ended; fault = fault }, one)))
-  answer_stop input model ended NoMemory _ = tt
+  pub answer_stop : (most : ℕ) (input model : List ℕ) → HasEndedLine input line model → IsInTime most input line → (stop : LineStop ℕ) → IsShapeStop version g j size line stop → IsAnswerStop most version g j size input stop
+  answer_stop most input model ended in_time (Fault at number) (one, fault) = inr (inr (inr (inl (record {
+    line = line;
+    model = model;
+    ended = ended;
+    in_time = in_time;
+    fault = fault;
+  }, one))))
+  answer_stop most input model ended in_time NoMemory _ = tt
 
   -- its formula, over a universe of its shape
   pub encodes : (shape : List Cell) (u : Levels) (count : ℕ) (clauses : List (List Lit)) → u.shape ≡ shape → u.level ≡ j → IsShapeLine g line shape → IsCountedFormula version g shape j u.vars count clauses → formula_size clauses ≤ size
@@ -89,15 +113,23 @@ encoded_as version g j size line u count clauses e =
 
 -- ---- `formula`
 
-module _ (version : Version) (g : Geometry) (j size : ℕ) (input line behind : List ℕ) (first : HasFirstLine input line behind) (encoded : HasFormula version g j size line) where
-  pub second_line : behind ≢ [] → HasSecondLine version g j size input
-  second_line more = record { line = line; behind = behind; first = first; encoded = encoded; more = more }
+module _ (most : ℕ) (version : Version) (g : Geometry) (j size : ℕ) (input line behind : List ℕ) (first : HasFirstLine input line behind) (in_time : IsInTime most input line) (encoded : HasFormula version g j size line) where
+  pub second_line : behind ≢ [] → HasSecondLine most version g j size input
+  second_line more = record {
+    line = line;
+    behind = behind;
+    first = first;
+    in_time = in_time;
+    encoded = encoded;
+    more = more;
+  }
 
-  pub is_formula : input ≢ [] → behind ≡ [] → (text : List ℕ) → text ≡ clause_text encoded.count encoded.clauses → ((values : ℕ → Bool) × Satisfies values encoded.clauses) ↔ HasCoronas g encoded.shape j → IsFormula version g j size input text
+  pub is_formula : input ≢ [] → behind ≡ [] → (text : List ℕ) → text ≡ clause_text encoded.count encoded.clauses → ((values : ℕ → Bool) × Satisfies values encoded.clauses) ↔ HasCoronas g encoded.shape j → IsFormula most version g j size input text
   is_formula some none text is satisfiable = record {
     some = some;
     line = line;
     only = subst (HasFirstLine input line) none first;
+    in_time = in_time;
     encoded = encoded;
     text_is = is;
     satisfiable = satisfiable;
@@ -124,23 +156,29 @@ pub tells_coronas : (g : Geometry) (shape : List Cell) (j : ℕ) (vars : List Va
 tells_coronas g shape j vars v clauses layers text satisfies spelled coronas is =
     record { satisfies = satisfies; layers = layers; count = layer_count g shape j vars v layers spelled; spelled = spelled; coronas = coronas; text_is = is }
 
-module _ (version : Version) (g : Geometry) (j size : ℕ) (input line model : List ℕ) (ended : HasEndedLine input line model) (encoded : HasFormula version g j size line) where
+-- it has one line, without its newline
+pub unended : (most : ℕ) (version : Version) (g : Geometry) (j size : ℕ) (input : List ℕ) → input ≢ [] → HasNoNewline input → IsInTime most input input → IsAnswerStop most version g j size input (Fault 1 6)
+unended most version g j size input some whole in_time = inr (inr (inl (record { some = some; whole = whole; in_time = in_time }, refl, refl)))
+
+module _ (most : ℕ) (version : Version) (g : Geometry) (j size : ℕ) (input line model : List ℕ) (ended : HasEndedLine input line model) (in_time : IsInTime most input line) (encoded : HasFormula version g j size line) where
   -- the fault of the model text is told
-  pub model_stop : (stop : LineStop ℕ) → IsModelStop encoded.count model stop → IsAnswerStop version g j size input stop
-  model_stop (Fault at number) fault = inr (inr (inr (record {
+  pub model_stop : (stop : LineStop ℕ) → IsModelStop encoded.count model stop → IsAnswerStop most version g j size input stop
+  model_stop (Fault at number) fault = inr (inr (inr (inr (record {
     line = line;
     model = model;
     ended = ended;
+    in_time = in_time;
     encoded = encoded;
     fault = fault;
-  })))
+  }))))
   model_stop NoMemory _ = tt
 
-  pub is_answer : (values : List Bool) → IsModel encoded.count model values → (text : List ℕ) → TellsCoronas g encoded.shape j encoded.vars (assignment_of values) encoded.clauses text ⊎ TellsFalse (assignment_of values) encoded.clauses text → IsAnswer version g j size input text
+  pub is_answer : (values : List Bool) → IsModel encoded.count model values → (text : List ℕ) → TellsCoronas g encoded.shape j encoded.vars (assignment_of values) encoded.clauses text ⊎ TellsFalse (assignment_of values) encoded.clauses text → IsAnswer most version g j size input text
   is_answer values is_model text told = record {
     line = line;
     model = model;
     ended = ended;
+    in_time = in_time;
     encoded = encoded;
     values = values;
     is_model = is_model;

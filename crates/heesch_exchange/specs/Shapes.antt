@@ -1,5 +1,5 @@
 -- The line of a shape, with which an input begins.
-use Rattle.std.specs.Prelude.{◌≡◌, ◌⊎◌, ◌↔◌, ℕ, ◌≤◌, Bool, List, [], ◌∷◌, ◌++◌, ⊤}
+use Rattle.std.specs.Prelude.{◌≡◌, ◌⊎◌, ◌↔◌, ℕ, ◌<◌, ◌≤◌, Bool, List, [], ◌∷◌, ◌++◌, length, ⊤}
 use Rattle.heesch_grid.specs.declared.Cell.{Cell}
 use Rattle.heesch_grid.specs.Clauses.{formula_size}
 use Rattle.heesch_grid.specs.Corona.{AreCoronas, HasCoronas}
@@ -23,6 +23,10 @@ pub record HasFirstLine (input line behind : List ℕ) : Type 0 where
   pub whole : HasNoNewline line
   pub text : (input ≡ line ++ 10 ∷ behind) ⊎ ((input ≡ line) × (behind ≡ []))
 
+-- the line ends within the most bytes that are read, or the input does
+abbrev pub IsInTime : (most : ℕ) (input line : List ℕ) → Type 0
+IsInTime most input line = (length line < most) ⊎ (length input ≤ most)
+
 -- the line is that of a shape S, and these are the variables and the clauses of E(S, j) of the version, which has at most `size` literals
 pub record HasFormula (version : Version) (g : Geometry) (j size : ℕ) (line : List ℕ) : Type 0 where
   pub shape : List Cell
@@ -34,6 +38,13 @@ pub record HasFormula (version : Version) (g : Geometry) (j size : ℕ) (line : 
   pub fits : formula_size clauses ≤ size
 
 -- ---- the faults of the line
+
+-- the first line doesn't end within the most bytes that are read, and the input goes on beyond them
+pub record IsEndless (most : ℕ) (input : List ℕ) : Type 0 where
+  pub line : List ℕ
+  pub behind : List ℕ
+  pub first : HasFirstLine input line behind
+  pub late : IsInTime most input line → ⊥
 
 -- the line is that of a shape whose E(S, j) of the version has more than `size` literals
 pub record HasLargeFormula (version : Version) (g : Geometry) (j size : ℕ) (line : List ℕ) : Type 0 where

@@ -10,3 +10,4 @@ mod shapes;
 
 pub use answers::answer;
 pub use formulas::formula;
+pub use shapes::is_endless;

@@ -1,11 +1,13 @@
 //! The line of a shape, and the formula of its shape.
-ghost use Rattle.std.specs.Prelude.{◌≡◌, ◌≤◌, IfOk, IfErr};
+ghost use Rattle.std.specs.Prelude.{◌≡◌, ◌≤◌, ◌++◌, ℕ, List, IfOk, IfErr, true, false};
 ghost use Rattle.heesch_line.specs.Scanning.{IsLineOf};
 ghost use Rattle.heesch_given.specs.Given.{IsShapeLine};
+ghost use Rattle.heesch_exchange.specs.Shapes.{HasFirstLine, IsEndless, IsInTime};
 ghost use Rattle.heesch_exchange.specs.Shapes.{IsLineStop, IsCellsStop, IsShapeStop, EncodesLine};
 
 use crate::asked::Asked;
 use heesch_cert::Cells;
+use heesch_dimacs::cut_line;
 use heesch_encode::{EncodeStop, FlatEncoded, encode_flat};
 use heesch_given::canonical_of;
 use heesch_grid::Grid;
@@ -16,8 +18,39 @@ use std::alloc::Global;
 /// The fault of a line that isn't cells.
 const NOT_CELLS: u32 = 6;
 
+/// The fault of a first line on which the input goes on beyond the most bytes that are read.
+pub const TOO_LONG: u32 = 8;
+
 /// The fault of a line whose shape's formula is too large.
 const TOO_LARGE: u32 = 14;
+
+/// Whether each input that begins with these bytes has fault 8, however it goes on: their first line doesn't end
+/// within the first `MOST` of them, and there are more. It takes no memory; the cost is the line's length.
+pub fn is_endless<const MOST: u64>(front: &[u8]) -> bool
+    ensures endless { result ≡ true → (rest : List ℕ) → IsEndless MOST (front.now ++ rest) }
+    ensures ends { result ≡ false → IsEndless MOST front.now → ⊥ }
+{
+    let (line, _) = first_line(front);
+    is_late(MOST, front, line)
+}
+
+/// Whether the line doesn't end within the most bytes that are read, nor the input.
+pub fn is_late(most: u64, input: &[u8], line: &[u8]) -> bool
+    ensures late { result ≡ true → IsInTime most input.now line.now → ⊥ }
+    ensures in_time { result ≡ false → IsInTime most input.now line.now }
+{
+    line.len() as u64 >= most && input.len() as u64 > most
+}
+
+/// The first line without its newline, and the bytes behind it.
+pub fn first_line(input: &[u8]) -> (&[u8], &[u8])
+    ensures { HasFirstLine input.now result.0.now result.1.now }
+{
+    match cut_line(input) {
+        Some(parts) => parts,
+        None => input.split_at(input.len()),
+    }
+}
 
 /// The corona formula of the shape whose cells the first line is, or the fault of the line.
 ///

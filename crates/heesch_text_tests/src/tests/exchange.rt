@@ -2,24 +2,27 @@
 ghost use Rattle.std.specs.Prelude.{◌≤◌};
 
 use heesch_cnf::Version;
-use heesch_exchange::{answer, formula};
+use heesch_exchange::{answer, formula, is_endless};
 use heesch_grid::GridName;
 use heesch_line::LineStop;
 use std::alloc::Global;
 use std::test::Fail;
 
+/// More than any input here has.
+const MANY: u64 = 1_000;
+
 /// What `formula` says of an input at level 1: the text, or the fault.
 fn asked(alloc: Global, grid: GridName, size: u32, input: &[u8]) -> Result<Vec<u8>, LineStop<u32>>
     requires { (1 ≤ size) × (size ≤ 60000000) }
 {
-    formula(alloc, grid, 1, size, Version::Two, input)
+    formula::<MANY>(alloc, grid, 1, size, Version::Two, input)
 }
 
 /// What `answer` says of an input at level 1: the text, or the fault.
 fn answered(alloc: Global, size: u32, input: &[u8]) -> Result<Vec<u8>, LineStop<u32>>
     requires { (1 ≤ size) × (size ≤ 60000000) }
 {
-    answer(alloc, GridName::Square, 1, size, Version::Two, input)
+    answer::<MANY>(alloc, GridName::Square, 1, size, Version::Two, input)
 }
 
 /// A clause for each cell around the one cell.
@@ -98,6 +101,31 @@ fn the_first_fault_is_named(rt: HostRuntime) -> Result<(), Fail> {
             Some(LineStop::Fault { line, fault }),
             "at {input}"
         );
+    }
+    Ok(())
+}
+
+/// Where 8 bytes are read, a first line that doesn't end in them has fault 8, and no other, if the input goes on.
+#[test]
+fn an_endless_line_is_too_long(rt: HostRuntime) -> Result<(), Fail> {
+    let alloc = rt.alloc();
+    for (input, asked, answered) in [
+        ("0,0 2,0", (1, 5), (1, 6)),
+        ("0,0 2,0\n", (1, 5), (1, 5)),
+        ("0,0 2,0\nx", (1, 5), (1, 5)),
+        ("0,0 1,0 ", (1, 6), (1, 6)),
+        ("0,0 1,0 \n", (1, 8), (1, 8)),
+        ("0,0 0,0 0", (1, 8), (1, 8)),
+        ("0,0\n0,0\n\n", (2, 13), (2, 6)),
+    ] {
+        let bytes = input.as_bytes();
+        let (line, fault) = asked;
+        let found = formula::<8>(alloc, GridName::Square, 1, 8, Version::Two, bytes);
+        assert_eq!(rt; found.err(), Some(LineStop::Fault { line, fault }), "at {input}");
+        let (line, fault) = answered;
+        let found = answer::<8>(alloc, GridName::Square, 1, 8, Version::Two, bytes);
+        assert_eq!(rt; found.err(), Some(LineStop::Fault { line, fault }), "at {input}");
+        assert_eq!(rt; is_endless::<8>(bytes), asked == (1, 8), "at {input}");
     }
     Ok(())
 }

@@ -1,37 +1,57 @@
-use Rattle.std.proofs.Common.{◌≡◌, ◌∙◌, ℕ, List, ◌++◌, ap, sym, subst, inl, inr}
+use Rattle.std.proofs.Common.{◌≡◌, ◌∙◌, ℕ, List, [], ◌++◌, ap, sym, subst, inl, inr}
 use Rattle.heesch_cnf.specs.Clauses.{assignment_of}
 use Rattle.heesch_dimacs.specs.Models.{IsModel}
 use Rattle.heesch_text.specs.Catalogue.{coronas_text}
-use Rattle.heesch_exchange.specs.Answers.{IsAnswerStop, IsModelStop, false_text}
-use Rattle.heesch_exchange.proofs.Told.{as_error, encoded_as, answer_stop, model_stop, is_answer, spelled_of, tells_coronas}
+use Rattle.heesch_exchange.specs.Answers.{HasEndedLine, IsAnswerStop, IsModelStop, false_text}
+use Rattle.heesch_exchange.proofs.FirstLines.{alone, as_line, in_time_of}
+use Rattle.heesch_exchange.proofs.Told.{as_error, encoded_as, answer_late, answer_stop, model_stop, not_empty, is_answer, spelled_of, tells_coronas, unended}
 use Rattle.heesch_exchange.proofs.answers.answer_of.Goals as goal
 use Rattle.heesch_exchange.proofs.answers.answer_of.Goals.{in-Some-first_false+in_ok-append_false-in-Some-first_false, in-None+in_ok-layers-in-None+in_ok-write_coronas-in-None}
+
+pub returns-then-is_late-clause-stop : goal.returns-then-is_late-clause-stop
+returns-then-is_late-clause-stop g c =
+    let a = c.args.asked in
+    answer_late a.most a.version g.G.Grid.geometry a.level a.size c.args.input.now c.first_line.result.0.now c.first_line.result.1.now c.first_line.ensures (c.is_late.ensures.late c.if-is_late.true)
+
+pub returns-in-None-clause-stop : goal.returns-in-None-clause-stop
+returns-in-None-clause-stop g c =
+    let a = c.args.asked in
+    let input = c.args.input.now in
+    let some = not_empty input c.is_empty.result c.is_empty.ensures c.if-is_empty.false in
+    let in_time = in_time_of a.most input c.first_line.result.0.now c.first_line.result.1.now input [] c.first_line.ensures (alone input c.in-None.ensures) (c.is_late.ensures.in_time c.if-is_late.false) in
+    unended a.most a.version g.G.Grid.geometry a.level a.size input some c.in-None.ensures in_time
 
 pub returns-in_err-encoded-clause-stop : goal.returns-in_err-encoded-clause-stop
 returns-in_err-encoded-clause-stop g c =
     let a = c.args.asked in
     let input = c.args.input.now in
     let geometry = g.G.Grid.geometry in
+    let ended : HasEndedLine c.args.input.now c.in-Some.line.now c.in-Some.model.now = record { whole = c.in-Some.ensures.1; text = c.in-Some.ensures.0 } in
+    let in_time = in_time_of a.most c.args.input.now c.first_line.result.0.now c.first_line.result.1.now c.in-Some.line.now c.in-Some.model.now c.first_line.ensures (as_line c.args.input.now c.in-Some.line.now c.in-Some.model.now ended) (c.is_late.ensures.in_time c.if-is_late.false) in
     let stop = c.in_err-encoded.field-0.0 in
-    as_error c.from_residual.result stop (IsAnswerStop a.version geometry a.level a.size input) c.from_residual.ensures.1
-    (answer_stop a.version geometry a.level a.size c.in-Some.line.now input c.in-Some.model.now (record { whole = c.in-Some.ensures.1; text = c.in-Some.ensures.0 }) stop c.in_err-encoded.ensures.stop)
+    as_error c.from_residual.result stop (IsAnswerStop a.most a.version geometry a.level a.size input) c.from_residual.ensures.1
+    (answer_stop a.version geometry a.level a.size c.in-Some.line.now a.most input c.in-Some.model.now ended in_time stop c.in_err-encoded.ensures.stop)
 
 pub returns-in_err-values-clause-stop : goal.returns-in_err-values-clause-stop
 returns-in_err-values-clause-stop g c =
     let a = c.args.asked in
     let input = c.args.input.now in
     let geometry = g.G.Grid.geometry in
+    let ended : HasEndedLine c.args.input.now c.in-Some.line.now c.in-Some.model.now = record { whole = c.in-Some.ensures.1; text = c.in-Some.ensures.0 } in
+    let in_time = in_time_of a.most c.args.input.now c.first_line.result.0.now c.first_line.result.1.now c.in-Some.line.now c.in-Some.model.now c.first_line.ensures (as_line c.args.input.now c.in-Some.line.now c.in-Some.model.now ended) (c.is_late.ensures.in_time c.if-is_late.false) in
     let e = c.in_ok-encoded.encoded in
     let whole = encoded_as a.version geometry a.level a.size c.in-Some.line.now e.universe e.formula.vars e.formula.clauses c.in_ok-encoded.ensures.ok in
     let stop = c.in_err-values.field-0.0 in
     let stops : IsModelStop e.formula.vars c.in-Some.model.now stop = subst (λ (n : ℕ). IsModelStop n c.in-Some.model.now stop) c.vars.ensures.vars c.in_err-values.ensures.stop in
-    as_error c.from_residual-in_err-values.result stop (IsAnswerStop a.version geometry a.level a.size input) c.from_residual-in_err-values.ensures.1
-    (model_stop a.version geometry a.level a.size input c.in-Some.line.now c.in-Some.model.now (record { whole = c.in-Some.ensures.1; text = c.in-Some.ensures.0 }) whole stop stops)
+    as_error c.from_residual-in_err-values.result stop (IsAnswerStop a.most a.version geometry a.level a.size input) c.from_residual-in_err-values.ensures.1
+    (model_stop a.most a.version geometry a.level a.size input c.in-Some.line.now c.in-Some.model.now ended in_time whole stop stops)
 
 pub returns-clause-ok : goal.returns-clause-ok
 returns-clause-ok g c =
     let a = c.args.asked in
     let geometry = g.G.Grid.geometry in
+    let ended : HasEndedLine c.args.input.now c.in-Some.line.now c.in-Some.model.now = record { whole = c.in-Some.ensures.1; text = c.in-Some.ensures.0 } in
+    let in_time = in_time_of a.most c.args.input.now c.first_line.result.0.now c.first_line.result.1.now c.in-Some.line.now c.in-Some.model.now c.first_line.ensures (as_line c.args.input.now c.in-Some.line.now c.in-Some.model.now ended) (c.is_late.ensures.in_time c.if-is_late.false) in
     let encodes = c.in_ok-encoded.ensures.ok in
     let e = c.in_ok-encoded.encoded in
     let whole = encoded_as a.version geometry a.level a.size c.in-Some.line.now e.universe e.formula.vars e.formula.clauses encodes in
@@ -39,7 +59,7 @@ returns-clause-ok g c =
     let same : c.vars.result ≡ e.formula.vars = c.vars.ensures.vars in
     let model : IsModel e.formula.vars c.in-Some.model.now values =
     subst (λ (n : ℕ). IsModel n c.in-Some.model.now values) same (subst (IsModel c.vars.result c.in-Some.model.now) (sym c.as_slice.ensures) c.in_ok-values.ensures.ok) in
-    is_answer a.version geometry a.level a.size c.args.input.now c.in-Some.line.now c.in-Some.model.now (record { whole = c.in-Some.ensures.1; text = c.in-Some.ensures.0 }) whole values model c.match-first_false.text.items
+    is_answer a.most a.version geometry a.level a.size c.args.input.now c.in-Some.line.now c.in-Some.model.now ended in_time whole values model c.match-first_false.text.items
     (elim c.match-first_false.branch [
       | in-Some-first_false+in_ok-append_false-in-Some-first_false w ↦
           let number = w.in-Some-first_false.number in
