@@ -1,6 +1,6 @@
 -- How many literals the clauses of families 1 to 3 have.
-use Rattle.std.proofs.Common.{◌≡◌, refl, sym, ap, subst, ◌∙◌, ℕ, zero, suc, ◌+◌, ◌-◌, ◌<◌, ◌≤◌, List, [], ◌∷◌, ◌++◌, map, filter, length, Bool, true, false, cond, not, ◌&&◌, inl, inr, arith, All, Contains, filter_map, lt-ltb, ltb-true, le-leb, ne_eqb, eq-eqb, eqb-true}
-use Rattle.std.specs.Prelude.{IsTrue, Some, None, Option, nat_lt, nat_le, ◌==◌, sum_by}
+use Rattle.std.proofs.Common.{◌≡◌, refl, sym, ap, ◌∙◌, ℕ, ◌+◌, ◌-◌, ◌≤◌, List, [], ◌∷◌, filter, length, Bool, true, false, cond, not, ◌&&◌, inl, inr, arith, Contains, filter_map, ltb-true, ne_eqb, eq-eqb, eqb-true}
+use Rattle.std.specs.Prelude.{IsTrue, Some, None, Option, nat_lt, nat_le, ◌==◌}
 use Rattle.std.specs.List.{enumerate_from, cons_option}
 use Rattle.std.proofs.lemmas.Bool.{and_left, and_right}
 use Rattle.std.proofs.lemmas.List.{length-map}
@@ -19,7 +19,6 @@ use Rattle.heesch_grid.proofs.ListFacts.{member_cases, member_here, member_there
 use Rattle.heesch_grid.proofs.ClauseFacts.{entry_made, entries_rising}
 use Rattle.heesch_cert.specs.Literals.{literals}
 use Rattle.heesch_place.specs.Universes.{covering}
-use Rattle.heesch_encode.specs.Literals.{plus_all}
 use Rattle.heesch_encode.specs.Meeting.{numbers_of, supporting}
 use Rattle.heesch_encode.specs.Families.{support_at}
 use Rattle.heesch_encode.proofs.ClauseLists.{choice_is}

@@ -14,7 +14,7 @@ ghost use Rattle.heesch_numbers.specs.Common.{common_of, IsCommonNumber};
 
 use crate::counts::counts_of;
 use crate::prefix::Prefix;
-use crate::remain::{first_remain, all_negated_remain};
+use crate::remain::{all_negated_remain, first_remain};
 use crate::room::are_within;
 use crate::walks::{left_of_covering, left_of_first, left_of_support};
 use heesch_cnf::{Left, Lit};
@@ -26,8 +26,8 @@ use heesch_shape::Shape;
 use std::alloc::Global;
 use std::marker::Model;
 
-/// The clauses of families 1 to 3 of the corona formulas of a universe, by their numbers, which count from 1. No clause stands
-/// anywhere: its literals are looked up by the cells. Contracts see the universe.
+/// The clauses of families 1 to 3 of the corona formulas of a universe, by their numbers, which count from 1. No
+/// clause stands anywhere: its literals are looked up by the cells. Contracts see the universe.
 #[derive(Drop)]
 pub struct CommonClauses<G: Grid> {
     universe: Universe<G>,
@@ -50,8 +50,8 @@ impl<G: Grid> Model for CommonClauses<G> {
 }
 
 impl<G: Grid> CommonClauses<G> {
-    /// Those of a universe of a shape. It looks at the cells around each tile once, and keeps a number for each variable. 2^32
-    /// clauses or more count as want of memory.
+    /// Those of a universe of a shape. It looks at the cells around each tile once, and keeps a number for each
+    /// variable. 2^32 clauses or more count as want of memory.
     pub fn of(
         alloc: Global,
         shape: &Shape<G>,
@@ -109,14 +109,15 @@ impl<G: Grid> CommonClauses<G> {
 
     /// How many clauses there are. A constant time.
     pub fn count(&self) -> usize
-        ensures { (around : List Cell → List Cell) → GivesCellsAround G.geometry around → result ≡ length (common_of G.geometry around self.now) }
+        ensures { (around : List Cell → List Cell) → GivesCellsAround G.geometry around → result
+            ≡ length (common_of G.geometry around self.now) }
     {
         let supports = self.universe.count() - self.lowest;
         self.first.len() + self.covering.total() as usize + supports as usize
     }
 
-    /// The literals of the clause of a number that aren't false. A binary search for the variable, and then a look at the
-    /// variables that have the clause's cells. It takes no memory.
+    /// The literals of the clause of a number that aren't false. A binary search for the variable, and then a look at
+    /// the variables that have the clause's cells. It takes no memory.
     pub fn left(&self, number: u32, values: &[Option<bool>]) -> Left
         requires number { IsCommonNumber G.geometry self.now number }
         requires room { length self.now.vars < length values.now }
@@ -138,8 +139,9 @@ impl<G: Grid> CommonClauses<G> {
         left_of_support(&plan, var, values)
     }
 
-    /// Whether a clause contains, as a set of literals, none of the clauses. The values make its literals false, and no others.
-    /// It looks at the clauses of family 1, and at those of the variables that the clause has negated. It takes no memory.
+    /// Whether a clause contains, as a set of literals, none of the clauses. The values make its literals false, and
+    /// no others. It looks at the clauses of family 1, and at those of the variables that the clause has negated. It
+    /// takes no memory.
     pub fn is_new(&self, clause: &[Lit], values: &[Option<bool>]) -> bool
         requires form { (vars : ℕ) × IsClause vars clause.now }
         requires room { length self.now.vars < length values.now }

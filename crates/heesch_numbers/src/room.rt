@@ -19,7 +19,8 @@ use std::alloc::Global;
 /// How many literals the clauses of family 1 have for these cells, or `most` where there are more.
 fn first_size<G: Grid>(plan: &Plan<G>, cells: &[Cell], most: usize) -> usize
     requires { most ≤ 2 ^ 32 }
-    ensures { result ≡ min (formula_size (map (λ c. clause_of literals no_variable (covers 1 c) plan.now.universe.now.vars) cells.now)) most }
+    ensures { result ≡ min (formula_size (map (λ c. clause_of literals no_variable
+        (covers 1 c) plan.now.universe.now.vars) cells.now)) most }
 {
     let mut size = 0;
     for c in cells {
@@ -33,8 +34,10 @@ fn covering_size<G: Grid>(plan: &Plan<G>, var: u32, most: usize) -> usize
     requires plan { IsPlan G.geometry plan.now.universe.now plan.now.shape.now plan.now.level plan.now.rings.now }
     requires number { (1 ≤ var) × (var ≤ length plan.now.universe.now.vars) }
     requires most { most ≤ 2 ^ 32 }
-    ensures { (around : List Cell → List Cell) (x : Variable) → GivesCellsAround G.geometry around → IsNumbered plan.now.universe.now.vars var x
-        → result ≡ min (formula_size (covering_at around plan.now.shape.now plan.now.level plan.now.universe.now.vars (var, x))) most }
+    ensures { (around : List Cell → List Cell) (x : Variable) → GivesCellsAround G.geometry around
+        → IsNumbered plan.now.universe.now.vars var x
+        → result ≡ min (formula_size
+        (covering_at around plan.now.shape.now plan.now.level plan.now.universe.now.vars (var, x))) most }
 {
     let of = plan.universe.level_of(var);
     if of >= plan.level {
@@ -56,7 +59,9 @@ fn covering_sizes<G: Grid>(plan: &Plan<G>, most: usize) -> usize
     requires plan { IsPlan G.geometry plan.now.universe.now plan.now.shape.now plan.now.level plan.now.rings.now }
     requires most { most ≤ 2 ^ 32 }
     ensures { (around : List Cell → List Cell) → GivesCellsAround G.geometry around
-        → result ≡ min (formula_size (flat_map (covering_at around plan.now.shape.now plan.now.level plan.now.universe.now.vars) (enumerate_from 1 plan.now.universe.now.vars))) most }
+        → result ≡ min (formula_size (flat_map
+        (covering_at around plan.now.shape.now plan.now.level plan.now.universe.now.vars)
+        (enumerate_from 1 plan.now.universe.now.vars))) most }
 {
     let mut size = 0;
     for i in 0..plan.universe.count() {
@@ -77,16 +82,13 @@ struct Finder {
 }
 
 /// How many literals the clause of family 3 of a variable has, or 0 where it has none.
-fn support_size<G: Grid>(
-    plan: &Plan<G>,
-    var: u32,
-    finder: &mut Finder,
-) -> Result<usize, NoMemory>
+fn support_size<G: Grid>(plan: &Plan<G>, var: u32, finder: &mut Finder) -> Result<usize, NoMemory>
     requires plan { IsPlan G.geometry plan.now.universe.now plan.now.shape.now plan.now.level plan.now.rings.now }
     requires number { (1 ≤ var) × (var ≤ length plan.now.universe.now.vars) }
     requires unmarked { AreUnmarked (length plan.now.universe.now.vars) finder.old.marks.words.items }
     ensures unmarked { OnOk result (AreUnmarked (length plan.now.universe.now.vars) finder.new.marks.words.items) }
-    ensures size { (x : Variable) → IsNumbered plan.now.universe.now.vars var x → IfOk result (λ size. size ≡ formula_size (support_at G.geometry plan.now.universe.now.vars (var, x))) }
+    ensures size { (x : Variable) → IsNumbered plan.now.universe.now.vars var x → IfOk result (λ size. size
+        ≡ formula_size (support_at G.geometry plan.now.universe.now.vars (var, x))) }
     ensures small { IfOk result (λ size. size ≤ 2 ^ 62) }
 {
     let of = plan.universe.level_of(var);
@@ -107,14 +109,12 @@ fn support_size<G: Grid>(
 }
 
 /// How many literals the clauses of family 3 have, or `most` where there are more. It stops there.
-fn support_sizes<G: Grid>(
-    alloc: Global,
-    plan: &Plan<G>,
-    most: usize,
-) -> Result<usize, NoMemory>
+fn support_sizes<G: Grid>(alloc: Global, plan: &Plan<G>, most: usize) -> Result<usize, NoMemory>
     requires plan { IsPlan G.geometry plan.now.universe.now plan.now.shape.now plan.now.level plan.now.rings.now }
     requires most { most ≤ 2 ^ 32 }
-    ensures { IfOk result (λ size. size ≡ min (formula_size (flat_map (support_at G.geometry plan.now.universe.now.vars) (enumerate_from 1 plan.now.universe.now.vars))) most) }
+    ensures { IfOk result (λ size. size
+        ≡ min (formula_size (flat_map (support_at G.geometry plan.now.universe.now.vars)
+        (enumerate_from 1 plan.now.universe.now.vars))) most) }
 {
     let mut finder = Finder {
         ring: Vec::new(alloc),
@@ -131,8 +131,8 @@ fn support_sizes<G: Grid>(
     Ok(size)
 }
 
-/// Whether the clauses of the three families, the first over these cells around the shape, have at most so many literals.
-/// Families 1 and 2 come first, whose counts take no memory.
+/// Whether the clauses of the three families, the first over these cells around the shape, have at most so many
+/// literals. Families 1 and 2 come first, whose counts take no memory.
 pub(crate) fn are_within<G: Grid>(
     alloc: Global,
     plan: &Plan<G>,
@@ -140,7 +140,8 @@ pub(crate) fn are_within<G: Grid>(
     room: u32,
 ) -> Result<bool, NoMemory>
     requires plan { IsPlan G.geometry plan.now.universe.now plan.now.shape.now plan.now.level plan.now.rings.now }
-    requires first { (around : List Cell → List Cell) → GivesCellsAround G.geometry around → first.now ≡ around plan.now.universe.now.shape }
+    requires first { (around : List Cell → List Cell) → GivesCellsAround G.geometry around → first.now
+        ≡ around plan.now.universe.now.shape }
     ensures { (around : List Cell → List Cell) → GivesCellsAround G.geometry around
         → IfOk result (λ yes. IsTrue yes ↔ (formula_size (common_of G.geometry around plan.now.universe.now) ≤ room)) }
 {

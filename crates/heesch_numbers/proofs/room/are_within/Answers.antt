@@ -1,4 +1,4 @@
-use Rattle.std.proofs.Common.{◌≡◌, ◌+◌, ◌<◌, ◌≤◌, List, ℕ, map, length, true≢false, ap, ◌∙◌, sym, arith, lt-ltb, ltb-true}
+use Rattle.std.proofs.Common.{◌≡◌, List, map, true≢false, ap, sym, arith, lt-ltb, ltb-true}
 use Rattle.std.specs.Prelude.{flat_map}
 use Rattle.std.specs.List.{enumerate_from}
 use Rattle.heesch_grid.specs.declared.Cell.{Cell}

@@ -1,4 +1,4 @@
-use Rattle.std.proofs.Common.{◌≡◌, ◌+◌, ◌-◌, length, ap, arith}
+use Rattle.std.proofs.Common.{length, ap, arith}
 use Rattle.heesch_place.specs.Universes.{Levels}
 use Rattle.heesch_numbers.specs.Common.{common_of}
 use Rattle.heesch_numbers.proofs.Answering.{all_long}
