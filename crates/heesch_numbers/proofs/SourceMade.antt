@@ -1,6 +1,5 @@
 -- The second corona formula of a universe.
-use Rattle.std.proofs.Common.{◌≡◌, refl, sym, ap, subst, ◌∙◌, ℕ, ◌+◌, ◌<◌, ◌≤◌, List, length, arith}
-use Rattle.heesch_cnf.specs.declared.literal.Lit.{Lit}
+use Rattle.std.proofs.Common.{◌≡◌, refl, sym, subst, ℕ, ◌+◌, ◌<◌, List, arith}
 use Rattle.heesch_cnf.specs.declared.version.Version.TheVariants.{Two}
 use Rattle.heesch_grid.specs.declared.Cell.{Cell}
 use Rattle.heesch_grid.specs.Listing.{ListsExactly}
@@ -15,7 +14,7 @@ use Rattle.heesch_place.specs.Universes.{Levels, IsUniverseOf}
 use Rattle.heesch_encode.proofs.Whole.{second_counted}
 use Rattle.heesch_numbers.specs.declared.owners.OwnerClauses.{OwnerClauses}
 use Rattle.heesch_numbers.specs.Common.{common_of}
-use Rattle.heesch_numbers.specs.OwnerCounts.{AreOwners, HaveMoreThan, owners_of, vars_with}
+use Rattle.heesch_numbers.specs.OwnerCounts.{AreOwners, HaveMoreThan, owners_of}
 use Rattle.heesch_numbers.specs.Sourced.{owned_formula}
 use Rattle.heesch_numbers.proofs.SourceForms.{all_size}
 

@@ -1,11 +1,11 @@
-use Rattle.std.proofs.Common.{◌≡◌, ◌+◌, ◌<◌, ◌≤◌, ◌↔◌, IsTrue, ◌∙◌, ap, sym, subst, inl, inr, List, arith, length, true≢false}
+use Rattle.std.proofs.Common.{◌<◌, ◌≤◌, ◌↔◌, IsTrue, ◌∙◌, ap, sym, subst, inl, inr, arith, length, true≢false}
 use Rattle.std.proofs.lemmas.Bool.{cases_lt}
 use Rattle.std.proofs.lemmas.Result.{err_from_is_err_and}
 use Rattle.heesch_grid.specs.Clauses.{formula_size}
 use Rattle.heesch_grid.proofs.AroundFacts.{cells_around, around_given}
 use Rattle.heesch_place.specs.Universes.{Levels, IsUniverseOf}
 use Rattle.heesch_numbers.specs.Common.{common_of}
-use Rattle.heesch_numbers.specs.OwnerCounts.{AreOwners, owners_of}
+use Rattle.heesch_numbers.specs.OwnerCounts.{owners_of}
 use Rattle.heesch_numbers.proofs.SourceForms.{all_length}
 use Rattle.heesch_numbers.proofs.SourceMade.{counted, size_is, larger, more_owners, owners_at}
 use Rattle.heesch_numbers.proofs.source.CoronaSource.of.Goals as goal

@@ -1,5 +1,4 @@
-use Rattle.std.proofs.Common.{◌≡◌, ◌+◌, ◌≤◌, ◌∙◌, ap, arith, length}
-use Rattle.heesch_cnf.specs.Flat.{Clauses}
+use Rattle.std.proofs.Common.{◌≡◌, ◌+◌, ◌∙◌, ap, arith, length}
 use Rattle.heesch_grid.proofs.AroundFacts.{cells_around, around_given}
 use Rattle.heesch_place.specs.Universes.{Levels}
 use Rattle.heesch_numbers.specs.OwnerCounts.{owners_of}
