@@ -1,13 +1,12 @@
 -- Sums of counts, and the clause of a number in a list that comes in parts.
-use Rattle.std.proofs.Common.{◌≡◌, refl, sym, ap, subst, ◌∙◌, ℕ, zero, suc, ◌+◌, ◌-◌, ◌<◌, ◌≤◌, List, [], ◌∷◌, ◌++◌, map, length, get_or, take, drop, All, inl, inr, arith}
-use Rattle.std.specs.Prelude.{flat_map, sum, sum_by}
+use Rattle.std.proofs.Common.{◌≡◌, refl, sym, ap, ◌∙◌, ℕ, zero, suc, ◌+◌, ◌-◌, ◌<◌, ◌≤◌, List, [], ◌∷◌, ◌++◌, map, length, get_or, take, drop, All, inl, inr, arith}
+use Rattle.std.specs.Prelude.{flat_map, sum}
 use Rattle.std.specs.List.Sorted.{IsNonDecreasingBy}
 use Rattle.std.proofs.lemmas.Bool.{cases_order}
 use Rattle.std.proofs.lemmas.List.{get_or-take, get_or-drop, length-take, length-drop, length-map}
 use Rattle.std.proofs.lemmas.List.Concat.{length-flat_map, get_or-flat_map}
 use Rattle.std.proofs.lemmas.List.Sums.{sum_by-cons, sum-map}
 use Rattle.heesch_io.specs.Pieces.{AreEnds, start_at}
-use Rattle.heesch_io.proofs.Pieces.{end-size}
 use Rattle.heesch_numbers.specs.Counts.{gaps, FallsIn}
 
 pub length-gaps : (start : ℕ) (ends : List ℕ) → length (gaps start ends) ≡ length ends
@@ -125,12 +124,14 @@ module _ (ends : List ℕ) (size place part : ℕ) (a : AreEnds 0 ends size) (to
       let gap = gap-at 0 ends part part_within in
       let sums = sum-before 0 ends size part a bound in
       let long = length-gaps 0 ends in
-      let in_range = part_within in
-      (omega (arith, less, is, sums), record {
-        part_is = omega (arith, in_range, long);
-        within = omega (arith, gap, reach, is, less, sums);
-        before = omega (arith, sums, is, less);
-      })
+      let in_range = part_within in (
+        omega (arith, less, is, sums),
+        record {
+          part_is = omega (arith, in_range, long);
+          within = omega (arith, gap, reach, is, less, sums);
+          before = omega (arith, sums, is, less);
+        },
+      )
 
 -- ---- the thing at a place
 

@@ -1,5 +1,5 @@
 -- The literals of the clauses of the families, as sets.
-use Rattle.std.proofs.Common.{◌≡◌, refl, sym, ap, subst, ◌∙◌, ℕ, zero, suc, ◌+◌, ◌-◌, ◌<◌, ◌≤◌, List, [], ◌∷◌, ◌++◌, map, filter, length, get_or, Bool, true, false, cond, not, ◌&&◌, inl, inr, ◌⊎◌, arith, All, Contains, true≢false, eq-eqb, eqb-true, ne_eqb, ltb-true, lt-ltb}
+use Rattle.std.proofs.Common.{◌≡◌, refl, sym, ap, subst, ◌∙◌, ℕ, zero, suc, ◌+◌, ◌-◌, ◌<◌, ◌≤◌, List, [], ◌∷◌, map, filter, length, get_or, Bool, true, false, cond, not, ◌&&◌, inl, inr, arith, All, Contains, true≢false, eq-eqb, eqb-true, ne_eqb, ltb-true, lt-ltb}
 use Rattle.std.specs.Prelude.{Some, None, unwrap_or, ◌==◌, flat_map, nat_lt, nat_le}
 use Rattle.std.specs.List.{enumerate_from, slice_get}
 use Rattle.std.proofs.lemmas.Bool.{and_parts, and_from, and_left, and_right, cases_Bool, cases_lt, not-true}
@@ -18,7 +18,7 @@ use Rattle.heesch_grid.specs.Clauses.{clause_of, is_numbered, no_variable}
 use Rattle.heesch_grid.specs.CoronaFormula.{Variable, IsNumbered, covers}
 use Rattle.heesch_grid.proofs.ListFacts.{member_cases, member_here, member_there, no_member, filter_member, member_filter, All-from_members}
 use Rattle.heesch_grid.proofs.WindowFacts.{map_member, member_map, flat_map_member, member_flat_map}
-use Rattle.heesch_grid.proofs.CellFacts.{meet-true, meet-is}
+use Rattle.heesch_grid.proofs.CellFacts.{meet-is}
 use Rattle.heesch_grid.proofs.ClauseFacts.{entry_at, entry_made, entry_same}
 use Rattle.heesch_grid.specs.Pairs.{has-true}
 use Rattle.heesch_grid.proofs.TileFacts.{contact, touch_by}
@@ -148,9 +148,12 @@ module _ (g : Geometry) (law : IsGrid g) (vars : List Variable) (n above of : �
       let up = high m s.of (entry_at vars 1 (m, s.of) s.is_in) s.after in
       let level = s.level in
       let apart : meet s.of.tile v.tile ≡ false = sym (ap (λ t. meet t v.tile) (tile_at vars m s.of s.is_in)) ∙ not-true (meet (tile_of vars m) v.tile) f.1 in
-      let a = All-contains (IsAround g v.tile) ring s.cell is_ring.only s.given in
-      (s.of, s.is_in, and_from (s.of.level + 1 == v.level) (touch g s.of.tile v.tile) (eq-eqb (s.of.level + 1) v.level (omega (arith, up, level, at, two)))
-      (touch_by g s.of.tile v.tile (record { apart = apart; first = s.cell; second = a.member; in_first = s.own; in_second = a.inside; touching = law.touching_back a.member s.cell a.touching })))
+      let a = All-contains (IsAround g v.tile) ring s.cell is_ring.only s.given in (
+        s.of,
+        s.is_in,
+        and_from (s.of.level + 1 == v.level) (touch g s.of.tile v.tile) (eq-eqb (s.of.level + 1) v.level (omega (arith, up, level, at, two)))
+            (touch_by g s.of.tile v.tile (record { apart = apart; first = s.cell; second = a.member; in_first = s.own; in_second = a.inside; touching = law.touching_back a.member s.cell a.touching })),
+      )
 
   pub support_left : (values : Values) (left : Left) → IsSeen values (literals.minus n ∷ plus_all found) left → IsLeft values (clause_of literals (is_numbered n) test vars) left
   support_left values left seen =

@@ -1,12 +1,11 @@
 -- When a clause contains none of families 1 to 3: when each of them has a literal that the values don't make false which refute it.
-use Rattle.std.proofs.Common.{◌≡◌, refl, sym, ap, subst, ◌∙◌, ℕ, ◌+◌, ◌<◌, ◌≤◌, List, [], ◌∷◌, map, filter, length, Bool, true, false, cond, not, ◌&&◌, inl, inr, ◌⊎◌, arith, All, Contains, true≢false, eqb, eq-eqb}
-use Rattle.std.specs.Prelude.{Some, None, Option, unwrap_or, nat_lt, nat_le, ◌==◌}
-use Rattle.std.specs.List.{enumerate_from}
-use Rattle.std.proofs.lemmas.Bool.{cases_Bool, not-true}
+use Rattle.std.proofs.Common.{◌≡◌, refl, sym, ap, subst, ◌∙◌, ℕ, ◌+◌, ◌<◌, List, [], ◌∷◌, map, filter, Bool, true, false, cond, not, ◌&&◌, inl, inr, arith, Contains, eqb, eq-eqb}
+use Rattle.std.specs.Prelude.{Some, None, nat_lt, nat_le, ◌==◌}
+use Rattle.std.proofs.lemmas.Bool.{cases_Bool}
 use Rattle.std.proofs.lemmas.Bool.Decides.{Decides-eqb}
 use Rattle.std.proofs.lemmas.List.Elements.{All-contains}
 use Rattle.heesch_cnf.specs.declared.literal.Lit.{Lit}
-use Rattle.heesch_cnf.specs.Literals.{Values, lit_value, signed, is_false_value}
+use Rattle.heesch_cnf.specs.Literals.{Values, signed, is_false_value}
 use Rattle.heesch_cnf.specs.Clauses.{IsClause, IsNew, IsWithin, left_of}
 use Rattle.heesch_cnf.specs.Lines.{refuting}
 use Rattle.heesch_cnf.proofs.Lists.{Contains-none, Contains-here, Contains-there, Contains-cases}

@@ -1,31 +1,29 @@
 -- Which clause of families 1 to 3 a number is that of, and when all of them remain.
-use Rattle.std.proofs.Common.{◌≡◌, refl, sym, ap, subst, ◌∙◌, ℕ, zero, suc, ◌+◌, ◌-◌, ◌<◌, ◌≤◌, List, [], ◌∷◌, ◌++◌, map, filter, length, get_or, drop, Bool, true, false, cond, not, ◌&&◌, inl, inr, ◌⊎◌, arith, All, Contains, lt-ltb, le-ltb, ltb-true, le-leb, eq-eqb, true≢false}
-use Rattle.std.specs.Prelude.{Some, None, nat_lt, nat_le, ◌==◌, flat_map, sum}
+use Rattle.std.proofs.Common.{◌≡◌, refl, sym, ap, subst, ◌∙◌, ℕ, zero, suc, ◌+◌, ◌-◌, ◌<◌, ◌≤◌, List, [], ◌∷◌, ◌++◌, map, filter, length, get_or, drop, Bool, true, false, cond, ◌&&◌, arith, Contains, le-leb}
+use Rattle.std.specs.Prelude.{nat_le, ◌==◌, flat_map, sum}
 use Rattle.std.specs.List.{enumerate_from}
-use Rattle.std.proofs.lemmas.Bool.{cases_Bool, cases_lt}
 use Rattle.std.proofs.lemmas.List.{get_or_append_left, get_or-append_right, get_or-map, get_or-drop, length-append, length-drop, length-map}
-use Rattle.std.proofs.lemmas.List.FromFn.{get_or-enumerate_from, length-enumerate_from}
-use Rattle.std.proofs.lemmas.List.Elements.{All-append, All-contains, Contains-append_left, Contains-append_right, Contains-get_or}
+use Rattle.std.proofs.lemmas.List.FromFn.{length-enumerate_from}
+use Rattle.std.proofs.lemmas.List.Elements.{All-append, All-contains, Contains-append_left, Contains-append_right}
 use Rattle.heesch_cnf.specs.declared.literal.Lit.{Lit}
 use Rattle.heesch_cnf.specs.Literals.{Values}
 use Rattle.heesch_cnf.specs.Clauses.{left_of}
 use Rattle.heesch_grid.specs.declared.Cell.{Cell}
-use Rattle.heesch_grid.specs.Cells.{has, origin}
+use Rattle.heesch_grid.specs.Cells.{origin}
 use Rattle.heesch_grid.specs.Geometry.{Geometry}
 use Rattle.heesch_grid.specs.Placement.{touch}
 use Rattle.heesch_grid.specs.Clauses.{clause_of, is_numbered, no_variable}
 use Rattle.heesch_grid.specs.CoronaFormula.{Variable, IsNumbered, covers, first_clauses, covering_clauses, support_clauses}
-use Rattle.heesch_grid.proofs.ListFacts.{All-from_members, filter_member, no_member, member_here}
-use Rattle.heesch_grid.proofs.WindowFacts.{map_member, flat_map_member, member_flat_map}
+use Rattle.heesch_grid.proofs.ListFacts.{All-from_members}
+use Rattle.heesch_grid.proofs.WindowFacts.{flat_map_member, member_flat_map}
 use Rattle.heesch_grid.proofs.ClauseFacts.{entry_at, entry_made, entry_same}
 use Rattle.heesch_cert.specs.Literals.{literals}
 use Rattle.heesch_place.specs.Universes.{Levels}
-use Rattle.heesch_encode.specs.Families.{covering_at, support_at, clauses_at}
-use Rattle.heesch_encode.specs.declared.families.Family.TheVariants.{Covering, Support}
+use Rattle.heesch_encode.specs.Families.{covering_at, support_at}
 use Rattle.heesch_encode.proofs.Numbered.{no_entry}
 use Rattle.heesch_encode.proofs.Pieces.{some_at, entry_read, covering_family, support_family}
-use Rattle.heesch_numbers.specs.Common.{common_of, AllRemain, VariableRemains, covering_counts, outside}
-use Rattle.heesch_numbers.proofs.Counting.{counts_of, all_counted}
+use Rattle.heesch_numbers.specs.Common.{common_of, AllRemain, VariableRemains, covering_counts}
+use Rattle.heesch_numbers.proofs.Counting.{all_counted}
 
 -- ---- lists
 
@@ -33,7 +31,7 @@ use Rattle.heesch_numbers.proofs.Counting.{counts_of, all_counted}
 pub filter_from : {X : Type 0} (p : X → Bool) (xs : List X) (a : ℕ) (d : X) → ((i : ℕ) → i < length xs → i < a → p (get_or xs i d) ≡ false) → ((i : ℕ) → i < length xs → a ≤ i → p (get_or xs i d) ≡ true) → filter p xs ≡ drop a xs
 filter_from p [] zero d low high = refl
 filter_from p [] (suc a) d low high = refl
-filter_from p (x ∷ xs) zero d low high =
+filter_from {X = X} p (x ∷ xs) zero d low high =
     ap (λ b. cond b (x ∷ filter p xs) (filter p xs)) (high 0 (omega arith) (omega arith)) ∙ ap (λ ys. x ∷ ys) (filter_from p xs zero d (λ i l m. absurd (omega arith)) (λ i l m. high (suc i) (omega arith) (omega arith)) ∙ whole xs)
   where
     whole : (ys : List X) → drop 0 ys ≡ ys
@@ -157,9 +155,11 @@ module _ (g : Geometry) (around : List Cell → List Cell) (u : Levels) where
     pub remain_all : AllRemain values (common_of g around u) → AllRemain values first_of_all × ((n : ℕ) (x : Variable) → IsNumbered u.vars n x → VariableRemains values g around u (n, x))
     remain_all h =
         let two = remain_part (first_of_all ++ covering_of_all) support_of_all h in
-        let one = remain_part first_of_all covering_of_all two.0 in
-        (one.0, λ n x number.
-        let m : Contains (enumerate_from 1 u.vars) (n, x) = entry_made u.vars n x number in (
-          remains_each (covering_at around u.shape u.level u.vars) (enumerate_from 1 u.vars) (subst (AllRemain values) (sym (covering_family g around u.shape u.level u.vars)) one.1) (n, x) m,
-          remains_each (support_at g u.vars) (enumerate_from 1 u.vars) (subst (AllRemain values) (sym (support_family g around u.shape u.level u.vars)) two.1) (n, x) m,
-        ))
+        let one = remain_part first_of_all covering_of_all two.0 in (
+          one.0,
+          λ n x number.
+              let m : Contains (enumerate_from 1 u.vars) (n, x) = entry_made u.vars n x number in (
+                remains_each (covering_at around u.shape u.level u.vars) (enumerate_from 1 u.vars) (subst (AllRemain values) (sym (covering_family g around u.shape u.level u.vars)) one.1) (n, x) m,
+                remains_each (support_at g u.vars) (enumerate_from 1 u.vars) (subst (AllRemain values) (sym (support_family g around u.shape u.level u.vars)) two.1) (n, x) m,
+              ),
+        )

@@ -1,23 +1,20 @@
 -- Where the clauses and the owner variables of cells stand, by their counts.
-use Rattle.std.proofs.Common.{◌≡◌, refl, sym, ap, subst, ◌∙◌, ℕ, zero, suc, ◌+◌, ◌-◌, ◌*◌, ◌/◌, ◌%◌, ◌^◌, ◌<◌, ◌≤◌, List, [], ◌∷◌, map, length, get_or, take, All, inl, inr, sum, arith}
+use Rattle.std.proofs.Common.{◌≡◌, refl, sym, ap, ◌∙◌, ℕ, zero, suc, ◌+◌, ◌-◌, ◌*◌, ◌/◌, ◌%◌, ◌^◌, ◌<◌, ◌≤◌, List, [], ◌∷◌, map, length, get_or, take, inl, inr, sum, arith}
 use Rattle.std.specs.Prelude.{sum_by}
-use Rattle.std.specs.Int.Count.{count_leading_zeros}
 use Rattle.std.proofs.lemmas.Bool.{cases_order}
 use Rattle.std.proofs.lemmas.Nat.{leading_top, div_below, div-add-mod'}
 use Rattle.std.proofs.lemmas.List.{length-map, take-map}
-use Rattle.std.proofs.lemmas.List.Elements.{All-get_or}
 use Rattle.std.proofs.lemmas.List.Sums.{sum-map}
-use Rattle.heesch_cnf.specs.declared.literal.Lit.{Lit}
 use Rattle.heesch_grid.specs.declared.Cell.{Cell}
 use Rattle.heesch_grid.specs.Cells.{origin}
 use Rattle.heesch_grid.specs.CoronaFormula.{Variable}
-use Rattle.heesch_grid.specs.OwnerFormula.{holders, digits, owner_count, bit, IsOwned}
+use Rattle.heesch_grid.specs.OwnerFormula.{holders, digits, owner_count}
 use Rattle.heesch_grid.proofs.OwnedCells.{digits_are}
 use Rattle.heesch_encode.proofs.Holders.{bit_clause}
 use Rattle.heesch_numbers.specs.declared.owners.OwnerClauses.{OwnerClauses}
 use Rattle.heesch_numbers.specs.Counts.{FallsIn}
-use Rattle.heesch_numbers.specs.OwnerCounts.{AreOwners, clause_count, owners_of, vars_with}
-use Rattle.heesch_numbers.proofs.OwnersByNumber.{length_owners, owner_at, first_owner, holders_few}
+use Rattle.heesch_numbers.specs.OwnerCounts.{AreOwners, clause_count, owners_of}
+use Rattle.heesch_numbers.proofs.OwnersByNumber.{owner_at, first_owner, holders_few}
 
 map_at : (f : Cell → ℕ) (cells : List Cell) (i : ℕ) → i < length cells → get_or (map f cells) i 0 ≡ f (get_or cells i origin)
 map_at f [] i l = absurd (omega arith)

@@ -1,7 +1,7 @@
 -- The clauses of owner variables by their numbers.
-use Rattle.std.proofs.Common.{◌≡◌, refl, sym, ap, subst, ◌∙◌, ℕ, suc, ◌+◌, ◌*◌, ◌<◌, ◌≤◌, ◌^◌, List, [], ◌∷◌, ◌++◌, Bool, true, false, rules, map, filter, length, get_or, take, drop, All, Contains, inl, inr, flat_map, arith}
+use Rattle.std.proofs.Common.{◌≡◌, refl, sym, ap, subst, ◌∙◌, ℕ, suc, ◌+◌, ◌*◌, ◌<◌, ◌≤◌, List, [], ◌∷◌, ◌++◌, Bool, true, false, rules, filter, length, get_or, take, drop, All, Contains, inl, inr, arith}
 use Rattle.std.specs.Prelude.{sum_by, nat_lt}
-use Rattle.std.specs.List.{enumerate_from, range_with_len, AllAdjacentBelow}
+use Rattle.std.specs.List.{enumerate_from, range_with_len}
 use Rattle.std.proofs.lemmas.Bool.{cases_order}
 use Rattle.std.proofs.lemmas.Nat.{mul-add-lt}
 use Rattle.std.proofs.lemmas.List.{get_or_default, length-append, length-map, get_or_append_left, get_or-append-add, at_drop_more, take-take}
@@ -190,13 +190,13 @@ module _ (vars : List Variable) (cells : List Cell) where
   -- the variable of the one is the universe's, and that of the other an owner variable
   pub owners_form : AreClauses (vars_with vars cells) (owners_of vars cells)
   owners_form = all_owner (IsClause (vars_with vars cells)) (λ e f.
-    let c = get_or cells f.cell origin in
-    let range = All-get_or (λ n. (1 ≤ n) × (n < length vars + 1)) (holders vars c) f.rank 0 f.in_holders (holders_range vars c) in
-    let low = range.0 in
-    let high = range.1 in
-    let more = sum_by_more_le (owner_count vars) cells f.cell origin f.in_cells in
-    let bits = f.in_bits in
-    subst (IsClause (vars_with vars cells)) (sym f.is) (pair_form (vars_with vars cells) (get_or (holders vars c) f.rank 0) (first_owner vars (length vars + 1) cells f.cell + f.bit) (bit f.bit f.rank) low (omega arith) (omega arith)))
+      let c = get_or cells f.cell origin in
+      let range = All-get_or (λ n. (1 ≤ n) × (n < length vars + 1)) (holders vars c) f.rank 0 f.in_holders (holders_range vars c) in
+      let low = range.0 in
+      let high = range.1 in
+      let more = sum_by_more_le (owner_count vars) cells f.cell origin f.in_cells in
+      let bits = f.in_bits in
+      subst (IsClause (vars_with vars cells)) (sym f.is) (pair_form (vars_with vars cells) (get_or (holders vars c) f.rank 0) (first_owner vars (length vars + 1) cells f.cell + f.bit) (bit f.bit f.rank) low (omega arith) (omega arith)))
 
 -- ---- which pairs there are
 

@@ -1,5 +1,5 @@
 -- When a clause contains a clause of owner variables.
-use Rattle.std.proofs.Common.{◌≡◌, refl, sym, ap, subst, ℕ, ◌+◌, ◌<◌, ◌≤◌, List, [], ◌∷◌, length, get_or, All, Contains, arith}
+use Rattle.std.proofs.Common.{◌≡◌, subst, ℕ, ◌+◌, ◌<◌, List, [], ◌∷◌, length, get_or, Contains, arith}
 use Rattle.std.proofs.lemmas.List.Elements.{All-cons, All-nil, All-contains}
 use Rattle.heesch_cnf.specs.declared.literal.Lit.{Lit}
 use Rattle.heesch_cnf.specs.Clauses.{IsWithin, IsNew}
@@ -10,7 +10,7 @@ use Rattle.heesch_grid.specs.OwnerFormula.{holders, signed, bit}
 use Rattle.heesch_grid.proofs.ListFacts.{All-from_members}
 use Rattle.heesch_cert.specs.Literals.{literals}
 use Rattle.heesch_numbers.specs.OwnerCounts.{HasOneOf, owners_of}
-use Rattle.heesch_numbers.proofs.OwnersByNumber.{first_owner, owner_member, member_owner, signed_var}
+use Rattle.heesch_numbers.proofs.OwnersByNumber.{first_owner, owner_member, signed_var}
 
 module _ (vars : List Variable) (cells : List Cell) (clause : List Lit) where
   -- where no literal of an owner variable has its clause

@@ -1,5 +1,5 @@
 -- How many elements of the first ones of a list pass, and which the next that passes is.
-use Rattle.std.proofs.Common.{◌≡◌, refl, sym, ap, subst, ◌∙◌, ℕ, zero, suc, ◌+◌, ◌<◌, ◌≤◌, List, [], ◌∷◌, ◌++◌, filter, length, get_or, take, Bool, true, false, cond, arith}
+use Rattle.std.proofs.Common.{◌≡◌, refl, ap, ◌∙◌, ℕ, zero, suc, ◌+◌, ◌<◌, ◌≤◌, List, [], ◌∷◌, filter, length, get_or, take, Bool, true, false, cond, arith}
 use Rattle.std.proofs.lemmas.List.{take_all}
 
 module _ {X : Type 0} (p : X → Bool) where

@@ -1,6 +1,6 @@
 -- Clauses that remain, piece by piece.
-use Rattle.std.proofs.Common.{◌≡◌, refl, sym, ap, subst, ◌∙◌, ℕ, ◌+◌, ◌<◌, ◌≤◌, List, [], ◌∷◌, ◌++◌, length, get_or, take, true, false, arith, All, Contains}
-use Rattle.std.specs.Prelude.{Bool, MatchBool, flat_map}
+use Rattle.std.proofs.Common.{◌≡◌, refl, sym, subst, ℕ, ◌+◌, ◌<◌, ◌≤◌, List, [], ◌∷◌, length, get_or, take, true, false, true≢false}
+use Rattle.std.specs.Prelude.{Bool, MatchBool, IsTrue, ◌↔◌, flat_map}
 use Rattle.std.proofs.lemmas.List.{take_all}
 use Rattle.std.proofs.lemmas.List.Elements.{All-nil, All-cons, All-append, All-contains, Contains-get_or}
 use Rattle.heesch_cnf.specs.declared.literal.Lit.{Lit}
@@ -50,3 +50,8 @@ one_answer values clause clauses false is h = λ all. one_fails values clause h 
 pub both_answer : (A B : Type 0) (b : Bool) → A → MatchBool b B (¬ B) → MatchBool b (A × B) (¬ (A × B))
 both_answer A B true a h = (a, h)
 both_answer A B false a h = λ both. h both.1
+
+-- an answer on one fact, as one on another that holds just where it does
+pub same_answer : (b : Bool) (N W : Type 0) → MatchBool b N (¬ N) → (N → W) → (W → N) → IsTrue b ↔ W
+same_answer true N W h to back = (λ t. to h, λ w. refl)
+same_answer false N W h to back = (λ t. absurd (true≢false (sym t)), λ w. absurd (h (back w)))

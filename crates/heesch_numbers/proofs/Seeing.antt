@@ -1,8 +1,8 @@
 -- Literals that are looked at one after another, and what is left of a clause that has them.
-use Rattle.std.proofs.Common.{◌≡◌, refl, sym, ap, subst, ◌∙◌, ℕ, ◌+◌, ◌<◌, ◌≤◌, List, [], ◌∷◌, ◌++◌, map, filter, length, get_or, take, drop, Bool, true, false, cond, not, inl, inr, ◌⊎◌, arith, All, Contains, true≢false}
+use Rattle.std.proofs.Common.{◌≡◌, refl, sym, ap, subst, ◌∙◌, ℕ, ◌+◌, ◌<◌, ◌≤◌, List, [], ◌∷◌, ◌++◌, filter, length, get_or, take, drop, Bool, true, false, cond, not, inl, inr, ◌⊎◌, arith, All, Contains, true≢false}
 use Rattle.std.proofs.lemmas.List.Elements.{All-nil, All-cons, All-append, All-contains, All-weaker, Contains-append_left, Contains-append_right, filter-append}
 use Rattle.std.specs.Prelude.{flat_map}
-use Rattle.std.proofs.lemmas.Bool.{not-true, cases_Bool}
+use Rattle.std.proofs.lemmas.Bool.{not-true}
 use Rattle.std.proofs.lemmas.List.{take_all, take_more, take-append-drop, append-nil, append_assoc, map-append}
 use Rattle.std.proofs.lemmas.List.Concat.{flat_map-append}
 use Rattle.heesch_cnf.specs.declared.literal.Lit.{Lit}
@@ -10,7 +10,6 @@ use Rattle.heesch_cnf.specs.declared.values.Left.{Left}
 use Rattle.heesch_cnf.specs.declared.values.Left.TheVariants.{Nothing, One, More}
 use Rattle.heesch_cnf.specs.Literals.{Values}
 use Rattle.heesch_cnf.specs.Left.{IsLeft}
-use Rattle.heesch_cnf.specs.Clauses.{left_of}
 use Rattle.heesch_grid.specs.Listing.{IsRising}
 use Rattle.heesch_grid.proofs.ListFacts.{member_cases, member_here, member_there, no_member, member_filter, filter_member, rising_filter, same_rising}
 use Rattle.heesch_cert.specs.Literals.{literals}

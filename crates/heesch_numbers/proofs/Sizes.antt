@@ -1,9 +1,10 @@
 -- How many literals the clauses of families 1 to 3 have.
-use Rattle.std.proofs.Common.{◌≡◌, refl, sym, ap, subst, ◌∙◌, ℕ, zero, suc, ◌+◌, ◌-◌, ◌<◌, ◌≤◌, List, [], ◌∷◌, ◌++◌, map, filter, length, Bool, true, false, cond, not, ◌&&◌, inl, inr, arith, All, Contains, filter_map, lt-ltb, ltb-true, le-leb, ne_eqb, eq-eqb, eqb-true}
-use Rattle.std.specs.Prelude.{IsTrue, Some, None, Option, nat_lt, nat_le, ◌==◌, sum_by}
+use Rattle.std.proofs.Common.{◌≡◌, refl, sym, ap, ◌∙◌, ℕ, ◌+◌, ◌-◌, ◌≤◌, List, [], ◌∷◌, filter, length, Bool, true, false, cond, not, ◌&&◌, inl, inr, arith, Contains, filter_map, ltb-true, ne_eqb, eq-eqb, eqb-true}
+use Rattle.std.specs.Prelude.{IsTrue, Some, None, Option, nat_lt, nat_le, ◌==◌}
 use Rattle.std.specs.List.{enumerate_from, cons_option}
 use Rattle.std.proofs.lemmas.Bool.{and_left, and_right}
 use Rattle.std.proofs.lemmas.List.{length-map}
+use Rattle.std.proofs.lemmas.List.FromFn.{length-enumerate_from}
 use Rattle.std.proofs.lemmas.List.Elements.{All-contains}
 use Rattle.heesch_cnf.specs.declared.literal.Lit.{Lit}
 use Rattle.heesch_grid.specs.declared.Cell.{Cell}
@@ -18,7 +19,6 @@ use Rattle.heesch_grid.proofs.ListFacts.{member_cases, member_here, member_there
 use Rattle.heesch_grid.proofs.ClauseFacts.{entry_made, entries_rising}
 use Rattle.heesch_cert.specs.Literals.{literals}
 use Rattle.heesch_place.specs.Universes.{covering}
-use Rattle.heesch_encode.specs.Literals.{plus_all}
 use Rattle.heesch_encode.specs.Meeting.{numbers_of, supporting}
 use Rattle.heesch_encode.specs.Families.{support_at}
 use Rattle.heesch_encode.proofs.ClauseLists.{choice_is}
@@ -100,3 +100,16 @@ module _ (vars : List Variable) (n : ℕ) (v : Variable) (number : IsNumbered va
     where
       one_below : (l of : ℕ) → 2 ≤ of → (l == of - 1) ≡ (l + 1 == of)
       one_below l of two = same_truth (l == of - 1) (l + 1 == of) (λ t. let e = eqb-true l (of - 1) t in eq-eqb (l + 1) of (omega arith)) (λ t. let e = eqb-true (l + 1) of t in eq-eqb l (of - 1) (omega arith))
+
+kept_few : (p : Entry → Bool) (xs : List Entry) → length (filter p xs) ≤ length xs
+kept_few p [] = omega arith
+kept_few p (x ∷ xs) = let r = kept_few p xs in elim (p x) as (λ b. length (cond b (x ∷ filter p xs) (filter p xs)) ≤ length (x ∷ xs)) [ true ↦ omega (arith, r) | false ↦ omega (arith, r) ]
+
+-- no more support a tile than there are
+pub supporting_few : (g : Geometry) (vars : List Variable) (level : ℕ) (tile : List Cell) → length (supporting g vars level tile) ≤ length vars
+supporting_few g vars level tile =
+    let test = λ (x : Entry). x.1.level == level && touch g x.1.tile tile in
+    let few = kept_few test (enumerate_from 1 vars) in
+    let same = length-map (filter test (enumerate_from 1 vars)) (λ (x : Entry). x.0) in
+    let long = length-enumerate_from 1 vars in
+    omega (arith, few, same, long)

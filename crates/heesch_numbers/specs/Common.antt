@@ -1,5 +1,5 @@
 -- Families 1 to 3 of the corona formulas of a universe, and what they are found by.
-use Rattle.std.specs.Prelude.{◌≡◌, ℕ, ◌+◌, ◌-◌, ◌<◌, ◌≤◌, Bool, not, Option, MatchOption, List, [], map, filter, length, slice_index_or, All}
+use Rattle.std.specs.Prelude.{◌≡◌, ℕ, ◌+◌, ◌-◌, ◌<◌, ◌≤◌, not, Option, MatchOption, List, [], map, filter, length, slice_index_or, All}
 use Rattle.std.specs.List.{enumerate_from}
 use Rattle.heesch_cnf.specs.declared.literal.Lit.{Lit}
 use Rattle.heesch_cnf.specs.Clauses.{left_of}

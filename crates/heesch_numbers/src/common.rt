@@ -14,7 +14,8 @@ ghost use Rattle.heesch_numbers.specs.Common.{common_of, IsCommonNumber};
 
 use crate::counts::counts_of;
 use crate::prefix::Prefix;
-use crate::remain::{first_remain, all_negated_remain};
+use crate::remain::{all_negated_remain, first_remain};
+use crate::room::are_within;
 use crate::walks::{left_of_covering, left_of_first, left_of_support};
 use heesch_cnf::{Left, Lit};
 use heesch_encode::{Plan, TurnedRing, last_below, rings_of, write_ring};
@@ -25,8 +26,8 @@ use heesch_shape::Shape;
 use std::alloc::Global;
 use std::marker::Model;
 
-/// The clauses of families 1 to 3 of the corona formulas of a universe, by their numbers, which count from 1. No clause stands
-/// anywhere: its literals are looked up by the cells. Contracts see the universe.
+/// The clauses of families 1 to 3 of the corona formulas of a universe, by their numbers, which count from 1. No
+/// clause stands anywhere: its literals are looked up by the cells. Contracts see the universe.
 #[derive(Drop)]
 pub struct CommonClauses<G: Grid> {
     universe: Universe<G>,
@@ -49,8 +50,8 @@ impl<G: Grid> Model for CommonClauses<G> {
 }
 
 impl<G: Grid> CommonClauses<G> {
-    /// Those of a universe of a shape. It looks at the cells around each tile once, and keeps a number for each variable. 2^32
-    /// clauses or more count as want of memory.
+    /// Those of a universe of a shape. It looks at the cells around each tile once, and keeps a number for each
+    /// variable. 2^32 clauses or more count as want of memory.
     pub fn of(
         alloc: Global,
         shape: &Shape<G>,
@@ -87,6 +88,7 @@ impl<G: Grid> CommonClauses<G> {
     /// The universe. A constant time.
     pub fn universe(&self) -> &Universe<G>
         ensures universe { result.now ≡ self.now }
+        ensures is_universe { IsUniverseOf G.geometry self.now }
         ensures few { length self.now.vars < 2 ^ 31 }
     {
         &self.universe
@@ -107,14 +109,15 @@ impl<G: Grid> CommonClauses<G> {
 
     /// How many clauses there are. A constant time.
     pub fn count(&self) -> usize
-        ensures { (around : List Cell → List Cell) → GivesCellsAround G.geometry around → result ≡ length (common_of G.geometry around self.now) }
+        ensures { (around : List Cell → List Cell) → GivesCellsAround G.geometry around → result
+            ≡ length (common_of G.geometry around self.now) }
     {
         let supports = self.universe.count() - self.lowest;
         self.first.len() + self.covering.total() as usize + supports as usize
     }
 
-    /// The literals of the clause of a number that aren't false. A binary search for the variable, and then a look at the
-    /// variables that have the clause's cells. It takes no memory.
+    /// The literals of the clause of a number that aren't false. A binary search for the variable, and then a look at
+    /// the variables that have the clause's cells. It takes no memory.
     pub fn left(&self, number: u32, values: &[Option<bool>]) -> Left
         requires number { IsCommonNumber G.geometry self.now number }
         requires room { length self.now.vars < length values.now }
@@ -136,8 +139,9 @@ impl<G: Grid> CommonClauses<G> {
         left_of_support(&plan, var, values)
     }
 
-    /// Whether a clause contains, as a set of literals, none of the clauses. The values make its literals false, and no others.
-    /// It looks at the clauses of family 1, and at those of the variables that the clause has negated. It takes no memory.
+    /// Whether a clause contains, as a set of literals, none of the clauses. The values make its literals false, and
+    /// no others. It looks at the clauses of family 1, and at those of the variables that the clause has negated. It
+    /// takes no memory.
     pub fn is_new(&self, clause: &[Lit], values: &[Option<bool>]) -> bool
         requires form { (vars : ℕ) × IsClause vars clause.now }
         requires room { length self.now.vars < length values.now }
@@ -150,5 +154,14 @@ impl<G: Grid> CommonClauses<G> {
             return false;
         }
         all_negated_remain(&plan, clause, values)
+    }
+
+    /// Whether the clauses have at most so many literals. They are counted by the cells, and no clause is made.
+    pub fn fits(&self, alloc: Global, room: u32) -> Result<bool, NoMemory>
+        ensures { (around : List Cell → List Cell) → GivesCellsAround G.geometry around
+            → IfOk result (λ yes. IsTrue yes ↔ (formula_size (common_of G.geometry around self.now) ≤ room)) }
+    {
+        let plan = self.plan();
+        are_within(alloc, &plan, &self.first, room)
     }
 }

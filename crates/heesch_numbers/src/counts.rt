@@ -13,11 +13,13 @@ use heesch_grid::Grid;
 use heesch_io::NoMemory;
 use std::alloc::Global;
 
-/// How many a variable has: none where it is of the last level, and else the cells around its tile and outside the shape.
+/// How many a variable has: none where it is of the last level, and else the cells around its tile and outside the
+/// shape.
 fn count_of<G: Grid>(plan: &Plan<G>, var: u32) -> usize
     requires plan { IsPlan G.geometry plan.now.universe.now plan.now.shape.now plan.now.level plan.now.rings.now }
     requires number { (1 ≤ var) × (var ≤ length plan.now.universe.now.vars) }
-    ensures { (around : List Cell → List Cell) (x : Variable) → GivesCellsAround G.geometry around → IsNumbered plan.now.universe.now.vars var x
+    ensures { (around : List Cell → List Cell) (x : Variable) → GivesCellsAround G.geometry around
+        → IsNumbered plan.now.universe.now.vars var x
         → result ≡ length (covering_at around plan.now.shape.now plan.now.level plan.now.universe.now.vars (var, x)) }
 {
     let of = plan.universe.level_of(var);

@@ -6,9 +6,12 @@ mod counts;
 mod owners;
 mod prefix;
 mod remain;
+mod room;
 mod seen;
+mod source;
 mod surround;
 mod walks;
 
 pub use common::CommonClauses;
 pub use prefix::Prefix;
+pub use source::CoronaSource;

@@ -19,7 +19,8 @@ use std::alloc::Global;
 /// A formula has fewer variables than this.
 const VARIABLES_MAX: u32 = 1 << 31;
 
-/// The cells that several variables of a universe have, in cell order, with how many clauses and owner variables each has.
+/// The cells that several variables of a universe have, in cell order, with how many clauses and owner variables each
+/// has.
 #[derive(Drop)]
 pub(crate) struct OwnerClauses {
     pub cells: Vec<Cell>,
@@ -79,8 +80,8 @@ impl OwnerClauses {
     }
 
     /// The last family of a universe, where its clauses have at most `room` literals, and how many more there could be.
-    /// `TooLarge` exactly where they have more. 2^31 variables or more count as want of memory. A look-up for each cell of each
-    /// variable's tile, and a sort of the cells found.
+    /// `TooLarge` exactly where they have more. 2^31 variables or more count as want of memory. A look-up for each cell
+    /// of each variable's tile, and a sort of the cells found.
     pub fn of<G: Grid>(
         alloc: Global,
         universe: &Universe<G>,
@@ -120,13 +121,9 @@ impl OwnerClauses {
         universe.count() + self.owners.total()
     }
 
-    /// The literals of the clause at this place, from 0, that aren't false. A binary search and a look-up; it takes no memory.
-    pub fn left<G: Grid>(
-        &self,
-        universe: &Universe<G>,
-        place: u32,
-        values: &[Option<bool>],
-    ) -> Left
+    /// The literals of the clause at this place, from 0, that aren't false. A binary search and a look-up; it takes no
+    /// memory.
+    pub fn left<G: Grid>(&self, universe: &Universe<G>, place: u32, values: &[Option<bool>]) -> Left
         requires universe { IsUniverseOf G.geometry universe.now }
         requires owners { AreOwners universe.now.vars self.now }
         requires place { place < length (owners_of universe.now.vars self.now.cells.items) }
@@ -141,12 +138,15 @@ impl OwnerClauses {
         let owner = universe.count() + 1 + self.owners.start(part) + t;
         left_in(
             values,
-            &[literal(holders[rank], false), literal(owner, bit_of(rank, t))],
+            &[
+                literal(holders[rank], false),
+                literal(owner, bit_of(rank, t)),
+            ],
         )
     }
 
-    /// Whether the clause of the variable's negation and this literal of an owner variable is one of them. Two binary searches
-    /// and a look-up.
+    /// Whether the clause of the variable's negation and this literal of an owner variable is one of them. Two binary
+    /// searches and a look-up.
     fn has_pair<G: Grid>(&self, universe: &Universe<G>, var: u32, owner: Lit) -> bool
         requires universe { IsUniverseOf G.geometry universe.now }
         requires owners { AreOwners universe.now.vars self.now }
@@ -177,8 +177,8 @@ impl OwnerClauses {
         false
     }
 
-    /// Whether the clause contains, as a set of literals, none of them. For each literal of an owner variable in it and each
-    /// negated variable, two binary searches and a look-up; it takes no memory.
+    /// Whether the clause contains, as a set of literals, none of them. For each literal of an owner variable in it and
+    /// each negated variable, two binary searches and a look-up; it takes no memory.
     pub fn is_new<G: Grid>(&self, universe: &Universe<G>, clause: &[Lit]) -> bool
         requires universe { IsUniverseOf G.geometry universe.now }
         requires owners { AreOwners universe.now.vars self.now }

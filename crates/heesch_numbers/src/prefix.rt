@@ -54,8 +54,8 @@ impl Prefix {
         self.total
     }
 
-    /// A part of so many things stands last, or nothing has changed. 2^32 things or more count as want of memory. A constant
-    /// time, as an average over many calls.
+    /// A part of so many things stands last, or nothing has changed. 2^32 things or more count as want of memory. A
+    /// constant time, as an average over many calls.
     pub fn push(&mut self, count: u32) -> Result<(), NoMemory>
         ensures ok { OnOk result (self.new ≡ self.old ++ count ∷ []) }
         ensures err { OnErr result (self.new ≡ self.old) }

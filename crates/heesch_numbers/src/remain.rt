@@ -1,5 +1,6 @@
 //! Whether each clause of families 1 to 3 has a literal that isn't false.
-ghost use Rattle.std.specs.Prelude.{◌≡◌, ◌<◌, ◌≤◌, ◌+◌, ◌∷◌, [], ℕ, List, All, false, not, cond, Contains, MatchBool, map, length};
+ghost use Rattle.std.specs.Prelude.{◌≡◌, ◌<◌, ◌≤◌, ◌+◌, ◌∷◌, [], ℕ, List};
+ghost use Rattle.std.specs.Prelude.{All, false, not, cond, Contains, MatchBool, map, length};
 ghost use Rattle.heesch_cnf.specs.Literals.{held};
 ghost use Rattle.heesch_grid.specs.declared.Cell.{Cell};
 ghost use Rattle.heesch_grid.specs.Cells.{has};
@@ -18,13 +19,10 @@ use heesch_encode::Plan;
 use heesch_grid::{Cell, Grid};
 
 /// Of family 1, over these cells.
-pub(crate) fn first_remain<G: Grid>(
-    plan: &Plan<G>,
-    cells: &[Cell],
-    values: &[Option<bool>],
-) -> bool
+pub(crate) fn first_remain<G: Grid>(plan: &Plan<G>, cells: &[Cell], values: &[Option<bool>]) -> bool
     requires room { length plan.now.universe.now.vars < length values.now }
-    ensures { let clauses = map (λ c. clause_of literals no_variable (covers 1 c) plan.now.universe.now.vars) cells.now in
+    ensures { let clauses = map (λ c. clause_of literals no_variable
+        (covers 1 c) plan.now.universe.now.vars) cells.now in
         MatchBool result (AllRemain (held values.now) clauses) (¬ AllRemain (held values.now) clauses) }
 {
     for c in cells {
@@ -46,7 +44,8 @@ fn cell_remains<G: Grid>(
     requires number { (1 ≤ var) × (var ≤ length plan.now.universe.now.vars) }
     requires room { length plan.now.universe.now.vars < length values.now }
     ensures { (x : Variable) → IsNumbered plan.now.universe.now.vars var x → has x.tile c ≡ false →
-        let clauses = cond (not (has plan.now.shape.now c)) (clause_of literals (is_numbered var) (covers most c) plan.now.universe.now.vars ∷ []) [] in
+        let clauses = cond (not (has plan.now.shape.now c)) (clause_of literals (is_numbered var)
+        (covers most c) plan.now.universe.now.vars ∷ []) [] in
         MatchBool result (AllRemain (held values.now) clauses) (¬ AllRemain (held values.now) clauses) }
 {
     if plan.shape.has(c) {
@@ -60,7 +59,8 @@ fn covering_remain<G: Grid>(plan: &Plan<G>, var: u32, values: &[Option<bool>]) -
     requires plan { IsPlan G.geometry plan.now.universe.now plan.now.shape.now plan.now.level plan.now.rings.now }
     requires number { (1 ≤ var) × (var ≤ length plan.now.universe.now.vars) }
     requires room { length plan.now.universe.now.vars < length values.now }
-    ensures { (around : List Cell → List Cell) (x : Variable) → GivesCellsAround G.geometry around → IsNumbered plan.now.universe.now.vars var x →
+    ensures { (around : List Cell → List Cell) (x : Variable) → GivesCellsAround G.geometry around
+        → IsNumbered plan.now.universe.now.vars var x →
         let clauses = covering_at around plan.now.shape.now plan.now.level plan.now.universe.now.vars (var, x) in
         MatchBool result (AllRemain (held values.now) clauses) (¬ AllRemain (held values.now) clauses) }
 {
@@ -99,7 +99,8 @@ fn variable_remains<G: Grid>(plan: &Plan<G>, var: u32, values: &[Option<bool>]) 
     requires plan { IsPlan G.geometry plan.now.universe.now plan.now.shape.now plan.now.level plan.now.rings.now }
     requires number { (1 ≤ var) × (var ≤ length plan.now.universe.now.vars) }
     requires room { length plan.now.universe.now.vars < length values.now }
-    ensures { (around : List Cell → List Cell) (x : Variable) → GivesCellsAround G.geometry around → IsNumbered plan.now.universe.now.vars var x →
+    ensures { (around : List Cell → List Cell) (x : Variable) → GivesCellsAround G.geometry around
+        → IsNumbered plan.now.universe.now.vars var x →
         let remains = VariableRemains (held values.now) G.geometry around plan.now.universe.now (var, x) in
         MatchBool result remains (¬ remains) }
 {
@@ -116,7 +117,7 @@ fn negated_remains<G: Grid>(plan: &Plan<G>, lit: Lit, values: &[Option<bool>]) -
     requires room { length plan.now.universe.now.vars < length values.now }
     ensures { (around : List Cell → List Cell) → GivesCellsAround G.geometry around →
         let remain = (n : ℕ) (x : Variable) → IsNumbered plan.now.universe.now.vars n x → lit ≡ literals.minus n
-            → VariableRemains (held values.now) G.geometry around plan.now.universe.now (n, x) in
+        → VariableRemains (held values.now) G.geometry around plan.now.universe.now (n, x) in
         MatchBool result remain (¬ remain) }
 {
     if lit.positive {
@@ -139,8 +140,9 @@ pub(crate) fn all_negated_remain<G: Grid>(
     requires variables { All (λ l. 1 ≤ l.var) clause.now }
     requires room { length plan.now.universe.now.vars < length values.now }
     ensures { (around : List Cell → List Cell) → GivesCellsAround G.geometry around →
-        let remain = (n : ℕ) (x : Variable) → IsNumbered plan.now.universe.now.vars n x → Contains clause.now (literals.minus n)
-            → VariableRemains (held values.now) G.geometry around plan.now.universe.now (n, x) in
+        let remain = (n : ℕ) (x : Variable) → IsNumbered plan.now.universe.now.vars n x
+        → Contains clause.now (literals.minus n)
+        → VariableRemains (held values.now) G.geometry around plan.now.universe.now (n, x) in
         MatchBool result remain (¬ remain) }
 {
     for lit in clause {

@@ -23,20 +23,15 @@ pub(crate) fn is_out(values: &[Option<bool>], lit: Lit) -> bool
 /// What is left, where something was left of the literals before, and of this one.
 pub(crate) fn left_with(left: Left, values: &[Option<bool>], lit: Lit) -> Left
     requires { lit.var < length values.now }
-    ensures { (seen : List Lit) → IsSeen (held values.now) seen left → IsSeen (held values.now) (seen ++ lit ∷ []) result }
+    ensures { (seen : List Lit) → IsSeen (held values.now) seen left
+        → IsSeen (held values.now) (seen ++ lit ∷ []) result }
 {
     if is_out(values, lit) {
         return left;
     }
     match left {
         Left::Nothing => Left::One(lit),
-        Left::One(one) => {
-            if one == lit {
-                left
-            } else {
-                Left::More
-            }
-        }
+        Left::One(one) => { if one == lit { left } else { Left::More } }
         Left::More => Left::More,
     }
 }
@@ -44,7 +39,8 @@ pub(crate) fn left_with(left: Left, values: &[Option<bool>], lit: Lit) -> Left
 /// The same with each of these variables. It stops where two are left.
 pub(crate) fn left_with_all(left: Left, values: &[Option<bool>], numbers: &[u32]) -> Left
     requires { All (λ n. n < length values.now) numbers.now }
-    ensures { (seen : List Lit) → IsSeen (held values.now) seen left → IsSeen (held values.now) (seen ++ plus_all numbers.now) result }
+    ensures { (seen : List Lit) → IsSeen (held values.now) seen left
+        → IsSeen (held values.now) (seen ++ plus_all numbers.now) result }
 {
     let mut now = left;
     for var in numbers {
@@ -62,7 +58,8 @@ pub(crate) fn left_with_all(left: Left, values: &[Option<bool>], numbers: &[u32]
 
 /// Whether something is left.
 pub(crate) fn remains(left: Left) -> bool
-    ensures { (values : Values) (clause : List Lit) → IsLeft values clause left → MatchBool result (¬ (left_of values clause ≡ [])) (left_of values clause ≡ []) }
+    ensures { (values : Values) (clause : List Lit) → IsLeft values clause left
+        → MatchBool result (¬ (left_of values clause ≡ [])) (left_of values clause ≡ []) }
 {
     match left {
         Left::Nothing => false,

@@ -20,8 +20,8 @@ use std::marker::Model;
 /// The most clauses of a formula.
 const CLAUSES_MAX: usize = 1 << 31;
 
-/// The second corona formula of a shape and a level, with its universe: a clause is computed where it is asked for. What is kept
-/// are the universe, the cells that several of its variables have, and sums of counts.
+/// The second corona formula of a shape and a level, with its universe: a clause is computed where it is asked for.
+/// What is kept are the universe, the cells that several of its variables have, and sums of counts.
 #[derive(Drop)]
 pub struct CoronaSource<G: Grid> {
     common: CommonClauses<G>,
@@ -29,7 +29,7 @@ pub struct CoronaSource<G: Grid> {
 }
 
 impl<G: Grid> Model for CoronaSource<G> {
-    ghost use Rattle.std.specs.Prelude.{◌≤◌, ◌×◌, ◌^◌, length};
+    ghost use Rattle.std.specs.Prelude.{◌≤◌, ◌^◌, length};
     ghost use Rattle.heesch_numbers.specs.OwnerCounts.{AreOwners};
     ghost use Rattle.heesch_numbers.specs.Sourced.{Sourced, owned_formula};
 
@@ -41,12 +41,13 @@ impl<G: Grid> Model for CoronaSource<G> {
 }
 
 impl<G: Grid> CoronaSource<G> {
-    /// The source of the formula of a shape and a level, where the formula has at most `size` literals; these are counted, and no
-    /// clause is made.
+    /// The source of the formula of a shape and a level, where the formula has at most `size` literals; these are
+    /// counted, and no clause is made.
     ///
-    /// Condition: the shape is canonical, the level 1 to 6, the size 1 to 60,000,000. `TooLarge` exactly where the formula has
-    /// more than `size` literals; `NoMemory` says nothing more. The cost is that of the universe, a look-up for each cell of each
-    /// variable's tile and around it, and a walk over the variables of the level below that touch each variable.
+    /// Condition: the shape is canonical, the level 1 to 6, the size 1 to 60,000,000. `TooLarge` exactly where the
+    /// formula has more than `size` literals; `NoMemory` says nothing more. The cost is that of the universe, a look-up
+    /// for each cell of each variable's tile and around it, and a walk over the variables of the level below that touch
+    /// each variable.
     pub fn of(
         alloc: Global,
         shape: &Shape<G>,
@@ -69,8 +70,8 @@ impl<G: Grid> CoronaSource<G> {
         if !common.fits(alloc, left)? {
             return Err(EncodeStop::TooLarge);
         }
-        let count = common.count() + owners.count(common.universe()) as usize;
-        if count > CLAUSES_MAX {
+        let owned = owners.count(common.universe()) as usize;
+        if common.count().saturating_add(owned) > CLAUSES_MAX {
             return Err(EncodeStop::NoMemory);
         }
         Ok(CoronaSource { common, owners })
@@ -108,6 +109,9 @@ impl<G: Grid> ClauseSource for CoronaSource<G> {
 
 impl<G: Grid> NewnessSource for CoronaSource<G> {
     fn is_new(&self, clause: &[Lit], values: &[Option<bool>]) -> bool {
-        self.common.is_new(clause, values) && self.owners.is_new(self.common.universe(), clause)
+        if !self.common.is_new(clause, values) {
+            return false;
+        }
+        self.owners.is_new(self.common.universe(), clause)
     }
 }

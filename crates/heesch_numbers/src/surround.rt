@@ -33,8 +33,10 @@ pub(crate) fn surround_of<'a, G: Grid>(
 ) -> Surround<'a>
     requires rings { AreRings G.geometry universe.now.shape rings.now }
     requires number { (1 ≤ var) × (var ≤ length universe.now.vars) }
-    ensures listed { (x : Variable) → IsNumbered universe.now.vars var x → ListsExactly cell_before (IsAround G.geometry x.tile) (moved_by result.step result.ring.now) }
-    ensures given { (x : Variable) (around : List Cell → List Cell) → IsNumbered universe.now.vars var x → GivesCellsAround G.geometry around → moved_by result.step result.ring.now ≡ around x.tile }
+    ensures listed { (x : Variable) → IsNumbered universe.now.vars var x
+        → ListsExactly cell_before (IsAround G.geometry x.tile) (moved_by result.step result.ring.now) }
+    ensures given { (x : Variable) (around : List Cell → List Cell) → IsNumbered universe.now.vars var x
+        → GivesCellsAround G.geometry around → moved_by result.step result.ring.now ≡ around x.tile }
 {
     let place = universe.placement_of(var);
     let turned = &rings[place.iso().turn as usize];
@@ -80,7 +82,8 @@ pub(crate) fn count_outside<G: Grid>(shape: &Shape<G>, cells: &Surround) -> usiz
 /// The cell at a place, from 0, among those outside the shape. A look at each cell up to it.
 pub(crate) fn cell_outside<G: Grid>(shape: &Shape<G>, cells: &Surround, place: u32) -> Cell
     requires { place < length (outside shape.now (moved_by cells.now.step cells.now.ring.now)) }
-    ensures { (d : Cell) → result ≡ slice_index_or (outside shape.now (moved_by cells.now.step cells.now.ring.now)) place d }
+    ensures { (d : Cell) → result
+        ≡ slice_index_or (outside shape.now (moved_by cells.now.step cells.now.ring.now)) place d }
 {
     let mut passed = 0;
     for i in 0..cells.len() {

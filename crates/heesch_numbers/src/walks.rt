@@ -1,5 +1,6 @@
-//! What is left of a clause of families 1 to 3, whose literals are found by the cells and looked at where they are found.
-ghost use Rattle.std.specs.Prelude.{◌≡◌, ◌+◌, ◌<◌, ◌≤◌, ◌&&◌, ◌==◌, ◌++◌, ℕ, [], List, All, false, filter, length, not, slice_index_or, ◌∷◌};
+//! What is left of a clause of families 1 to 3. Its literals are found by the cells, and looked at where they are found.
+ghost use Rattle.std.specs.Prelude.{◌≡◌, ◌+◌, ◌<◌, ◌≤◌, ◌&&◌, ◌==◌, ◌++◌, ℕ};
+ghost use Rattle.std.specs.Prelude.{[], List, All, false, filter, length, not, slice_index_or, ◌∷◌};
 ghost use Rattle.heesch_cnf.specs.declared.literal.Lit.{Lit};
 ghost use Rattle.heesch_cnf.specs.Left.{IsLeft};
 ghost use Rattle.heesch_cnf.specs.Literals.{held};
@@ -26,7 +27,8 @@ use heesch_shape::Shape;
 /// Of family 1: the clause of a cell around the shape.
 pub(crate) fn left_of_first<G: Grid>(plan: &Plan<G>, c: Cell, values: &[Option<bool>]) -> Left
     requires { length plan.now.universe.now.vars < length values.now }
-    ensures { IsLeft (held values.now) (clause_of literals no_variable (covers 1 c) plan.now.universe.now.vars) result }
+    ensures { IsLeft (held values.now) (clause_of literals no_variable
+        (covers 1 c) plan.now.universe.now.vars) result }
 {
     left_with_all(Left::Nothing, values, plan.universe.covered_by(c, 1))
 }
@@ -42,7 +44,8 @@ pub(crate) fn left_of_cover<G: Grid>(
     requires number { (1 ≤ var) × (var ≤ length plan.now.universe.now.vars) }
     requires room { length plan.now.universe.now.vars < length values.now }
     ensures { (x : Variable) → IsNumbered plan.now.universe.now.vars var x → has x.tile c ≡ false
-        → IsLeft (held values.now) (clause_of literals (is_numbered var) (covers most c) plan.now.universe.now.vars) result }
+        → IsLeft (held values.now) (clause_of literals (is_numbered var)
+        (covers most c) plan.now.universe.now.vars) result }
 {
     let negated = Lit {
         var,
@@ -61,11 +64,15 @@ pub(crate) fn left_of_covering<G: Grid>(
 ) -> Left
     requires plan { IsPlan G.geometry plan.now.universe.now plan.now.shape.now plan.now.level plan.now.rings.now }
     requires number { (1 ≤ var) × (var ≤ length plan.now.universe.now.vars) }
-    requires place { (around : List Cell → List Cell) (x : Variable) → GivesCellsAround G.geometry around → IsNumbered plan.now.universe.now.vars var x
+    requires place { (around : List Cell → List Cell) (x : Variable) → GivesCellsAround G.geometry around
+        → IsNumbered plan.now.universe.now.vars var x
         → place < length (covering_at around plan.now.shape.now plan.now.level plan.now.universe.now.vars (var, x)) }
     requires room { length plan.now.universe.now.vars < length values.now }
-    ensures { (around : List Cell → List Cell) (x : Variable) → GivesCellsAround G.geometry around → IsNumbered plan.now.universe.now.vars var x
-        → IsLeft (held values.now) (slice_index_or (covering_at around plan.now.shape.now plan.now.level plan.now.universe.now.vars (var, x)) place []) result }
+    ensures { (around : List Cell → List Cell) (x : Variable) → GivesCellsAround G.geometry around
+        → IsNumbered plan.now.universe.now.vars var x
+        → IsLeft (held values.now) (slice_index_or
+        (covering_at around plan.now.shape.now plan.now.level plan.now.universe.now.vars
+        (var, x)) place []) result }
 {
     let cells = surround_of(plan.rings, plan.universe, var);
     let c = cell_outside(plan.shape, &cells, place);
@@ -85,7 +92,8 @@ fn left_with_apart<G: Grid>(
     requires number { (1 ≤ var) × (var ≤ length universe.now.vars) }
     requires room { length universe.now.vars < length values.now }
     ensures { (seen : List Lit) → IsSeen (held values.now) seen left
-        → IsSeen (held values.now) (seen ++ plus_all (filter (λ n. not (meet (tile_of universe.now.vars n) tile.now)) (var ∷ []))) result }
+        → IsSeen (held values.now) (seen ++ plus_all (filter (λ n. not (meet
+        (tile_of universe.now.vars n) tile.now)) (var ∷ []))) result }
 {
     let lit = Lit {
         var,
@@ -111,7 +119,8 @@ fn left_with_all_apart<G: Grid>(
     requires numbers { All (λ n. (1 ≤ n) × (n ≤ length universe.now.vars)) numbers.now }
     requires room { length universe.now.vars < length values.now }
     ensures { (seen : List Lit) → IsSeen (held values.now) seen left
-        → IsSeen (held values.now) (seen ++ plus_all (filter (λ n. not (meet (tile_of universe.now.vars n) tile.now)) numbers.now)) result }
+        → IsSeen (held values.now) (seen ++ plus_all (filter (λ n. not (meet
+        (tile_of universe.now.vars n) tile.now)) numbers.now)) result }
 {
     let mut now = left;
     for var in numbers {
@@ -123,14 +132,16 @@ fn left_with_all_apart<G: Grid>(
     now
 }
 
-/// Of family 3: the clause of a variable of level 2 or more. Those of the level below are found by the cells around its tile.
+/// Of family 3: the clause of a variable of level 2 or more. Those of the level below are found by the cells around
+/// its tile.
 pub(crate) fn left_of_support<G: Grid>(plan: &Plan<G>, var: u32, values: &[Option<bool>]) -> Left
     requires plan { IsPlan G.geometry plan.now.universe.now plan.now.shape.now plan.now.level plan.now.rings.now }
     requires number { (1 ≤ var) × (var ≤ length plan.now.universe.now.vars) }
     requires level { (x : Variable) → IsNumbered plan.now.universe.now.vars var x → 2 ≤ x.level }
     requires room { length plan.now.universe.now.vars < length values.now }
     ensures { (x : Variable) → IsNumbered plan.now.universe.now.vars var x
-        → IsLeft (held values.now) (clause_of literals (is_numbered var) (λ y. (y.1.level + 1 == x.level) && touch G.geometry y.1.tile x.tile) plan.now.universe.now.vars) result }
+        → IsLeft (held values.now) (clause_of literals (is_numbered var) (λ y.
+        (y.1.level + 1 == x.level) && touch G.geometry y.1.tile x.tile) plan.now.universe.now.vars) result }
 {
     let universe = plan.universe;
     let below = universe.level_of(var) - 1;

@@ -1,4 +1,4 @@
-use Rattle.std.proofs.Common.{◌≡◌, ◌<◌, List, [], length, sym, ap, ◌∙◌, arith}
+use Rattle.std.proofs.Common.{List, length, sym, ap, ◌∙◌, arith}
 use Rattle.heesch_grid.specs.declared.Cell.{Cell}
 use Rattle.heesch_encode.proofs.Pieces.{no_covering}
 use Rattle.heesch_numbers.specs.Common.{outside}

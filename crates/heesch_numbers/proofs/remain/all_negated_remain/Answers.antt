@@ -1,5 +1,5 @@
-use Rattle.std.proofs.Common.{◌≡◌, false, ◌+◌, ◌<◌, ◌∷◌, ◌++◌, [], List, length, get_or, take, sym, subst, inl, inr, arith, Contains}
-use Rattle.std.proofs.lemmas.List.{take_all, take_more, get_or_default}
+use Rattle.std.proofs.Common.{false, ◌∷◌, [], get_or, take, sym, subst, inl, inr, arith, Contains}
+use Rattle.std.proofs.lemmas.List.{take_all, take_more}
 use Rattle.std.proofs.lemmas.List.Elements.{Contains-append_cases, Contains-get_or}
 use Rattle.heesch_cnf.specs.declared.literal.Lit.{Lit}
 use Rattle.heesch_cert.specs.Literals.{literals}
@@ -20,7 +20,7 @@ loop-lit-preserved g c = λ around gives n x number m.
       | inl k ↦ c.loop-lit.invariant around gives n x number k
       | inr k ↦ elim (member_cases lit [] (literals.minus n) k) [
         | inl e ↦ when_true c.negated_remains.result _ _ c.if-not-negated_remains.false (c.negated_remains.ensures around gives) n x number e
-        | inr no ↦ absurd (no_member (literals.minus n) no)
+        | inr gone ↦ absurd (no_member (literals.minus n) gone)
       ]
     ]
 

@@ -1,17 +1,15 @@
-use Rattle.std.proofs.Common.{◌≡◌, refl, ◌+◌, ◌-◌, ◌<◌, List, [],  length, get_or, sym, ap, ◌∙◌, subst, arith}
+use Rattle.std.proofs.Common.{refl, ◌-◌, ◌<◌, List, length, get_or, sym, ap, ◌∙◌, subst, arith}
 use Rattle.std.specs.Prelude.{MatchBool}
 use Rattle.heesch_cnf.specs.declared.literal.Lit.{Lit}
 use Rattle.heesch_cnf.specs.Literals.{held}
 use Rattle.heesch_grid.specs.declared.Cell.{Cell}
 use Rattle.heesch_grid.specs.Cells.{has, origin}
-use Rattle.heesch_grid.specs.Clauses.{clause_of, is_numbered}
-use Rattle.heesch_grid.specs.CoronaFormula.{Variable, IsNumbered, covers}
-use Rattle.heesch_cert.specs.Literals.{literals}
+use Rattle.heesch_grid.specs.CoronaFormula.{Variable, IsNumbered}
 use Rattle.heesch_encode.proofs.Numbered.{no_entry}
 use Rattle.heesch_encode.proofs.Pieces.{covering_piece, covering_is, no_covering, around_outside, some_at}
 use Rattle.heesch_numbers.specs.Common.{AllRemain}
 use Rattle.heesch_numbers.specs.Moves.{moved_by}
-use Rattle.heesch_numbers.proofs.Remaining.{none_to_remain, one_remains, one_fails, piece_remains, piece_fails, pieces_remain, when_true, when_false}
+use Rattle.heesch_numbers.proofs.Remaining.{none_to_remain, piece_remains, piece_fails, pieces_remain, when_true, when_false}
 use Rattle.heesch_numbers.proofs.remain.covering_remain.Given as given
 use Rattle.heesch_numbers.proofs.remain.covering_remain.Goals as goal
 use Rattle.heesch_numbers.proofs.remain.covering_remain.Goals.{After-cell_remains}

@@ -1,4 +1,4 @@
-use Rattle.std.proofs.Common.{◌≡◌, ◌<◌, List, [], length, get_or, sym, subst, arith}
+use Rattle.std.proofs.Common.{List, get_or, sym, subst, arith}
 use Rattle.std.proofs.lemmas.List.Concat.{flat_map_single}
 use Rattle.heesch_cnf.specs.declared.literal.Lit.{Lit}
 use Rattle.heesch_cnf.specs.Literals.{held}

@@ -1,5 +1,5 @@
 use Rattle.std.proofs.Common.{List, sym, subst}
-use Rattle.heesch_cnf.specs.Literals.{held, Values}
+use Rattle.heesch_cnf.specs.Literals.{held}
 use Rattle.heesch_grid.specs.declared.Cell.{Cell}
 use Rattle.heesch_encode.specs.Families.{covering_at, support_at}
 use Rattle.heesch_numbers.specs.Common.{AllRemain}

@@ -1,4 +1,4 @@
-use Rattle.std.proofs.Common.{◌≡◌, ◌+◌, ◌++◌, List, sym, subst, take, arith}
+use Rattle.std.proofs.Common.{◌+◌, ◌++◌, List, sym, subst, take, arith}
 use Rattle.std.proofs.lemmas.List.{append-nil}
 use Rattle.heesch_cnf.specs.declared.literal.Lit.{Lit}
 use Rattle.heesch_cnf.specs.declared.values.Left.{Left}

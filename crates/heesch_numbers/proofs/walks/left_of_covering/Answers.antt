@@ -1,11 +1,11 @@
-use Rattle.std.proofs.Common.{◌≡◌, ◌+◌, ◌-◌, ◌<◌, ◌∷◌, [], List, length, get_or, sym, ap, ◌∙◌, subst, arith}
+use Rattle.std.proofs.Common.{◌≡◌, ◌+◌, ◌-◌, ◌<◌, List, length, get_or, sym, ap, ◌∙◌, subst, arith}
 use Rattle.heesch_cnf.specs.declared.literal.Lit.{Lit}
 use Rattle.heesch_cnf.specs.Literals.{held}
 use Rattle.heesch_cnf.specs.Left.{IsLeft}
 use Rattle.heesch_grid.specs.declared.Cell.{Cell}
 use Rattle.heesch_grid.specs.Cells.{origin}
 use Rattle.heesch_grid.specs.Clauses.{clause_of, is_numbered}
-use Rattle.heesch_grid.specs.CoronaFormula.{Variable, covers}
+use Rattle.heesch_grid.specs.CoronaFormula.{covers}
 use Rattle.heesch_grid.proofs.AroundFacts.{cells_around, around_given}
 use Rattle.heesch_cert.specs.Literals.{literals}
 use Rattle.heesch_encode.proofs.Numbered.{no_entry}

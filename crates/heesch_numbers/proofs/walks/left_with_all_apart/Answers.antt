@@ -1,8 +1,7 @@
-use Rattle.std.proofs.Common.{◌≡◌, ◌+◌, ◌++◌, ◌∷◌, [], List, ℕ, filter, not, get_or, sym, subst, take, arith}
+use Rattle.std.proofs.Common.{◌+◌, ◌++◌, List, ℕ, filter, not, sym, subst, take, arith}
 use Rattle.std.proofs.lemmas.List.{append-nil}
 use Rattle.heesch_cnf.specs.declared.literal.Lit.{Lit}
 use Rattle.heesch_cnf.specs.declared.values.Left.{Left}
-use Rattle.heesch_cnf.specs.declared.values.Left.TheVariants.{More}
 use Rattle.heesch_cnf.specs.Literals.{held}
 use Rattle.heesch_grid.specs.Cells.{meet}
 use Rattle.heesch_encode.specs.Literals.{plus_all}

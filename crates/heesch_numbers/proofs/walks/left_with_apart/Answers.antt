@@ -1,6 +1,5 @@
-use Rattle.std.proofs.Common.{◌≡◌, ◌-◌, not, get_or, sym, ap, ◌∙◌, subst}
+use Rattle.std.proofs.Common.{◌≡◌, ◌-◌, not, get_or, sym, ap, ◌∙◌}
 use Rattle.heesch_cnf.specs.Literals.{held}
-use Rattle.heesch_cert.specs.Literals.{literals}
 use Rattle.heesch_grid.specs.Cells.{meet}
 use Rattle.heesch_encode.proofs.Numbered.{no_entry}
 use Rattle.heesch_encode.proofs.Pieces.{some_at}

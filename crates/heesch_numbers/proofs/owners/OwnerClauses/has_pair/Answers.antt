@@ -66,13 +66,12 @@ returns-in-Ok g c =
     let is = own g there in
     let r = subst (λ r. MatchResult r (λ i. (i < length c.holders_of.result.now) × (get_or c.holders_of.result.now i 0 ≡ c.args.var)) (λ i. (i ≤ length c.holders_of.result.now) × ((k : ℕ) → k < i → get_or c.holders_of.result.now k 0 < c.args.var) × ((k : ℕ) → i ≤ k → k < length c.holders_of.result.now → c.args.var < get_or c.holders_of.result.now k 0))) c.in-Ok.is (found g (goal.at.returns-in-Ok g c).After-binary_search) in
     let inside : c.in-Ok.rank < length (holders vars (get_or cells part origin)) = subst (λ (ns : List ℕ). c.in-Ok.rank < length ns) is r.0 in
-    let number : get_or (holders vars (get_or cells part origin)) c.in-Ok.rank 0 ≡ c.args.var = ap (λ (ns : List ℕ). get_or ns c.in-Ok.rank 0) (sym is) ∙ r.1 in
-    (
+    let number : get_or (holders vars (get_or cells part origin)) c.in-Ok.rank 0 ≡ c.args.var = ap (λ (ns : List ℕ). get_or ns c.in-Ok.rank 0) (sym is) ∙ r.1 in (
       λ yes. pair_there vars cells part t c.args.var c.args.owner falls.in_cells falls.in_part (behind g there) c.in-Ok.rank inside number (sym c.bit_of.ensures ∙ same_from_test c.bit_of.result c.args.owner.positive yes),
       λ m.
-        let f = pair_found vars cells part t c.args.var c.args.owner falls.in_cells falls.in_part (behind g there) m in
-        let one = one_rank (holders vars (get_or cells part origin)) (holders_rising vars (get_or cells part origin)) c.in-Ok.rank f.rank inside f.in_holders (number ∙ sym f.number) in
-        test_from_same c.bit_of.result c.args.owner.positive (c.bit_of.ensures ∙ ap (bit t) one ∙ f.sign),
+          let f = pair_found vars cells part t c.args.var c.args.owner falls.in_cells falls.in_part (behind g there) m in
+          let one = one_rank (holders vars (get_or cells part origin)) (holders_rising vars (get_or cells part origin)) c.in-Ok.rank f.rank inside f.in_holders (number ∙ sym f.number) in
+          test_from_same c.bit_of.result c.args.owner.positive (c.bit_of.ensures ∙ ap (bit t) one ∙ f.sign),
     )
 
 pub returns-in-Err : goal.returns-in-Err
@@ -84,15 +83,14 @@ returns-in-Err g c =
     let there = (goal.at.returns-in-Err g c).After-holders_of in
     let falls = at g there in
     let is = own g there in
-    let r = subst (λ r. MatchResult r (λ i. (i < length c.holders_of.result.now) × (get_or c.holders_of.result.now i 0 ≡ c.args.var)) (λ i. (i ≤ length c.holders_of.result.now) × ((k : ℕ) → k < i → get_or c.holders_of.result.now k 0 < c.args.var) × ((k : ℕ) → i ≤ k → k < length c.holders_of.result.now → c.args.var < get_or c.holders_of.result.now k 0))) c.in-Err.is (found g (goal.at.returns-in-Err g c).After-binary_search) in
-    (
+    let r = subst (λ r. MatchResult r (λ i. (i < length c.holders_of.result.now) × (get_or c.holders_of.result.now i 0 ≡ c.args.var)) (λ i. (i ≤ length c.holders_of.result.now) × ((k : ℕ) → k < i → get_or c.holders_of.result.now k 0 < c.args.var) × ((k : ℕ) → i ≤ k → k < length c.holders_of.result.now → c.args.var < get_or c.holders_of.result.now k 0))) c.in-Err.is (found g (goal.at.returns-in-Err g c).After-binary_search) in (
       λ yes. absurd (true≢false (sym yes)),
       λ m.
-        let f = pair_found vars cells part t c.args.var c.args.owner falls.in_cells falls.in_part (behind g there) m in
-        let inside : f.rank < length c.holders_of.result.now = subst (λ (ns : List ℕ). f.rank < length ns) (sym is) f.in_holders in
-        let number : get_or c.holders_of.result.now f.rank 0 ≡ c.args.var = ap (λ (ns : List ℕ). get_or ns f.rank 0) is ∙ f.number in
-        absurd (elim (cases_lt f.rank c.in-Err.field-0) [
-          | inl low ↦ let less = r.1 f.rank low in omega arith
-          | inr high ↦ let more = r.2 f.rank high inside in omega arith
-        ]),
+          let f = pair_found vars cells part t c.args.var c.args.owner falls.in_cells falls.in_part (behind g there) m in
+          let inside : f.rank < length c.holders_of.result.now = subst (λ (ns : List ℕ). f.rank < length ns) (sym is) f.in_holders in
+          let number : get_or c.holders_of.result.now f.rank 0 ≡ c.args.var = ap (λ (ns : List ℕ). get_or ns f.rank 0) is ∙ f.number in
+          absurd (elim (cases_lt f.rank c.in-Err.field-0) [
+            | inl low ↦ let less = r.1 f.rank low in omega arith
+            | inr high ↦ let more = r.2 f.rank high inside in omega arith
+          ]),
     )

@@ -1,4 +1,4 @@
-use Rattle.std.proofs.Common.{◌<◌, ℕ, length, get_or, Contains}
+use Rattle.std.proofs.Common.{◌<◌, ℕ, length, get_or}
 use Rattle.heesch_cnf.specs.declared.literal.Lit.{Lit}
 use Rattle.heesch_numbers.specs.OwnerCounts.{HasOneOf, owners_of}
 use Rattle.heesch_numbers.proofs.owners.OwnerClauses.is_new.Given as goal

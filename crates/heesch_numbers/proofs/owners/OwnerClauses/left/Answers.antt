@@ -1,4 +1,4 @@
-use Rattle.std.proofs.Common.{◌≡◌, ◌+◌, ◌-◌, ◌/◌, ◌%◌, ◌<◌, ◌≤◌, ℕ, List, [], ◌∷◌, All, sym, ap, subst, ◌∙◌, arith, get_or, length}
+use Rattle.std.proofs.Common.{◌≡◌, ◌+◌, ◌-◌, ◌/◌, ◌%◌, ℕ, List, [], ◌∷◌, sym, ap, subst, ◌∙◌, arith, get_or, length}
 use Rattle.std.proofs.lemmas.List.{get_or_read}
 use Rattle.std.proofs.lemmas.List.Elements.{All-get_or}
 use Rattle.heesch_cnf.specs.declared.literal.Lit.{Lit}
@@ -6,10 +6,9 @@ use Rattle.heesch_cnf.specs.Clauses.{IsClause}
 use Rattle.heesch_cnf.specs.Left.{FitsIn, IsLeft}
 use Rattle.heesch_cnf.specs.Literals.{held}
 use Rattle.heesch_cert.specs.Literals.{literals}
-use Rattle.heesch_grid.specs.declared.Cell.{Cell}
 use Rattle.heesch_grid.specs.Cells.{origin}
 use Rattle.heesch_grid.specs.OwnerFormula.{holders, owner_count, digits, signed}
-use Rattle.heesch_encode.proofs.Holders.{bit_clause, total}
+use Rattle.heesch_encode.proofs.Holders.{bit_clause}
 use Rattle.heesch_numbers.specs.OwnerCounts.{clause_count, owners_of, vars_with}
 use Rattle.heesch_numbers.proofs.OwnersByNumber.{length_owners, owners_form, first_owner}
 use Rattle.heesch_numbers.proofs.OwnerPlaces.{FallsAt, sum_is, start_is, falls_at, clause_at}

@@ -1,4 +1,4 @@
-use Rattle.std.proofs.Common.{◌≡◌, ◌+◌, ◌≤◌, ◌∷◌, [], ◌++◌, sym, ap, ◌∙◌, subst, arith}
+use Rattle.std.proofs.Common.{◌≡◌, ◌+◌, ◌∷◌, [], ◌++◌, sym, ap, ◌∙◌, subst, arith}
 use Rattle.heesch_io.specs.Pieces.{AreEnds}
 use Rattle.heesch_io.proofs.Pieces.{AreEnds-push}
 use Rattle.heesch_numbers.specs.Counts.{gaps}

@@ -1,0 +1,58 @@
+use Rattle.std.proofs.Common.{◌≡◌, ◌-◌, ◌∙◌, ap, sym, subst, ℕ, List, [], arith, get_or, length}
+use Rattle.heesch_cnf.specs.declared.literal.Lit.{Lit}
+use Rattle.heesch_cnf.specs.Left.{IsLeft}
+use Rattle.heesch_cnf.specs.Lines.{numbered}
+use Rattle.heesch_cnf.specs.Literals.{held}
+use Rattle.heesch_grid.proofs.AroundFacts.{cells_around, around_given}
+use Rattle.heesch_place.specs.Universes.{Levels}
+use Rattle.heesch_numbers.specs.Common.{common_of}
+use Rattle.heesch_numbers.specs.OwnerCounts.{owners_of}
+use Rattle.heesch_numbers.specs.Sourced.{Sourced, owned_formula}
+use Rattle.heesch_numbers.proofs.SourceForms.{all_length, in_first, in_second}
+use Rattle.heesch_numbers.proofs.source.CoronaSourceClauseSource.left.Goals as goal
+
+pub left-requires-clause-number : goal.left-requires-clause-number
+left-requires-clause-number g c =
+    let geometry = g.G.Grid.geometry in
+    let first = c.count-count.ensures (cells_around geometry) (around_given geometry g.met.G.Grid.laws) in
+    let low = c.requires.number.0 in
+    let test = c.if-number-count.true in
+    record { around = cells_around geometry; gives = around_given geometry g.met.G.Grid.laws; is = (low, omega arith) }
+
+pub left-requires-else-number-count-clause-place : goal.left-requires-else-number-count-clause-place
+left-requires-else-number-count-clause-place g c =
+    let geometry = g.G.Grid.geometry in
+    let u = c.self.inside.common in
+    let cells = c.self.inside.owners.cells.items in
+    let first = c.count-count.ensures (cells_around geometry) (around_given geometry g.met.G.Grid.laws) in
+    let second = ap (λ (w : Levels). length (owners_of w.vars cells)) c.universe.ensures.universe in
+    let both = all_length geometry (cells_around geometry) u.shape u.level u.vars cells in
+    let whole = ap (λ (s : Sourced). length s.formula.clauses) c.self.view_is in
+    let high = c.requires.number.1 in
+    let test = c.if-number-count.false in
+    omega arith
+
+pub returns-then-number-count : goal.returns-then-number-count
+returns-then-number-count g c =
+    let geometry = g.G.Grid.geometry in
+    let u = c.self.inside.common in
+    let cells = c.self.inside.owners.cells.items in
+    let first = c.count-count.ensures (cells_around geometry) (around_given geometry g.met.G.Grid.laws) in
+    let low = c.requires.number.0 in
+    let test = c.if-number-count.true in
+    subst (λ (e : List Lit). IsLeft (held c.args.values.now) e c.left.result)
+    (sym (in_first (common_of geometry (cells_around geometry) u) (owners_of u.vars cells) c.args.number low (omega arith)) ∙ ap (λ (s : Sourced). numbered s.formula.clauses c.args.number) c.self.view_is)
+    (c.left.ensures (cells_around geometry) (around_given geometry g.met.G.Grid.laws))
+
+pub returns-else-number-count : goal.returns-else-number-count
+returns-else-number-count g c =
+    let geometry = g.G.Grid.geometry in
+    let u = c.self.inside.common in
+    let cells = c.self.inside.owners.cells.items in
+    let place : ℕ = c.args.number - c.count-count.result - 1 in
+    let first = c.count-count.ensures (cells_around geometry) (around_given geometry g.met.G.Grid.laws) in
+    let test = c.if-number-count.false in
+    let at : numbered (owned_formula geometry u cells).clauses c.args.number ≡ get_or (owners_of u.vars cells) place [] = in_second (common_of geometry (cells_around geometry) u) (owners_of u.vars cells) c.args.number place (omega arith) in
+    subst (λ (e : List Lit). IsLeft (held c.args.values.now) e c.left-else-number-count.result)
+    (ap (λ (w : Levels). get_or (owners_of w.vars cells) place []) c.universe.ensures.universe ∙ sym at ∙ ap (λ (s : Sourced). numbered s.formula.clauses c.args.number) c.self.view_is)
+    c.left-else-number-count.ensures
