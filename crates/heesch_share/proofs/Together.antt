@@ -21,7 +21,7 @@ use Rattle.heesch_parts.specs.Shares.{IsEntry, AreShares, entries_of, share_line
 use Rattle.heesch_parts.specs.Spans.{items_at, span_of}
 use Rattle.heesch_parts.proofs.Spans.{shares_are_the_list}
 use Rattle.heesch_share.specs.Written.{shapes_of_share}
-use Rattle.heesch_joined.specs.Joined.{AreShareOutputs, AreAllShares, together}
+use Rattle.heesch_share.specs.AllShares.{AreShareOutputs, AreAllShares, together}
 
 readable_both : (header : Header) (es fs : List Entry) → AreReadable header es → AreReadable header fs → AreReadable header (es ++ fs)
 readable_both header [] fs first next = next

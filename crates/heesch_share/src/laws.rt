@@ -1,5 +1,5 @@
 //! What joined shares are, each the contract of a function that does nothing.
-ghost use Rattle.heesch_joined.specs.Joined.{JoinedSharesAreCatalogues, ShareOutputsAreShares};
+ghost use Rattle.heesch_share.specs.AllShares.{JoinedSharesAreCatalogues, ShareOutputsAreShares};
 
 /// The outputs of `share` 1 to K, one behind the other, are share texts, so that joining them tells no fault.
 pub fn share_outputs_are_shares()

@@ -1,7 +1,7 @@
 -- What the outputs of shares are joined to, as statements.
 use Rattle.std.specs.Prelude.{◌≡◌, ℕ, ◌+◌, ◌≤◌, List, [], ◌∷◌, length, false, ⊤}
 use Rattle.std.specs.List.{flat_map}
-use Rattle.heesch_grid.specs.Geometry.{Geometry, IsGrid}
+use Rattle.heesch_grid.specs.Geometry.{Geometry}
 use Rattle.heesch_cert.specs.declared.entry.Entry.{Entry}
 use Rattle.heesch_cert.specs.declared.header.Header.{Header}
 use Rattle.heesch_catalogue.specs.Catalogues.{IsCatalogueOfSize}
@@ -28,8 +28,8 @@ pub record AreAllShares (g : Geometry) (header : Header) (n : ℕ) (outputs : Li
 
 -- such outputs, one behind the other, are share texts
 abbrev pub ShareOutputsAreShares : Type 0
-ShareOutputsAreShares = (g : Geometry) (header : Header) (n : ℕ) (outputs : List (List ℕ)) → IsGrid g → AreAllShares g header n outputs → (shares : List (List Entry)) × AreShares (together outputs) header shares
+ShareOutputsAreShares = (g : Geometry) (header : Header) (n : ℕ) (outputs : List (List ℕ)) → AreAllShares g header n outputs → (shares : List (List Entry)) × AreShares (together outputs) header shares
 
 -- and what they are joined to is the catalogue of the size
 abbrev pub JoinedSharesAreCatalogues : Type 0
-JoinedSharesAreCatalogues = (g : Geometry) (header : Header) (n : ℕ) (outputs : List (List ℕ)) (joined : List ℕ) → IsGrid g → AreAllShares g header n outputs → IsJoined (together outputs) joined → IsCatalogueOfSize g header n joined
+JoinedSharesAreCatalogues = (g : Geometry) (header : Header) (n : ℕ) (outputs : List (List ℕ)) (joined : List ℕ) → AreAllShares g header n outputs → IsJoined (together outputs) joined → IsCatalogueOfSize g header n joined

@@ -1,5 +1,0 @@
-use Rattle.heesch_joined.proofs.Catalogue.{joined_are_catalogues}
-use Rattle.heesch_joined.proofs.laws.joined_shares_are_catalogues.Goals as goal
-
-pub returns : goal.returns
-returns c = joined_are_catalogues

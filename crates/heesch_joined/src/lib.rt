@@ -1,4 +1,0 @@
-//! That the shares of a catalogue, joined, are the catalogue.
-#![tactic(auto)]
-
-pub mod laws;
