@@ -7,6 +7,7 @@ ghost use Rattle.heesch_cert.specs.TrueEntry.{IsTrueEntry, first_number};
 ghost use Rattle.heesch_grid.specs.Polyform.{IsCanonicalListOf};
 ghost use Rattle.heesch_outer.specs.Answer.{IsOuterAnswer, IsSearched};
 ghost use Rattle.heesch_outer.specs.Found.{IsNearAnswer};
+ghost use Rattle.heesch_outer.specs.Proofs.{LeavesOuterOpen};
 ghost use Rattle.heesch_outer.specs.Statements.{TellsNumber};
 
 use crate::OuterAnswer;
@@ -38,7 +39,8 @@ fn search_outer<G: Grid>(
     requires level { h ≤ 5 }
     requires canonical { IsCanonicalListOf G.geometry shape.now shape.now }
     requires fits { ¬ IsTooLarge limits.version G.geometry shape.now (h + 1) limits.size }
-    ensures { IfOk result (IsSearched G.geometry limits shape.now h) }
+    ensures searched { IfOk result (IsSearched G.geometry limits shape.now h) }
+    ensures left_open { IfOk result (LeavesOuterOpen G.geometry limits shape.now h) }
 {
     let (size, version) = (limits.size, limits.version);
     match level_up_to(alloc, shape, h + 1, h, limits.turns, size, version)? {
@@ -53,7 +55,7 @@ fn search_outer<G: Grid>(
 /// known. Else h is the entry's number. Where the wall's proof has no cut the answer is Same with that proof. Elsewhere
 /// h + 1 outer coronas are sought, with cuts of the levels 1 to h and turns of its own: More has them, spelled as the
 /// layers of a true entry, Same has a proof that there are none, and Spent one with as many steps as the limit on
-/// turns, each of them new.
+/// turns, each of them new, over which no final line holds: Spent comes only where these steps leave the formula open.
 ///
 /// Where the answer is More the outer number is h + 1, and where it is Same it is h.
 ///
@@ -65,6 +67,8 @@ pub fn outer<G: Grid>(alloc: Global, entry: &Entry, limits: Limits) -> Result<Ou
     ensures answer { IfOk result (IsOuterAnswer G.geometry limits entry.now) }
     ensures near { IfOk result IsNearAnswer }
     ensures number { IfOk result (TellsNumber G.geometry entry.now.cells (first_number entry.now.verdict)) }
+    ensures left_open { IfOk result
+        (LeavesOuterOpen G.geometry limits entry.now.cells (first_number entry.now.verdict)) }
 {
     let Evidence::Search { wall, bare, .. } = &entry.evidence else {
         return Ok(OuterAnswer::Tiles);

@@ -9,6 +9,7 @@ use Rattle.heesch_cert.specs.TrueEntry.{first_number}
 use Rattle.heesch_outer.specs.declared.answer.OuterAnswer.TheVariants.{Same}
 use Rattle.heesch_outer.specs.Answer.{IsOuterAnswer, IsSearched}
 use Rattle.heesch_outer.specs.Found.{IsNearAnswer}
+use Rattle.heesch_outer.specs.Proofs.{LeavesOuterOpen}
 use Rattle.heesch_outer.specs.Statements.{TellsNumber}
 use Rattle.heesch_outer.proofs.OuterAnswers.{answer_beyond, answer_searched, count_in, fits_in, level_in, near_in, number_in}
 use Rattle.heesch_outer.proofs.answering.outer.Goals as goal
@@ -56,11 +57,13 @@ returns g c =
     let both = answer_searched geometry a.limits a.entry.now c.requires.entry s.free proof s.bare s.wider s.triples is c.in_default-bare.not-Same in
     let found : IfOk c.search_outer.result (IsSearched geometry a.limits a.entry.now.cells (length s.free.layers)) =
     subst (λ n. IfOk c.search_outer.result (IsSearched geometry a.limits a.entry.now.cells n)) count
-    (subst (λ cells. IfOk c.search_outer.result (IsSearched geometry a.limits cells c.first_number.result)) shape c.search_outer.ensures) in
+    (subst (λ cells. IfOk c.search_outer.result (IsSearched geometry a.limits cells c.first_number.result)) shape c.search_outer.ensures.searched) in
     record {
       answer = IfOk-weaker c.search_outer.result (IsSearched geometry a.limits a.entry.now.cells (length s.free.layers)) (IsOuterAnswer geometry a.limits a.entry.now) (λ answer x. (both answer).1 x) found;
       near = IfOk-weaker c.search_outer.result (IsSearched geometry a.limits a.entry.now.cells (length s.free.layers)) IsNearAnswer
           (near_in geometry a.limits a.entry.now c.requires.entry s.free proof s.bare s.wider s.triples is law c.requires.limits) found;
       number = IfOk-weaker c.search_outer.result (IsSearched geometry a.limits a.entry.now.cells (length s.free.layers)) (TellsNumber geometry a.entry.now.cells (first_number a.entry.now.verdict))
           (λ answer x. number_in geometry a.limits a.entry.now c.requires.entry s.free proof s.bare s.wider s.triples is law c.requires.limits answer ((both answer).1 x)) found;
+      left_open = subst (λ n. IfOk c.search_outer.result (LeavesOuterOpen geometry a.limits a.entry.now.cells n)) c.first_number.ensures
+          (subst (λ cells. IfOk c.search_outer.result (LeavesOuterOpen geometry a.limits cells c.first_number.result)) shape c.search_outer.ensures.left_open);
     }
