@@ -1,0 +1,15 @@
+"""What `tools/run` is made of: it makes the catalogue of a size whole, and can be killed and called again at any time.
+
+| Module | Has |
+|---|---|
+| `ladder` | limits, and the passes of a ladder |
+| `plan` | what a run was begun with, kept in its folder |
+| `folder` | the files of a run, and its lock |
+| `crew` | processes of the program, side by side, each writing one part |
+| `parts` | what becomes of the text of a part: shares, and the two halves of a pass |
+| `progress` | the line that tells how far it is |
+| `joins` | parts put together |
+| `stages` | shares, passes, merge, check, tables: each makes what isn't there yet |
+| `report` | the README and the sums |
+| `cluster` | scripts for Slurm, commands for GNU parallel |
+"""

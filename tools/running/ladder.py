@@ -1,0 +1,57 @@
+"""Limits, and the ladder of passes over what stays undecided."""
+import math
+
+from polyforms import commands, grids, texts
+
+DEFAULT = texts.Limits(turns=20_000, levels=3, domain=4, size=60_000_000)  # of the program
+RUNGS = ((6, 4), (8, 4), (12, 5))  # domain and levels of the passes by default, where such domains exist
+
+
+def parse(words, before):
+    """The limits that words such as `domain 8 levels 4` say; what they don't name is as before."""
+    parts = words.split()
+    named = dict(zip(parts[::2], parts[1::2]))
+    names, values = set(named), list(named.values())
+    if not parts or len(parts) != 2 * len(named) or not names <= set(before._fields) or not all(map(str.isdigit, values)):
+        raise commands.Fault(f'`{words}` are no limits; write some as `domain 8 levels 4`, of {", ".join(before._fields)}')
+    limits = before._replace(**{name: int(value) for name, value in named.items()})
+    for name, value, most in zip(limits._fields, limits, texts.MOST):
+        if not 1 <= value <= most:
+            raise commands.Fault(f'`{words}`: {name} is 1 to {most}')
+    return limits
+
+
+def parse_passes(passes, first):
+    """The limits of passes, given one by one in words; each has to raise some of the one before and to lower none."""
+    ladder = []
+    for words in passes:
+        before = ladder[-1] if ladder else first
+        limits = parse(words, before)
+        if limits == before or any(map(int.__lt__, limits, before)):
+            raise commands.Fault(f'the pass `{words}` has to raise limits, and to lower none, of `{before}`')
+        ladder.append(limits)
+    return ladder
+
+
+def default_passes(grid, size, first):
+    """The rungs above the first limits, each with the greatest domain up to its own that exists for the size."""
+    ladder = []
+    for domain, levels in RUNGS:
+        before = ladder[-1] if ladder else first
+        limits = before._replace(domain=max(before.domain, greatest_domain(grid, size, domain)),
+                                 levels=max(before.levels, levels))
+        if limits != before:
+            ladder.append(limits)
+    return ladder
+
+
+def greatest_domain(grid, size, most):
+    """The greatest number of tiles, up to `most`, whose cells fill whole units; 0 where there is none."""
+    unit = grids.named(grid).cells_in_unit
+    step = unit // math.gcd(unit, size)
+    return most // step * step
+
+
+def options(limits):
+    """The limits as options of the program."""
+    return [word for name, value in limits._asdict().items() for word in (f'--{name}', str(value))]

@@ -1,0 +1,208 @@
+"""The stages of a run. Each makes what isn't there yet, and answers nothing: what is made stands in the folder."""
+import math
+import os
+import shutil
+import sys
+import time
+
+from polyforms import commands, program, texts
+from polyforms.whole import WholeFile, write_whole
+
+from . import joins
+from .crew import Crew, Task
+from .parts import Evidence, PassText, ShareText
+from .progress import Progress
+
+PASS_PARTS = 256  # of a pass at most, where its shapes are no more than these can be given
+FIRST, MERGED = 'first.txt', 'merged.txt'  # in `work`
+CATALOGUE, GIVEN = 'catalogue.txt', 'given.txt'
+PART_FILES = ('decided', 'undecided', 'left')
+
+
+class Run:
+    """A run in its folder: its plan, its program, and the number of its processes."""
+
+    def __init__(self, folder, plan, heesch, jobs):
+        self.folder, self.plan, self.heesch, self.jobs = folder, plan, heesch, jobs
+
+    def make_catalogue(self):
+        """Makes the checked catalogue of the size, and beside it what only the last passes decide."""
+        if os.path.exists(self.folder.file(CATALOGUE)):
+            return
+        self.make_first()
+        passes = self.make_passes()
+        self.merge(passes)
+        self.check()
+
+    # ---- shares
+
+    def missing_shares(self):
+        """The numbers of the shares that are still to be made."""
+        if os.path.exists(self.folder.work(FIRST)) or os.path.exists(self.folder.file(CATALOGUE)):
+            return []
+        self.folder.make_folder('shares')
+        return [number for number in range(1, self.plan.shares + 1) if not os.path.exists(self.folder.share(number))]
+
+    def make_share(self, number):
+        """Makes one share alone, where it isn't made."""
+        if not 1 <= number <= self.plan.shares:
+            raise commands.Fault(f'there are {self.plan.shares} shares')
+        if number in self.missing_shares():
+            self._work(f'share {number}', [self._share_task(number)], 0, self.plan.share_size(number))
+
+    def _share_task(self, number):
+        path, left, size = self.folder.share(number), self.folder.left_of_share(number), self.plan.share_size(number)
+        return Task(f'share {number} of {self.plan.shares}', self.plan.share_words(number), None,
+                    lambda: ShareText(path, left, size))
+
+    def _make_shares(self):
+        missing = self.missing_shares()
+        done = self.plan.shapes - sum(map(self.plan.share_size, missing))
+        self._work('shares', map(self._share_task, missing), done, self.plan.shapes)
+
+    def make_first(self):
+        """Makes the catalogue under the first limits of all shares, and the list of its undecided shapes."""
+        target = self.folder.work(FIRST)
+        if not os.path.exists(target):
+            self._make_shares()
+            numbers = range(1, self.plan.shares + 1)
+            self._join_lists(map(self.folder.left_of_share, numbers), 0)
+            self._timed('join', joins.join_shares, self.heesch, list(map(self.folder.share, numbers)), target)
+        self.folder.remove('shares')
+
+    # ---- passes
+
+    def make_passes(self):
+        """Makes the passes of the plan, as long as shapes are undecided; answers what each did."""
+        done = []
+        for number in range(1, len(self.plan.passes) + 1):
+            if not os.path.getsize(self.folder.left(number - 1)):
+                break
+            done.append(self.folder.recorded(f'pass-{number}') or self._make_pass(number))
+            self.folder.remove(f'pass-{number}')
+        return done
+
+    def _make_pass(self, number):
+        """Makes a pass over what the one before leaves, and joins its parts."""
+        self.folder.make_folder(f'pass-{number}')
+        sizes = self._cut_list(number)
+        evidence = Evidence(self.folder.work(f'pass-{number}'), self.plan.most)
+        missing = [part for part in sizes if not os.path.exists(self.folder.part(number, part, 'decided'))]
+        tasks = [self._pass_task(number, part, sizes[part], len(sizes), evidence) for part in missing]
+        shapes = sum(sizes.values())
+        self._work(f'pass {number}', tasks, shapes - sum(map(sizes.get, missing)), shapes)
+        return self._join_pass(number, sizes, evidence)
+
+    def _cut_list(self, number):
+        """Cuts the list of undecided shapes into the lists of the parts; answers how many shapes each has."""
+        with open(self.folder.left(number - 1), encoding='ascii') as file:
+            shapes = file.readlines()
+        parts = max(min(len(shapes), PASS_PARTS), math.ceil(len(shapes) / joins.MOST_GIVEN))
+        sizes = {}
+        for part in range(1, parts + 1):
+            own = shapes[len(shapes) * (part - 1) // parts:len(shapes) * part // parts]
+            write_whole(self.folder.part(number, part, 'cells'), ''.join(own))
+            sizes[part] = len(own)
+        return sizes
+
+    def _pass_task(self, number, part, size, parts, evidence):
+        paths = {kind: self.folder.part(number, part, kind) for kind in PART_FILES}
+        return Task(f'part {part} of {parts} of pass {number}', self.plan.pass_words(number),
+                    self.folder.part(number, part, 'cells'), lambda: PassText(paths, evidence, size))
+
+    def _join_pass(self, number, sizes, evidence):
+        """Makes one text of the parts, without its undecided shapes where their evidence is too much; answers the facts."""
+        files = {kind: [self.folder.part(number, part, kind) for part in sizes] for kind in PART_FILES}
+        kept = [] if evidence.is_over else [path for path in files['undecided'] if os.path.exists(path)]
+        self._timed(f'join of pass {number}', joins.join_given, files['decided'] + kept, self.folder.pass_text(number))
+        left = self._join_lists(files['left'], number)
+        shapes = sum(sizes.values())
+        facts = {'shapes': shapes, 'decided': shapes - left, 'evidence': None if evidence.is_over else evidence.bytes}
+        self.folder.record(f'pass-{number}', facts)
+        return facts
+
+    def _join_lists(self, paths, number):
+        """Makes the list of what a pass leaves, or the first classification by the number 0; answers its length."""
+        count = 0
+        with WholeFile(self.folder.left(number)) as target:
+            for path in paths:
+                with open(path, 'rb') as file:
+                    for line in file:
+                        target.write(line)
+                        count += 1
+        return count
+
+    # ---- one catalogue, and its check
+
+    def merge(self, passes):
+        """Merges the passes up to the last one whose evidence is kept, and puts what later ones decide beside that."""
+        last = max((number for number, facts in enumerate(passes, 1) if facts['evidence'] is not None), default=0)
+        merged = self.folder.work(MERGED)
+        if not os.path.exists(merged):
+            found = [self.folder.pass_text(number) for number in range(1, last + 1)]
+            self._timed('merge', self._merge_texts, found, merged)
+        later = [self.folder.pass_text(number) for number in range(last + 1, len(passes) + 1)]
+        decided = sum(facts['decided'] for facts in passes[last:])
+        if decided and not os.path.exists(self.folder.work(GIVEN)):
+            header = texts.parse_header(joins.header_of(later[-1]).decode().rstrip('\n'))
+            joins.join_given(later, self.folder.work(GIVEN), f'{header}\n'.encode())
+        self.folder.record('merge', {'last': last, 'passes': len(passes), 'later': decided})
+
+    def _merge_texts(self, passes, target):
+        first = self.folder.work(FIRST)
+        if not passes:
+            _same_file(first, target)
+            return
+        with WholeFile(target) as file:
+            program.pour([sys.executable, tool('merge'), first, *passes], None, file.write)
+
+    def check(self):
+        """Has `heesch check` judge what was made, and only then gives it its name."""
+        given = [name for name in sorted(os.listdir(self.folder.work())) if joins.is_numbered(name, GIVEN)]
+        for name, target in [*((name, name) for name in given), (MERGED, CATALOGUE)]:
+            self._timed(f'check of {target}', self._check_text, name, target)
+
+    def _check_text(self, name, target):
+        """Has it judge a text of `work`, which then gets its name in the folder."""
+        told = []
+        with open(self.folder.work(name), 'rb') as source:
+            program.pour([self.heesch, 'check', '--workers', str(min(self.jobs, 64))], source, told.append)
+        said = b''.join(told).decode('ascii').strip()
+        checked = self.folder.recorded('check') or {}
+        self.folder.record('check', {**checked, target: said})
+        os.replace(self.folder.work(name), self.folder.file(target))
+
+    # ---- processes
+
+    def _work(self, stage, tasks, done, total):
+        """Makes parts by processes side by side. A Fault where one can't be made, once all others are."""
+        if done == total:
+            return
+        progress = Progress(stage, done, total)
+        failed = Crew(self.heesch, self.jobs, progress.warn, lambda **facts: self.folder.note(stage=stage, **facts),
+                      progress).run(tasks)
+        progress.end()
+        if failed:
+            name, fault = next(iter(failed.items()))
+            raise commands.Fault(f'{len(failed)} of the {stage} failed twice, the first of them {name}: {fault}; '
+                                 'what is done is kept')
+
+    def _timed(self, stage, body, *arguments):
+        """Calls a body, and notes its time."""
+        begun = time.time()
+        body(*arguments)
+        self.folder.note(stage=stage, begun=begun, seconds=time.time() - begun)
+
+
+def tool(name):
+    """The path of a tool beside this one."""
+    return os.path.join(program.repository(), 'tools', name)
+
+
+def _same_file(path, target):
+    """Gives a file a second name, or where the disk has no such names a copy."""
+    try:
+        os.link(path, target)
+    except OSError:
+        with open(path, 'rb') as source, WholeFile(target) as file:
+            shutil.copyfileobj(source, file)

@@ -1,0 +1,329 @@
+"""Tests of tools/run: its parts by themselves, and whole runs that are ended at any moment."""
+import os
+import pathlib
+import re
+import resource
+import signal
+import subprocess
+import sys
+import time
+import unittest
+
+from helpers import PROGRAM, TOOLS, ToolTest, data, needs_program, program, read, tool
+
+from polyforms import commands, texts
+from polyforms.whole import WholeFile
+from running import cluster, joins, ladder
+from running.parts import Evidence, NotWhole, PassText, ShareText
+from running.progress import duration
+
+SHARES = [data('kite-4-share-1.txt'), data('kite-4-share-2.txt')]
+STEPS = ['--first', 'turns 50 levels 1 domain 2', '--passes', 'turns 100', 'turns 1000 levels 2', '--shares', '8']
+
+
+def entries(name):
+    """The bytes of a catalogue that stands here."""
+    return pathlib.Path(data(name)).read_bytes()
+
+
+class Ladders(unittest.TestCase):
+    """Limits in words, and the passes by default."""
+
+    def test_default_passes(self):
+        for grid, size, wanted in (
+                ('square', 9, [(6, 4), (8, 4), (12, 5)]), ('hex', 7, [(6, 4), (8, 4), (12, 5)]),
+                ('iamond', 9, [(6, 4), (8, 4), (12, 5)]), ('kite', 5, [(6, 4), (12, 5)]), ('kite', 7, [(6, 4), (12, 5)]),
+                ('kite', 6, [(6, 4), (8, 4), (12, 5)]), ('kite', 9, [(6, 4), (8, 4), (12, 5)])):
+            passes = ladder.default_passes(grid, size, ladder.DEFAULT)
+            self.assertEqual([(limits.domain, limits.levels) for limits in passes], wanted, (grid, size))
+
+    def test_domains(self):
+        for grid, size, most, wanted in (('kite', 7, 5, 0), ('kite', 5, 11, 6), ('kite', 8, 8, 6), ('iamond', 9, 7, 6),
+                                         ('iamond', 10, 7, 7), ('square', 5, 7, 7)):
+            self.assertEqual(ladder.greatest_domain(grid, size, most), wanted)
+
+    def test_words(self):
+        passes = ladder.parse_passes(['domain 8 levels 4', 'turns 200000'], ladder.DEFAULT)
+        self.assertEqual([str(limits) for limits in passes], ['turns 20000 levels 4 domain 8 size 60000000',
+                                                              'turns 200000 levels 4 domain 8 size 60000000'])
+        for words in ('', 'domain', 'domain 13', 'domain 8 domain 9', 'levels x', 'depth 3', 'domain 3', 'domain 4'):
+            with self.assertRaises(commands.Fault):
+                ladder.parse_passes([words], ladder.DEFAULT)
+
+
+class Parts(ToolTest):
+    """The texts of parts, in pieces of any length."""
+
+    def pieces(self, text):
+        for length in (1, 7, 64, 1000, len(text)):
+            yield [text[start:start + length] for start in range(0, len(text), length)]
+
+    def test_share(self):
+        whole, left = entries('kite-4-share-1.txt'), self.done('select', SHARES[0], '--undecided')
+        for pieces in self.pieces(whole):
+            share = ShareText(str(self.folder / 'share'), str(self.folder / 'left'), 5)
+            for piece in pieces:
+                share.take(piece)
+                self.assertFalse((self.folder / 'share').exists())
+            share.end()
+            self.assertEqual((self.folder / 'share').read_bytes(), whole)
+            self.assertEqual((self.folder / 'left').read_text(), left)
+            os.remove(self.folder / 'share')
+
+    def test_not_whole(self):
+        whole = entries('kite-4-share-1.txt')
+        for text, shapes in ((whole, 4), (whole[:-1], 5), (whole[:-10], 5), (b'', 5), (b'bad input 1 5\n', 5)):
+            share = ShareText(str(self.folder / 'share'), str(self.folder / 'left'), shapes)
+            share.take(text)
+            with self.assertRaises(NotWhole):
+                share.end()
+            share.drop()
+            self.assertEqual(list(self.folder.iterdir()), [])
+
+    def pass_text(self, most, pieces):
+        """The files of a part of a pass whose text is that of kite 4, with so much evidence at most."""
+        for path in self.folder.iterdir():
+            path.unlink()
+        paths = {kind: str(self.folder / f'0001.{kind}') for kind in ('decided', 'undecided', 'left')}
+        part = PassText(paths, Evidence(str(self.folder), most), 10)
+        for piece in pieces:
+            part.take(piece)
+        part.end()
+        return {path.name: path.read_text() for path in self.folder.iterdir()}
+
+    def test_pass(self):
+        whole, left = entries('kite-4.txt'), self.done('select', data('kite-4.txt'), '--undecided')
+        cut = re.split(r'(?m)^(?=shape |end )', whole.decode())
+        halves = {word: cut[0] + ''.join(entry for entry in cut[1:-1] if (' undecided ' in entry) == (word == 'undecided'))
+                  + f'end {count}\n' for word, count in (('decided', 6), ('undecided', 4))}
+        size = len(halves['undecided'])
+        for pieces in self.pieces(whole):
+            kept = {'0001.decided': halves['decided'], '0001.left': left}
+            self.assertEqual(self.pass_text(size, pieces), {**kept, '0001.undecided': halves['undecided']})
+            for most in (1, size // 2, size - 1):
+                self.assertEqual(self.pass_text(most, pieces), {**kept, 'over': ''}, most)
+
+    def test_evidence_of_earlier_calls(self):
+        self.written('0001.undecided', 'x' * 10)
+        self.assertFalse(Evidence(str(self.folder), 10).is_over)
+        self.assertTrue(Evidence(str(self.folder), 9).is_over)
+        self.assertEqual([path.name for path in self.folder.iterdir()], ['over'])
+
+    def test_full_disk(self):
+        """A limit on the size of files stands for a disk that is full."""
+        share = ShareText(str(self.folder / 'share'), str(self.folder / 'left'), 5)
+        before = resource.getrlimit(resource.RLIMIT_FSIZE)
+        resource.setrlimit(resource.RLIMIT_FSIZE, (1000, before[1]))
+        try:
+            with self.assertRaisesRegex(commands.Fault, f'{self.folder}/share: File too large'):
+                share.take(b'share 1 1\n' * 100_000)
+        finally:
+            resource.setrlimit(resource.RLIMIT_FSIZE, before)
+        self.assertEqual(list(self.folder.iterdir()), [])
+
+    def test_two_writers(self):
+        with WholeFile(str(self.folder / 'file')):
+            with self.assertRaisesRegex(commands.Fault, 'another process'):
+                WholeFile(str(self.folder / 'file'))
+        self.assertTrue((self.folder / 'file').exists())
+
+
+class Joins(ToolTest):
+    """Parts put together."""
+
+    def test_by_line(self):
+        joins.join_shares('/no/program', SHARES, str(self.folder / 'joined'), most=0)
+        self.assertEqual((self.folder / 'joined').read_bytes(), entries('kite-4.txt'))
+
+    def test_refused(self):
+        part = read('kite-4-share-2.txt')
+        for text in ('', part[:-1], part.replace('end 5', 'end 4'), part.replace('levels 3', 'levels 4', 1)):
+            with self.assertRaises(commands.Fault):
+                joins.join_shares('/no/program', [SHARES[0], self.written('two', text)], str(self.folder / 'joined'), most=0)
+        with self.assertRaises(commands.Fault):
+            joins.join_shares('/no/program', SHARES[::-1], str(self.folder / 'joined'), most=0)
+        self.assertFalse((self.folder / 'joined').exists())
+
+    def test_many_given(self):
+        header = 'brief 2 square given turns 20000 levels 3 domain 4 size 60000000\n'
+        entry = 'shape 0,0\nverdict tiles translation domain 1 classes 1\n'
+        text = self.written('text', f'{header}{entry * 15000}end 15000\n')
+        self.assertEqual(joins.join_given([text], str(self.folder / 'given.txt'), header.encode()), 15000)
+        counts = []
+        for name in ('given.txt', 'given-2.txt'):
+            with texts.opened(str(self.folder / name)) as joined:
+                counts.append(sum(1 for _ in joined))
+        self.assertEqual(counts, [10000, 5000])
+
+    @needs_program
+    def test_by_program(self):
+        joins.join_shares(PROGRAM, SHARES, str(self.folder / 'joined'))
+        self.assertEqual((self.folder / 'joined').read_bytes(), entries('kite-4.txt'))
+        with self.assertRaisesRegex(commands.Fault, 'bad input 1 9'):
+            joins.join_shares(PROGRAM, SHARES[::-1], str(self.folder / 'joined'))
+
+
+class Words(ToolTest):
+    """What is refused, and small texts."""
+
+    def test_refused(self):
+        for words in (['square', 15], ['square', 0], ['cube', 3], ['square', 3, '--shares', 'x'], ['square'],
+                      ['square', 3, '--most', '2X'], ['square', 3, '--jobs', 0], ['square', 3, '--slurm', '--parallel']):
+            with self.subTest(words=words):
+                self.assert_refused(tool('run', *words, '--into', self.folder / 'into', '--program', '/bin/true'))
+        self.assert_refused(tool('run', 'square', 3, '--program', '/bin/true'), '--into')
+        self.assert_refused(tool('run', 'square', 3, '--into', self.folder, '--program', 'no-such'), 'no-such')
+        self.assert_refused(tool('run', 'square', 3, '--into', self.written('file', ''), '--program', '/bin/true'), 'file')
+        self.assert_refused(tool('run', 'square', 3, '--into', self.folder / 'a', '--program', '/bin/false'), 'status 1')
+        self.assert_refused(tool('run', 'square', 3, '--into', self.folder / 'b', '--share', 1, '--program', '/bin/true'), 'begun')
+
+    def test_ranges(self):
+        self.assertEqual(cluster.ranges([1, 2, 3, 5, 7, 8]), '1-3,5,7-8')
+
+    def test_durations(self):
+        self.assertEqual([duration(seconds) for seconds in (1.26, 59.4, 61, 3600, 90000)],
+                         ['1.3 s', '59 s', '1 min 1 s', '1 h 0 min', '25 h 0 min'])
+
+
+def files_of(folder):
+    """The texts of what a run made, but for the one that has the times."""
+    return {path.name: path.read_bytes() for path in pathlib.Path(folder).iterdir()
+            if path.is_file() and path.name != 'README.md'}
+
+
+@needs_program
+class Runs(ToolTest):
+    """Whole runs, with the built program."""
+
+    def run_tool(self, folder, *words, heesch=PROGRAM):
+        return tool('run', *words, '--into', self.folder / folder, '--program', heesch, '--jobs', 4)
+
+    def assert_made(self, folder, *words, heesch=PROGRAM):
+        result = self.run_tool(folder, *words, heesch=heesch)
+        self.assertEqual(result.returncode, 0, result.stderr)
+        return files_of(self.folder / folder)
+
+    def stub(self, condition, body):
+        """A program that does otherwise where a condition on its words holds."""
+        path = self.written('stub', f'#!/bin/sh\nif {condition}; then {body}; fi\nexec {PROGRAM} "$@"\n')
+        os.chmod(path, 0o755)
+        return path
+
+    def started(self, folder, *words, heesch=PROGRAM):
+        return subprocess.Popen([sys.executable, str(TOOLS / 'run'), *words, '--into', str(self.folder / folder),
+                                 '--program', heesch, '--jobs', '4'], stdout=subprocess.DEVNULL, stderr=subprocess.DEVNULL)
+
+    def test_whole(self):
+        files = self.assert_made('whole', 'kite', 4)
+        self.assertEqual(files['catalogue.txt'], self.merged_kites())
+        self.assertEqual(program('check', text=files['catalogue.txt'].decode()), 'valid 10\n')
+        self.assertNotIn('undecided.txt', files)
+        readme = (self.folder / 'whole' / 'README.md').read_text()
+        for part in ('`valid 10`', 'No shape is undecided.', '| pass 1 |', 'The owner of this folder states a licence here.'):
+            self.assertIn(part, readme)
+        told = subprocess.run(['sha256sum', '--quiet', '-c', 'SHA256SUMS'], cwd=self.folder / 'whole', check=False)
+        self.assertEqual(told.returncode, 0)
+
+    def merged_kites(self):
+        """The catalogue of kite 4 under the limits of the first pass, which decides all."""
+        left = self.done('select', data('kite-4.txt'), '--undecided')
+        second = self.written('second', program('classify', 'kite', 'given', '--domain', 6, '--levels', 4, text=left))
+        return self.done('merge', data('kite-4.txt'), second).encode()
+
+    def test_given_beside(self):
+        words = ['iamond', 7, '--first', 'domain 1 levels 1', '--passes', 'domain 2', '--most', '1k']
+        files = self.assert_made('given', *words)
+        first, whole = (program('classify', 'iamond', 7, '--domain', domain, '--levels', 1) for domain in (1, 2))
+        self.assertEqual(files['catalogue.txt'].decode(), first)
+        left = self.left_of(whole)
+        self.assertEqual(files['undecided.txt'].decode(), left)
+        decided = len(self.left_of(first).splitlines()) - len(left.splitlines())
+        self.assertEqual(program('check', text=files['given.txt'].decode()), f'valid {decided}\n')
+        self.assertTrue(files['given.txt'].startswith(b'heesch 2 iamond given turns 20000 levels 1 domain 2 '))
+        self.assertIn(b'given.txt', files['tally.csv'])
+
+    def left_of(self, catalogue):
+        """The undecided shapes of a catalogue."""
+        return self.done('select', self.written('catalogue', catalogue), '--undecided')
+
+    def test_killed_at_ten_moments(self):
+        """Each time some files have come to stand or have gone, a run of eight shares and two passes is killed."""
+        wanted = self.assert_made('undisturbed', 'square', 8, *STEPS)
+        kills = 0
+        while kills < 10:
+            process = self.started('killed', 'square', '8', *STEPS)
+            before = self.names('killed')
+            while process.poll() is None and len(before ^ self.names('killed')) < 3:
+                time.sleep(0.01)
+            self.assertIsNone(process.poll(), f'it has ended before kill {kills + 1}')
+            process.send_signal(signal.SIGKILL)
+            process.wait()
+            kills += 1
+        self.assertEqual(self.assert_made('killed', 'square', 8, *STEPS), wanted)
+
+    def names(self, folder):
+        """The names of all files of a folder that are whole."""
+        return {path for path in (self.folder / folder).rglob('*.*') if path.suffix != '.part'}
+
+    def test_second_run(self):
+        slow = self.stub('[ "$1 $4" = "share 1" ]', 'exec sleep 60')
+        first = self.started('held', 'square', '5', '--shares', '2', heesch=slow)
+        self.wait_for(lambda: (self.folder / 'held/work/shares/0001.txt.part').exists())
+        self.assert_refused(self.run_tool('held', 'square', 5, heesch=slow), 'another run is at work')
+        first.send_signal(signal.SIGKILL)
+        first.wait()
+        pathlib.Path(slow).write_text(pathlib.Path(slow).read_text())
+        self.assert_refused(self.run_tool('held', 'square', 5), 'was begun with the program')
+        self.assert_refused(self.run_tool('held', 'square', 6, heesch=slow), 'was begun with the size square 5')
+        self.assert_refused(self.run_tool('held', 'square', 5, '--shares', 3, heesch=slow), 'was begun with --shares 2')
+
+    def wait_for(self, condition):
+        for _ in range(1000):
+            if condition():
+                return
+            time.sleep(0.01)
+        self.fail('it takes too long')
+
+    def test_failing_share(self):
+        flag = self.folder / 'flag'
+        once = self.stub(f'[ "$1 $4" = "share 2" ] && [ ! -e {flag} ]', f'touch {flag}; echo share 2 3; exit 6')
+        result = self.run_tool('once', 'square', 5, '--shares', 3, heesch=once)
+        self.assertEqual(result.returncode, 0, result.stderr)
+        self.assertIn('share 2 of 3: status 6, memory was refused: heesch share square 5 2 3 ', result.stderr)
+        self.assertIn('; it is tried once more\n', result.stderr)
+        self.assertEqual(files_of(self.folder / 'once')['catalogue.txt'].decode(), program('classify', 'square', 5))
+        always = self.stub('[ "$1 $4" = "share 2" ]', 'echo share 2 3; exit 6')
+        result = self.run_tool('always', 'square', 5, '--shares', 3, heesch=always)
+        self.assertEqual(result.returncode, 2)
+        self.assertRegex(result.stderr, r'1 of the shares failed twice, .* share 2 of 3: status 6, memory was refused; .*\n\Z')
+        self.assertEqual(sorted(path.name for path in (self.folder / 'always/work/shares').glob('*.txt')),
+                         ['0001.txt', '0003.txt'])
+
+    def test_invalid_catalogue(self):
+        wrong = self.stub('[ "$1" = share ]', f'{PROGRAM} "$@" | sed "s/classes 1/classes 2/"; exit 0')
+        self.assert_refused_at_end(self.run_tool('wrong', 'square', 4, '--shares', 1, heesch=wrong), 'invalid entry 1')
+        self.assertEqual(files_of(self.folder / 'wrong'), {})
+
+    def assert_refused_at_end(self, result, part):
+        self.assertEqual(result.returncode, 2)
+        self.assertIn(part, result.stderr.splitlines()[-1])
+
+    def test_tasks_of_a_cluster(self):
+        commands_of = self.run_tool('tasks', 'square', 6, '--shares', 3, '--parallel').stdout.splitlines()
+        self.assertEqual([command.split()[-2:] for command in commands_of], [['--share', str(i)] for i in (1, 2, 3)])
+        for command in commands_of[::2]:
+            subprocess.run(command, shell=True, check=True, capture_output=True)
+        submitted = self.run_tool('tasks', 'square', 6, '--slurm').stdout
+        self.assertIn('sbatch --dependency=afterok:$shares ', submitted)
+        script = (self.folder / 'tasks/work/shares.sbatch').read_text()
+        self.assertIn('#SBATCH --array=2\n', script)
+        task = {**os.environ, 'SLURM_ARRAY_TASK_ID': '2'}
+        subprocess.run(['sh', str(self.folder / 'tasks/work/shares.sbatch')], env=task, check=True, capture_output=True)
+        self.assertEqual(self.run_tool('tasks', 'square', 6, '--parallel').stdout.strip(), '')
+        files = self.assert_made('tasks', 'square', 6)
+        self.assertEqual(files['catalogue.txt'].decode(), program('classify', 'square', 6))
+        self.assertEqual(self.run_tool('tasks', 'square', 6, '--share', 1).stderr, '')
+
+
+if __name__ == '__main__':
+    unittest.main()
