@@ -1,8 +1,8 @@
 #!/usr/bin/env bash
-# Takes every refutation of some catalogues to another LRAT checker: `lrat.sh [--checker COMMAND] [GRID N]..`, by default
-# over `square 8` and `hex 6`, by ACL2's verified checker (Debian: acl2, acl2-books, acl2-books-certs, acl2-books-source).
-# COMMAND is called with the names of the formula and of the proof, and says VERIFIED of a good one. Of each proof a second
-# one is made, whose last hint is the hint before it: that one has to be refused. It ends with status 1 where any differs.
+# Takes every refutation of catalogues to another LRAT checker: `lrat.sh [--checker COMMAND] [GRID N]..`, by default of
+# `square 8` and `hex 6`, to ACL2's verified one (Debian: acl2, acl2-books, acl2-books-certs, acl2-books-source).
+# COMMAND is called with the names of the formula and of the proof, and says VERIFIED of a good one. Of each proof a
+# second one is made, whose last hint is the hint before it: that has to be refused. Status 1 where any is otherwise.
 # HEESCH names the program, by default the one built here: (cd crates/heesch && rt run -- list square 4).
 set -eu
 here=$(cd "$(dirname "$0")" && pwd)
@@ -15,7 +15,7 @@ work=$(mktemp -d)
 trap 'rm -r "$work"' EXIT
 
 acl2_checker() { # CNF LRAT
-  printf '(include-book "projects/sat/lrat/list-based/run" :dir :system)\n(lrat::lrat-check "%s" "%s")\n' "$1" "$2" | acl2
+  acl2 <<< "(include-book \"projects/sat/lrat/list-based/run\" :dir :system) (lrat::lrat-check \"$1\" \"$2\")"
 }
 
 verified() { # CNF LRAT: whether the checker takes the proof

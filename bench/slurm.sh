@@ -1,7 +1,7 @@
 #!/usr/bin/env bash
-# Tries `tools/run --slurm` with a real Slurm of one node: `slurm.sh [GRID N SHARES]`, by default square 8 in 8 tasks. It sets
-# up munged, slurmctld and slurmd on the loopback address, with all their files in a folder of its own, submits what the tool
-# prints, waits, compares the catalogue with that of `classify`, and takes Slurm down again, whatever comes.
+# Tries `tools/run --slurm` with a real Slurm of one node: `slurm.sh [GRID N SHARES]`, by default square 8 in 8 tasks.
+# It sets up munged, slurmctld and slurmd on the loopback address, with all their files in a folder of its own, submits
+# what the tool prints, waits, compares the catalogue with that of `classify`, and takes Slurm down, whatever comes.
 # Debian's packages: munge, slurmctld, slurmd, slurm-client. HEESCH names the program, by default the one built here.
 set -eu
 here=$(cd "$(dirname "$0")" && pwd)
@@ -70,7 +70,8 @@ sinfo --noheader --format='%n: %c processors, %T'
 sed "s:$work:FOLDER:g" "$work/submit"
 sh "$work/submit"
 while squeue --noheader | grep -q .; do sleep 1; done
-scontrol show job --oneliner | grep -o 'JobState=[A-Z]*' | sort | uniq -c | sed 's/ *\(.*\) JobState=/\1 tasks and jobs: /'
+scontrol show job --oneliner | grep -o 'JobState=[A-Z]*' | sort | uniq -c | sed 's/ *\(.*\) JobState=/\1 tasks: /'
 tail -q -n 1 "$work"/run/work/slurm-*.out | sed "s:$work:FOLDER:g" | grep valid
 "$HEESCH" classify "$grid" "$size" > "$work/whole"
-if cmp -s "$work/whole" "$work/run/catalogue.txt"; then echo 'the text of classify'; else echo 'another text'; exit 1; fi
+cmp "$work/whole" "$work/run/catalogue.txt"
+echo 'the text of classify'

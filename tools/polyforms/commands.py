@@ -37,12 +37,13 @@ def natural(word):
 
 
 def grid_of(text, given):
-    """The name of the grid of a text; `given` is what an option says, which an outer text needs."""
+    """The name of the grid of a text; `given` is what an option says, which an outer text needs and takes."""
     if text.grid and given not in (None, text.grid):
         raise text.fault(f'this is a text of the grid {text.grid}, and --grid says {given}')
     if not text.grid and not given:
         raise text.fault("an outer text doesn't say its grid; --grid has to tell it")
-    return text.grid or given
+    text.grid = text.grid or given
+    return text.grid
 
 
 def program_name():

@@ -11,6 +11,7 @@ SQUARE_TURNS = ((1, 0, 0, 1), (0, -1, 1, 0), (-1, 0, 0, -1), (0, 1, -1, 0),
                 (0, 1, 1, 0), (-1, 0, 0, 1), (0, -1, -1, 0), (1, 0, 0, -1))
 HEX_TURNS = ((1, 0, 0, 1), (0, -1, 1, 1), (-1, -1, 1, 0), (-1, 0, 0, -1), (0, 1, -1, -1), (1, 1, -1, 0),
              (0, 1, 1, 0), (-1, 0, 1, 1), (-1, -1, 0, 1), (0, -1, -1, 0), (1, 0, -1, -1), (1, 1, 0, -1))
+MOST_CELLS = 32  # of a shape
 REACH = 5  # no two cells that share a corner differ by more in a coordinate, in any of the four grids
 
 
@@ -62,10 +63,16 @@ class Grid:
         return [(a + x, b + y) for x, y in self._corners_of_kind[self._kind(cell)]]
 
     def checked(self, cells):
-        """The cells, where each is a cell of this grid."""
-        for cell in cells:
-            if not self.is_cell(cell):
-                raise Fault(f'{cell[0]},{cell[1]} is no cell of the grid {self.name}')
+        """The cells, where they are those of a polyform of this grid, each once, and at most 32; otherwise a Fault."""
+        for a, b in cells:
+            if not self.is_cell((a, b)):
+                raise Fault(f'{a},{b} is no cell of the grid {self.name}')
+        if len(cells) > MOST_CELLS:
+            raise Fault(f'a shape has at most {MOST_CELLS} cells, and this has {len(cells)}')
+        if len(set(cells)) < len(cells):
+            raise Fault('a cell stands twice in this shape')
+        if not self.is_joined(cells):
+            raise Fault(f"the cells of this shape aren't joined in the grid {self.name}")
         return cells
 
     # ---- neighbours
@@ -161,6 +168,10 @@ class Grid:
         """Where a point of the corners' coordinates lies: b goes up, at 60 degrees where the grid is slanted."""
         a, b = point[0] / self.scale, point[1] / self.scale
         return (a + b / 2, b * math.sqrt(3) / 2) if self.slanted else (a, b)
+
+    def way(self, vector):
+        """Where a difference of cells leads in the plane."""
+        return self.in_plane((self.scale * vector[0], self.scale * vector[1]))
 
     @functools.cached_property
     def cell_area(self):

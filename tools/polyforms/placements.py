@@ -57,4 +57,4 @@ class Universe:
         """The literals of the clause of a cut, in rising order of their variables."""
         over_hole = {number for cell in hole for number in self._holders.get(cell, ())
                      if self.variables[number - 1][0] <= level}
-        return sorted([-number for number in border] + [number for number in over_hole if number not in border], key=abs)
+        return sorted([-number for number in border] + list(over_hole.difference(border)), key=abs)

@@ -199,19 +199,17 @@ class Text:
     """A text that is being read: its kind, its share, its header, and by iteration, once, its entries.
 
     `kind` is 'full', 'brief' or 'outer'; `share` is (I, K) or None; `header` is None of an outer text; `count` is the
-    number of entries taken so far. Each fault names the file, as it was given, and the line.
+    number of entries taken so far. `grid` is the name of the grid; an outer text doesn't say it, so there it is None
+    until it is set. Where it is known each shape has to be a polyform of it. Each fault names the file, as it was
+    given, and the line.
     """
 
     def __init__(self, file, name):
         self.name, self.share, self.header, self.kind, self.count = name, None, None, 'outer', 0
         self._file, self._line, self._bytes, self._held = file, 0, 0, None
         self._read_start()
+        self.grid = self.header.grid if self.header else None
         self._order = lines.Order(self.kind)
-
-    @property
-    def grid(self):
-        """The name of the grid, or None of an outer text, which doesn't say it."""
-        return self.header.grid if self.header else None
 
     @property
     def offset(self):
@@ -305,7 +303,7 @@ class Text:
     def _take_shape(self):
         """Takes the `shape` line that comes next, and answers its cells."""
         cells = parse_cells(self._take()[len('shape '):])
-        if self.header:
+        if self.grid:
             with self.at():
                 grids.named(self.grid).checked(cells)
         return cells

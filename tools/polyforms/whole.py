@@ -1,4 +1,4 @@
-"""Files that are whole wherever they have their name: a file is written under another name, and named once it is closed."""
+"""Files that are whole wherever they have their name: they get it when they are closed, and have another before."""
 import contextlib
 import fcntl
 import os

@@ -19,10 +19,11 @@ TICK = 1.0  # seconds after which progress is told though nothing was written
 
 
 class Task(NamedTuple):
-    """A part that is to be made: its name, the program's words, the file of its input, and what takes its text.
+    """A part that is to be made: its number, its name, the program's words, the file of its input, and what takes it.
 
     `begin` is called once for each try, and answers a `parts.PartText`.
     """
+    number: int
     name: str
     words: list
     source: Optional[str]
@@ -74,7 +75,7 @@ class Process:
 
 
 def _end_with_parent():
-    """Has a new process end when this one does, however that ends. Only Linux has it; elsewhere it ends as it writes."""
+    """Has a new process end when this one does, however that ends; but for Linux, when it next writes."""
     if sys.platform == 'linux':
         LIBRARY.prctl(DIE_WITH_PARENT, signal.SIGKILL)
 
@@ -88,45 +89,43 @@ class Crew:
 
     def __init__(self, heesch, jobs, warn, note, progress):
         self._heesch, self._jobs, self._warn, self._note, self._progress = heesch, jobs, warn, note, progress
-        self._waiting, self._running, self._failed = collections.deque(), set(), {}
         self._shapes = 0
 
     def run(self, tasks):
-        """Makes all parts that can be made; answers why others weren't, by their names."""
-        self._waiting.extend(tasks)
+        """Makes all parts that can be made; answers the tasks of the others, each with what was wrong.
+
+        What fails is tried once more when the rest is done, and alone, since others may have taken the memory.
+        """
+        failed = self._round(tasks, self._jobs, '; it is tried once more')
+        return self._round([task for task, _ in failed], 1, '')
+
+    def _round(self, tasks, jobs, warning):
+        waiting, running, failed = collections.deque(tasks), set(), []
         with selectors.DefaultSelector() as selector:
             try:
-                while self._waiting or self._running:
-                    self._start(selector)
+                while waiting or running:
+                    while waiting and len(running) < jobs:
+                        process = Process(self._heesch, waiting.popleft())
+                        running.add(process)
+                        selector.register(process.output, selectors.EVENT_READ, process)
                     for key, _ in selector.select(TICK):
                         if not key.data.take():
                             selector.unregister(key.fileobj)
-                            self._end(key.data)
-                    self._progress(self._shapes + sum(process.text.shapes for process in self._running))
+                            running.remove(key.data)
+                            failed += self._ended(key.data, warning)
+                    self._progress(self._shapes + sum(process.text.shapes for process in running))
             finally:
-                for process in self._running:
+                for process in running:
                     process.stop()
-        return {name: fault for name, (fault, tries) in self._failed.items() if tries > 1}
+        return failed
 
-    def _start(self, selector):
-        """Starts processes, as many as there may be."""
-        while self._waiting and len(self._running) < self._jobs:
-            process = Process(self._heesch, self._waiting.popleft())
-            self._running.add(process)
-            selector.register(process.output, selectors.EVENT_READ, process)
-
-    def _end(self, process):
-        """Notes how a process ended, and lets the others have its place."""
-        self._running.remove(process)
+    def _ended(self, process, warning):
+        """Notes how a process ended; answers its task with what was wrong, where something was."""
         task = process.task
         fault, cost = process.wait()
         if fault is None:
             self._shapes += process.text.shapes
-            self._failed.pop(task.name, None)
             self._note(part=task.name, **cost)
-            return
-        _, tries = self._failed.get(task.name, (None, 0))
-        self._failed[task.name] = (fault, tries + 1)
-        self._warn(f'{task.name}: {fault}: heesch {" ".join(task.words)}' + ('' if tries else '; it is tried once more'))
-        if not tries:
-            self._waiting.append(task)
+            return []
+        self._warn(f'{task.name}: {fault}: heesch {" ".join(task.words)}{warning}')
+        return [(task, fault)]

@@ -54,9 +54,9 @@ class Folder:
         """The path of the text of a pass."""
         return self.work(f'pass-{number}.txt')
 
-    def part(self, number, part, kind):
-        """The path of a file of a part of a pass: `cells`, `decided`, `undecided` or `left`."""
-        return self.work(f'pass-{number}', f'{part:04}.{kind}')
+    def part(self, stage, part, kind):
+        """The path of a file of a part of a stage, such as its `cells`."""
+        return self.work(stage, f'{part:04}.{kind}')
 
     def make_folder(self, name):
         """Makes a folder in `work`."""

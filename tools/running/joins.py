@@ -14,7 +14,7 @@ MOST_GIVEN = 10_000  # shapes of a catalogue of given shapes
 
 
 def entry_lines(path, first_lines):
-    """The lines of the entries of a text, which begins with these lines and ends with an `end` line that counts them."""
+    """The lines of the entries of a text, which begins with these lines and ends with the line that counts them."""
     with open(path, 'rb') as file:
         for wanted in first_lines:
             if file.readline() != wanted:
@@ -39,7 +39,7 @@ def header_of(path, skipped=0):
 
 
 def join_shares(heesch, paths, target, most=MOST_JOINED):
-    """Makes a catalogue of all shares of a size, in their order: by `heesch join`, or a line at a time where they are large."""
+    """Makes a catalogue of all shares of a size: by `heesch join`, or where they are large a line at a time."""
     if sum(map(os.path.getsize, paths)) <= most:
         _join_by_program(heesch, paths, target)
     else:
@@ -55,12 +55,24 @@ def _join_by_line(paths, target):
     header = header_of(paths[0], 1)
     with WholeFile(target) as file:
         file.write(header)
-        count = 0
-        for number, path in enumerate(paths, 1):
-            for line in entry_lines(path, [b'share %d %d\n' % (number, len(paths)), header]):
-                count += line.startswith(b'shape ')
-                file.write(line)
-        file.write(b'end %d\n' % count)
+        _write_entries(file, [(path, [b'share %d %d\n' % (number, len(paths)), header])
+                              for number, path in enumerate(paths, 1)])
+
+
+def join_outer(paths, target):
+    """Makes one text of outer texts, which have no header."""
+    with WholeFile(target) as file:
+        _write_entries(file, [(path, []) for path in paths])
+
+
+def _write_entries(file, parts):
+    """Writes the entries of texts, each given with its first lines, and the `end` line."""
+    count = 0
+    for path, first_lines in parts:
+        for line in entry_lines(path, first_lines):
+            count += line.startswith(b'shape ')
+            file.write(line)
+    file.write(b'end %d\n' % count)
 
 
 def join_given(paths, target, header=None):

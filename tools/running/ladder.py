@@ -11,9 +11,10 @@ def parse(words, before):
     """The limits that words such as `domain 8 levels 4` say; what they don't name is as before."""
     parts = words.split()
     named = dict(zip(parts[::2], parts[1::2]))
-    names, values = set(named), list(named.values())
-    if not parts or len(parts) != 2 * len(named) or not names <= set(before._fields) or not all(map(str.isdigit, values)):
-        raise commands.Fault(f'`{words}` are no limits; write some as `domain 8 levels 4`, of {", ".join(before._fields)}')
+    is_of_form = parts and len(parts) == 2 * len(named) and set(named) <= set(before._fields)
+    if not is_of_form or not all(map(str.isdigit, named.values())):
+        names = ', '.join(before._fields)
+        raise commands.Fault(f'`{words}` are no limits; write some as `domain 8 levels 4`, of {names}')
     limits = before._replace(**{name: int(value) for name, value in named.items()})
     for name, value, most in zip(limits._fields, limits, texts.MOST):
         if not 1 <= value <= most:

@@ -68,25 +68,36 @@ def _line_before(text, end):
     return text.rfind(b'\n', 0, max(end - 1, 0)) + 1
 
 
-class ShareText(PartText):
-    """The text of a share, which is kept as it is, and beside it the cells of its undecided shapes."""
+class KeptText(PartText):
+    """The text of a part, which is kept as it is."""
 
-    def __init__(self, path, left, expected):
+    def __init__(self, path, expected):
         super().__init__(expected)
-        self._file, self._left_path = WholeFile(path), left
+        self._file = WholeFile(path)
         self._start = self._add = self._file.write
 
     def _begin(self, is_undecided):
         pass
 
     def _close(self, end):
-        write_whole(self._left_path, self._left_text())
         self._file.write(end)
         self._file.close()
 
     def drop(self):
         """Leaves nothing of it."""
         self._file.drop()
+
+
+class ShareText(KeptText):
+    """The text of a share, and beside it the cells of its undecided shapes."""
+
+    def __init__(self, path, left, expected):
+        super().__init__(path, expected)
+        self._left_path = left
+
+    def _close(self, end):
+        write_whole(self._left_path, self._left_text())
+        super()._close(end)
 
 
 class GivenText:
@@ -117,8 +128,10 @@ class Evidence:
 
     def __init__(self, folder, most):
         self._folder, self._marker, self._most = folder, os.path.join(folder, 'over'), most
-        self.is_over, self.bytes = os.path.exists(self._marker), 0
+        self.is_over, self.bytes = False, 0
         self.add(sum(os.path.getsize(path) for path in self._files()))
+        if os.path.exists(self._marker):
+            self.give_up()
 
     def _files(self):
         return [entry.path for entry in os.scandir(self._folder) if entry.name.endswith('.undecided')]
@@ -127,18 +140,21 @@ class Evidence:
         """Counts bytes; fewer than none where a part is dropped."""
         self.bytes += count
         if self.bytes > self._most and not self.is_over:
-            write_whole(self._marker, '')
-            self.is_over = True
-        if self.is_over:
-            for path in self._files():
-                os.remove(path)
+            self.give_up()
+
+    def give_up(self):
+        """Keeps none of it from now on."""
+        write_whole(self._marker, '')
+        self.is_over = True
+        for path in self._files():
+            os.remove(path)
 
 
 class PassText(PartText):
     """The text of a part of a pass: its decided shapes and its undecided ones, as two catalogues of given shapes.
 
     The second is left away where there are none, or where the pass has too much evidence of such shapes. `paths` has
-    the files by the words `decided`, `undecided` and `left`. The first of them is named last: it says that all are there.
+    the files by the words `decided`, `undecided` and `left`; once the first of them has its name, all have.
     """
 
     def __init__(self, paths, evidence, expected):

@@ -20,7 +20,8 @@ MOST_BYTES = 2_000_000_000
 @dataclasses.dataclass(frozen=True)
 class Plan:
     """The size, its number of shapes, the number of shares, the limits of the first classification and of the passes
-    over what it leaves, the most bytes of the evidence of undecided shapes, and the sum of the program."""
+    over what it leaves, the most bytes of the evidence of undecided shapes, whether outer numbers are wanted, and the
+    sum of the program."""
     grid: str
     size: int
     shapes: int
@@ -28,6 +29,7 @@ class Plan:
     first: texts.Limits
     passes: tuple
     most: int
+    outer: bool
     program: str
 
     @property
@@ -51,6 +53,10 @@ class Plan:
         """The program's words for shapes of a pass."""
         return ['classify', self.grid, 'given', *ladder.options(self.limits(number))]
 
+    def outer_limits(self, passes):
+        """The limits for outer numbers, behind so many passes: no domain need be searched where no shape tiles."""
+        return self.limits(passes)._replace(domain=1)
+
 
 def made(request, heesch):
     """A new plan by the words of a call. It counts the shapes, and where no number of shares is given it times some."""
@@ -62,7 +68,7 @@ def made(request, heesch):
     if not 1 <= shares <= min(MOST_SHARES, shapes):
         raise commands.Fault(f'{request.grid} {request.size} has 1 to {min(MOST_SHARES, shapes)} shares')
     return Plan(request.grid, request.size, shapes, shares, first, tuple(passes), request.most or MOST_BYTES,
-                program.sum_of(heesch))
+                request.outer, program.sum_of(heesch))
 
 
 def _count(request, heesch):
@@ -93,11 +99,14 @@ def save(plan, path):
 
 def loaded(path):
     """Reads a plan."""
-    with open(path, encoding='ascii') as file:
-        record = json.load(file)
-    record.update(first=texts.Limits(**record['first']),
-                  passes=tuple(texts.Limits(**limits) for limits in record['passes']))
-    return Plan(**record)
+    try:
+        with open(path, encoding='ascii') as file:
+            record = json.load(file)
+        record.update(first=texts.Limits(**record['first']),
+                      passes=tuple(texts.Limits(**limits) for limits in record['passes']))
+        return Plan(**record)
+    except (ValueError, TypeError, KeyError, AttributeError):
+        raise commands.Fault(f'{path}: not the plan of a run') from None
 
 
 def check_agrees(plan, request, heesch, folder):
@@ -108,6 +117,7 @@ def check_agrees(plan, request, heesch, folder):
             ('the size', f'{request.grid} {request.size}', plan.name), ('--first', first, plan.first),
             ('--shares', request.shares or plan.shares, plan.shares), ('--most', request.most or plan.most, plan.most),
             ('--passes', [str(limits) for limits in passes], [str(limits) for limits in plan.passes]),
+            ('--outer', request.outer or plan.outer, plan.outer),
             ('the program with the sha256', program.sum_of(heesch), plan.program)):
         if asked != begun:
             raise commands.Fault(f'{folder} was begun with {name} {begun}, and not {asked}')

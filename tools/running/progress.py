@@ -6,9 +6,9 @@ MINUTE = 60
 
 
 class Progress:
-    """Shapes done, of how many, per second, and the time left: on a terminal one line that renews itself, else one a minute.
+    """Tells how many shapes are done, of how many, how many a second, and the time left.
 
-    `done` are those that an earlier call made.
+    On a terminal it is one line that renews itself, elsewhere a line a minute. `done` are those of earlier calls.
     """
 
     def __init__(self, stage, done, total, stream=sys.stderr):
@@ -26,7 +26,7 @@ class Progress:
     def end(self):
         """Tells how it ended."""
         seconds = time.monotonic() - self._begun
-        self._write(f'{self._stage}: {self._before + self._shapes} of {self._total} shapes in {duration(seconds)}', '\n')
+        self._write(f'{self._done()} in {duration(seconds)}', '\n')
 
     def warn(self, words):
         """Writes a line of its own."""
@@ -36,7 +36,10 @@ class Progress:
         rate = self._shapes / (now - self._begun)
         left = self._total - self._before - self._shapes
         rest = f', {duration(left / rate)} left' if rate else ''
-        return f'{self._stage}: {self._before + self._shapes} of {self._total} shapes, {rate:.1f} per second{rest}'
+        return f'{self._done()}, {rate:.1f} per second{rest}'
+
+    def _done(self):
+        return f'{self._stage}: {self._before + self._shapes} of {self._total} shapes'
 
     def _write(self, words, end):
         self._stream.write(('\r\x1b[K' if self._is_live else '') + words + end)

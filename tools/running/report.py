@@ -9,9 +9,8 @@ import time
 from polyforms import program, texts
 from polyforms.whole import WholeFile, write_whole
 
-from .joins import is_numbered
 from .progress import duration
-from .stages import CATALOGUE, GIVEN, tool
+from .stages import CATALOGUE, OUTER, tool
 
 README, SUMS, UNDECIDED, TALLY, CITATION = 'README.md', 'SHA256SUMS', 'undecided.txt', 'tally.csv', 'CITATION.cff'
 LISTED = 200  # undecided shapes that the README lists one by one
@@ -22,7 +21,7 @@ class Report:
 
     def __init__(self, run, command):
         self._folder, self._plan, self._heesch, self._command = run.folder, run.plan, run.heesch, command
-        self._catalogues = [name for name in self._folder.made() if name == CATALOGUE or is_numbered(name, GIVEN)]
+        self._texts = run.catalogues() + ([OUTER] if run.plan.outer else [])
         self._merged = self._folder.recorded('merge')
         self._passes = [self._folder.recorded(f'pass-{number}') for number in range(1, self._merged['passes'] + 1)]
         self._left = []
@@ -30,10 +29,10 @@ class Report:
     def write(self):
         """Writes the tables, the sums and the README."""
         self._write_undecided()
-        for name, further in ((TALLY, []), ('tally.tex', ['--latex'])):
+        for name, form in ((TALLY, '--csv'), ('tally.tex', '--latex')):
+            words = [sys.executable, tool('export'), '--tally', '--grid', self._plan.grid, form, *self._texts]
             with WholeFile(self._folder.file(name)) as file:
-                program.pour([sys.executable, tool('export'), '--tally', *further, *self._catalogues], None, file.write,
-                             self._folder.path)
+                program.pour(words, None, file.write, self._folder.path)
         shutil.copyfile(os.path.join(program.repository(), CITATION), self._folder.file(CITATION))
         summed = [name for name in self._folder.made() if name not in (README, SUMS)]
         sums = {name: program.sum_of(self._folder.file(name)) for name in summed}
@@ -57,28 +56,38 @@ class Report:
     # ---- the README
 
     def _readme(self, sums):
-        parts = [f'# The catalogue of {self._plan.name}', self._about(), '## Counts', self._counts(),
-                 '## Undecided', self._undecided(), '## How it was made', self._making(), _table(*self._passes_table()),
-                 _table(*self._times_table()), '## Files', _table(*self._files_table(sums)), '## To cite', self._to_cite(),
+        parts = [f'# The catalogue of {self._plan.name}', self._about(),
+                 '## Counts', self._counts(),
+                 '## Undecided', self._undecided(),
+                 '## How it was made', self._making(), self._passes_table(), self._times_table(),
+                 '## Files', self._files_table(sums),
+                 '## To cite', f'{CITATION} has how to cite the program and the two publications. Cite this folder by '
+                 f'the sha256 of {CATALOGUE}.',
                  '## Licence', 'The owner of this folder states a licence here.']
         return '\n\n'.join(parts) + '\n'
 
     def _about(self):
         checked = self._folder.recorded('check')
-        return (f'Each of the {self._plan.shapes} free polyforms of the size, with its tiling, its Heesch number, or the '
-                f'limit that was reached, and with the evidence. `heesch check < {CATALOGUE}` said '
+        return (f'Each of the {self._plan.shapes} free polyforms of the size, with its tiling, its Heesch number, or '
+                f'the limit that was reached, and with the evidence. `heesch check < {CATALOGUE}` said '
                 f'`{checked[CATALOGUE]}`. docs/FORMAT.md of `heesch` has the format.')
 
     def _counts(self):
         with open(self._folder.file(TALLY), encoding='ascii', newline='') as file:
             rows = list(csv.reader(file))
-        return f'By `tools/export --tally`. {self._beside()}\n\n' + _table(rows[0], rows[1:])
+        return f'By `tools/export --tally`. {self._beside()}{self._outer()}\n\n' + _table(rows[0], rows[1:])
 
     def _beside(self):
         if not self._merged['later']:
             return 'All that is decided stands in the catalogue.'
-        return (f'{self._merged["later"]} of the shapes that are undecided in {CATALOGUE} are decided in the catalogue of '
-                f'given shapes beside it, under the limits of later passes.')
+        return (f'{self._merged["later"]} of the shapes that are undecided in {CATALOGUE} are decided in the catalogue '
+                'of given shapes beside it, under the limits of later passes.')
+
+    def _outer(self):
+        if not self._plan.outer:
+            return ''
+        limits = self._plan.outer_limits(self._merged['passes'])
+        return f' {OUTER} has the outer numbers of the shapes with a Heesch number, by `heesch outer` under `{limits}`.'
 
     def _undecided(self):
         if not self._left:
@@ -86,25 +95,26 @@ class Report:
         limits = self._plan.limits(self._merged['passes'])
         words = (f'{len(self._left)} shapes are undecided, under `{limits}`. They stand in {UNDECIDED}, as '
                  '`heesch classify` reads given shapes. The verdicts are those of the catalogue.')
-        rows = [[str(number), f'`{verdict}`', f'`{cells}`'] for number, verdict, cells in self._left[:LISTED]]
+        rows = [[number, f'`{verdict}`', f'`{cells}`'] for number, verdict, cells in self._left[:LISTED]]
         return f'{words}\n\n' + _table(['Number', 'Verdict', 'Cells'], rows)
 
     def _making(self):
         commit = _commit_of(os.path.dirname(self._heesch))
         return (f'By `{self._command}`, which goes on where it was ended, with the program of the '
                 f'sha256 `{self._plan.program}`{commit}, in {self._plan.shares} shares, on a machine with '
-                f'{os.cpu_count()} processors. The text is the same in any number of shares. Evidence of undecided shapes '
-                f'was kept up to {self._plan.most} bytes a pass.')
+                f'{os.cpu_count()} processors. The text is the same in any number of shares. Evidence of undecided '
+                f'shapes was kept up to {self._plan.most} bytes a pass.')
 
     def _passes_table(self):
         """The limits of the first classification and of each pass, what each decided, and its evidence."""
+        shapes = self._plan.shapes
         left = self._passes[0]['shapes'] if self._passes else len(self._left)
-        rows = [['shares', f'`{self._plan.first}`', str(self._plan.shapes), str(self._plan.shapes - left), str(left), '']]
+        rows = [['shares', f'`{self._plan.first}`', shapes, shapes - left, left, '']]
         for number, facts in enumerate(self._passes, 1):
-            evidence = 'too much' if facts['evidence'] is None else str(facts['evidence'])
-            rows.append([f'pass {number}', f'`{self._plan.limits(number)}`', str(facts['shapes']), str(facts['decided']),
-                         str(facts['shapes'] - facts['decided']), evidence])
-        return ['Stage', 'Limits', 'Shapes', 'Decided', 'Undecided', 'Bytes of undecided shapes'], rows
+            evidence = 'not kept' if facts['evidence'] is None else facts['evidence']
+            rows.append([f'pass {number}', f'`{self._plan.limits(number)}`', facts['shapes'], facts['decided'],
+                         facts['shapes'] - facts['decided'], evidence])
+        return _table(['Stage', 'Limits', 'Shapes', 'Decided', 'Undecided', 'Bytes of undecided shapes'], rows)
 
     def _times_table(self):
         """What the stages took: their processes, processor seconds, the longest, peak memory, begin and end."""
@@ -115,26 +125,24 @@ class Report:
         for stage, lines in stages.items():
             begun, ended = (line['begun'] for line in lines), (line['begun'] + line['seconds'] for line in lines)
             peaks = [line['peak'] for line in lines if 'peak' in line]
-            rows.append([stage, str(len(lines)), f'{sum(line.get("processor", 0) for line in lines):.1f}' if peaks else '',
+            seconds = sum(line.get('processor', 0) for line in lines)
+            rows.append([stage, len(lines), f'{seconds:.1f}' if peaks else '',
                          duration(max(line['seconds'] for line in lines)),
                          f'{max(peaks) / 1e6:.0f}' if peaks else '', _clock(min(begun)), _clock(max(ended))])
-        return ['Stage', 'Processes', 'Processor seconds', 'Longest', 'Peak MB of one', 'Begun (UTC)', 'Ended (UTC)'], rows
+        return _table(['Stage', 'Processes', 'Processor seconds', 'Longest', 'Peak MB of one', 'Begun (UTC)',
+                       'Ended (UTC)'], rows)
 
     def _files_table(self, sums):
         checked = self._folder.recorded('check')
-        rows = [[name, str(os.path.getsize(self._folder.file(name))), f'`{total}`',
+        rows = [[name, os.path.getsize(self._folder.file(name)), f'`{total}`',
                  f'`{checked[name]}`' if name in checked else ''] for name, total in sums.items()]
-        return ['File', 'Bytes', 'sha256', '`heesch check`'], rows
-
-    def _to_cite(self):
-        return (f'{CITATION} has how to cite the program and the two publications. Cite this folder by the sha256 of '
-                f'{CATALOGUE}.')
+        return _table(['File', 'Bytes', 'sha256', '`heesch check`'], rows)
 
 
 def _table(head, rows):
     """A table of Markdown."""
     lines = [head, ['---'] * len(head), *rows]
-    return '\n'.join('| ' + ' | '.join(cells) + ' |' for cells in lines)
+    return '\n'.join('| ' + ' | '.join(map(str, cells)) + ' |' for cells in lines)
 
 
 def _clock(seconds):
@@ -144,7 +152,8 @@ def _clock(seconds):
 def _commit_of(folder):
     """The commit of the repository in which a program stands, in words; nothing where it stands in none."""
     try:
-        told = subprocess.run(['git', '-C', folder, 'describe', '--always', '--abbrev=12', '--dirty'], capture_output=True)
+        told = subprocess.run(['git', '-C', folder, 'describe', '--always', '--abbrev=12', '--dirty'],
+                              capture_output=True, check=False)
     except OSError:
         return ''
     return f' and the commit {told.stdout.decode().strip()}' if told.returncode == 0 else ''

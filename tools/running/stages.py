@@ -1,4 +1,4 @@
-"""The stages of a run. Each makes what isn't there yet, and answers nothing: what is made stands in the folder."""
+"""The stages of a run. Each makes what isn't there yet, and what it makes stands in the folder."""
 import math
 import os
 import shutil
@@ -8,31 +8,38 @@ import time
 from polyforms import commands, program, texts
 from polyforms.whole import WholeFile, write_whole
 
-from . import joins
+from . import joins, ladder
 from .crew import Crew, Task
-from .parts import Evidence, PassText, ShareText
+from .parts import Evidence, GivenText, KeptText, PassText, ShareText
 from .progress import Progress
 
+VERSION = 2  # of the corona formulas, by default
 PASS_PARTS = 256  # of a pass at most, where its shapes are no more than these can be given
-FIRST, MERGED = 'first.txt', 'merged.txt'  # in `work`
-CATALOGUE, GIVEN = 'catalogue.txt', 'given.txt'
+FIRST, MERGED, NONTILERS = 'first.txt', 'merged.txt', 'nontilers.txt'  # in `work`
+CATALOGUE, GIVEN, OUTER = 'catalogue.txt', 'given.txt', 'outer.txt'
 PART_FILES = ('decided', 'undecided', 'left')
 
 
 class Run:
-    """A run in its folder: its plan, its program, and the number of its processes."""
+    """A run in its folder: its plan, its program, and the number of its processes.
 
-    def __init__(self, folder, plan, heesch, jobs):
-        self.folder, self.plan, self.heesch, self.jobs = folder, plan, heesch, jobs
+    `leaves` tells to leave shapes undecided where a process fails twice on them in a pass.
+    """
+
+    def __init__(self, folder, plan, heesch, jobs, leaves=False):
+        self.folder, self.plan, self.heesch, self.jobs, self._leaves = folder, plan, heesch, jobs, leaves
 
     def make_catalogue(self):
         """Makes the checked catalogue of the size, and beside it what only the last passes decide."""
-        if os.path.exists(self.folder.file(CATALOGUE)):
-            return
-        self.make_first()
-        passes = self.make_passes()
-        self.merge(passes)
-        self.check()
+        if not os.path.exists(self.folder.file(CATALOGUE)):
+            self.make_first()
+            passes = self.make_passes()
+            self.merge(passes)
+            self.check()
+
+    def catalogues(self):
+        """The names of the catalogues that are made."""
+        return [name for name in self.folder.made() if name == CATALOGUE or joins.is_numbered(name, GIVEN)]
 
     # ---- shares
 
@@ -48,23 +55,22 @@ class Run:
         if not 1 <= number <= self.plan.shares:
             raise commands.Fault(f'there are {self.plan.shares} shares')
         if number in self.missing_shares():
-            self._work(f'share {number}', [self._share_task(number)], 0, self.plan.share_size(number))
+            self._make_shares(f'share {number}', [number], self.plan.share_size(number))
+
+    def _make_shares(self, stage, numbers, total):
+        tasks = [self._share_task(number) for number in numbers]
+        self._refuse_failed(stage, self._work(stage, tasks, total - sum(map(self.plan.share_size, numbers)), total))
 
     def _share_task(self, number):
         path, left, size = self.folder.share(number), self.folder.left_of_share(number), self.plan.share_size(number)
-        return Task(f'share {number} of {self.plan.shares}', self.plan.share_words(number), None,
+        return Task(number, f'share {number} of {self.plan.shares}', self.plan.share_words(number), None,
                     lambda: ShareText(path, left, size))
-
-    def _make_shares(self):
-        missing = self.missing_shares()
-        done = self.plan.shapes - sum(map(self.plan.share_size, missing))
-        self._work('shares', map(self._share_task, missing), done, self.plan.shapes)
 
     def make_first(self):
         """Makes the catalogue under the first limits of all shares, and the list of its undecided shapes."""
         target = self.folder.work(FIRST)
         if not os.path.exists(target):
-            self._make_shares()
+            self._make_shares('shares', self.missing_shares(), self.plan.shapes)
             numbers = range(1, self.plan.shares + 1)
             self._join_lists(map(self.folder.left_of_share, numbers), 0)
             self._timed('join', joins.join_shares, self.heesch, list(map(self.folder.share, numbers)), target)
@@ -84,35 +90,54 @@ class Run:
 
     def _make_pass(self, number):
         """Makes a pass over what the one before leaves, and joins its parts."""
-        self.folder.make_folder(f'pass-{number}')
-        sizes = self._cut_list(number)
+        sizes = self._cut_list(self.folder.left(number - 1), f'pass-{number}')
         evidence = Evidence(self.folder.work(f'pass-{number}'), self.plan.most)
-        missing = [part for part in sizes if not os.path.exists(self.folder.part(number, part, 'decided'))]
-        tasks = [self._pass_task(number, part, sizes[part], len(sizes), evidence) for part in missing]
+        tasks = [self._pass_task(number, part, sizes, evidence)
+                 for part in self._missing(f'pass-{number}', sizes, 'decided')]
         shapes = sum(sizes.values())
-        self._work(f'pass {number}', tasks, shapes - sum(map(sizes.get, missing)), shapes)
+        failed = self._work(f'pass {number}', tasks, shapes - sum(sizes[task.number] for task in tasks), shapes)
+        if not self._leaves:
+            self._refuse_failed(f'parts of pass {number}', failed, ', and --leave leaves these shapes undecided')
+        for task, _ in failed:
+            self._leave(number, task.number, evidence)
         return self._join_pass(number, sizes, evidence)
 
-    def _cut_list(self, number):
-        """Cuts the list of undecided shapes into the lists of the parts; answers how many shapes each has."""
-        with open(self.folder.left(number - 1), encoding='ascii') as file:
+    def _leave(self, number, part, evidence):
+        """Leaves the shapes of a part undecided, and with them all evidence of undecided shapes of the pass."""
+        evidence.give_up()
+        header = texts.Header(False, VERSION, self.plan.grid, None, self.plan.limits(number))
+        paths = self._pass_paths(number, part)
+        shutil.copyfile(self.folder.part(f'pass-{number}', part, 'cells'), paths['left'])
+        GivenText(paths['decided'], f'{header}\n'.encode()).close()
+
+    def _pass_paths(self, number, part):
+        return {kind: self.folder.part(f'pass-{number}', part, kind) for kind in PART_FILES}
+
+    def _missing(self, stage, sizes, kind):
+        """The parts of a stage that have no file of a kind."""
+        return [part for part in sizes if not os.path.exists(self.folder.part(stage, part, kind))]
+
+    def _cut_list(self, path, stage):
+        """Cuts a list of shapes into the lists of the parts of a stage; answers how many shapes each part has."""
+        self.folder.make_folder(stage)
+        with open(path, encoding='ascii') as file:
             shapes = file.readlines()
         parts = max(min(len(shapes), PASS_PARTS), math.ceil(len(shapes) / joins.MOST_GIVEN))
         sizes = {}
         for part in range(1, parts + 1):
             own = shapes[len(shapes) * (part - 1) // parts:len(shapes) * part // parts]
-            write_whole(self.folder.part(number, part, 'cells'), ''.join(own))
+            write_whole(self.folder.part(stage, part, 'cells'), ''.join(own))
             sizes[part] = len(own)
         return sizes
 
-    def _pass_task(self, number, part, size, parts, evidence):
-        paths = {kind: self.folder.part(number, part, kind) for kind in PART_FILES}
-        return Task(f'part {part} of {parts} of pass {number}', self.plan.pass_words(number),
-                    self.folder.part(number, part, 'cells'), lambda: PassText(paths, evidence, size))
+    def _pass_task(self, number, part, sizes, evidence):
+        paths = self._pass_paths(number, part)
+        return Task(part, f'part {part} of {len(sizes)} of pass {number}', self.plan.pass_words(number),
+                    self.folder.part(f'pass-{number}', part, 'cells'), lambda: PassText(paths, evidence, sizes[part]))
 
     def _join_pass(self, number, sizes, evidence):
-        """Makes one text of the parts, without its undecided shapes where their evidence is too much; answers the facts."""
-        files = {kind: [self.folder.part(number, part, kind) for part in sizes] for kind in PART_FILES}
+        """Makes one text of the parts, without undecided shapes where their evidence isn't kept; answers the facts."""
+        files = {kind: [self._pass_paths(number, part)[kind] for part in sizes] for kind in PART_FILES}
         kept = [] if evidence.is_over else [path for path in files['undecided'] if os.path.exists(path)]
         self._timed(f'join of pass {number}', joins.join_given, files['decided'] + kept, self.folder.pass_text(number))
         left = self._join_lists(files['left'], number)
@@ -143,7 +168,7 @@ class Run:
             self._timed('merge', self._merge_texts, found, merged)
         later = [self.folder.pass_text(number) for number in range(last + 1, len(passes) + 1)]
         decided = sum(facts['decided'] for facts in passes[last:])
-        if decided and not os.path.exists(self.folder.work(GIVEN)):
+        if decided:
             header = texts.parse_header(joins.header_of(later[-1]).decode().rstrip('\n'))
             joins.join_given(later, self.folder.work(GIVEN), f'{header}\n'.encode())
         self.folder.record('merge', {'last': last, 'passes': len(passes), 'later': decided})
@@ -172,20 +197,57 @@ class Run:
         self.folder.record('check', {**checked, target: said})
         os.replace(self.folder.work(name), self.folder.file(target))
 
+    # ---- outer numbers
+
+    def make_outer(self):
+        """Makes the text of the outer numbers, of all shapes that have a Heesch number."""
+        if os.path.exists(self.folder.file(OUTER)):
+            return
+        if not os.path.exists(self.folder.work(NONTILERS)):
+            self._list_nontilers()
+        sizes = self._cut_list(self.folder.work(NONTILERS), 'outer')
+        limits = self.plan.outer_limits(self.folder.recorded('merge')['passes'])
+        words = ['outer', self.plan.grid, 'given', *ladder.options(limits)]
+        tasks = [self._outer_task(part, sizes, words) for part in self._missing('outer', sizes, 'txt')]
+        shapes = sum(sizes.values())
+        done = shapes - sum(sizes[task.number] for task in tasks)
+        self._refuse_failed('parts of the outer numbers', self._work('outer numbers', tasks, done, shapes))
+        paths = [self.folder.part('outer', part, 'txt') for part in sizes]
+        self._timed('join of the outer numbers', joins.join_outer, paths, self.folder.file(OUTER))
+        self.folder.remove('outer')
+
+    def _outer_task(self, part, sizes, words):
+        path = self.folder.part('outer', part, 'txt')
+        return Task(part, f'part {part} of {len(sizes)} of the outer numbers', words,
+                    self.folder.part('outer', part, 'cells'), lambda: KeptText(path, sizes[part]))
+
+    def _list_nontilers(self):
+        """Lists the shapes that have a Heesch number in a catalogue."""
+        with WholeFile(self.folder.work(NONTILERS)) as file:
+            for name in self.catalogues():
+                with texts.opened(self.folder.file(name)) as text:
+                    for entry in text:
+                        if entry.verdict.heesch_number is not None:
+                            file.write(f'{texts.cells_text(entry.cells)}\n'.encode())
+
     # ---- processes
 
     def _work(self, stage, tasks, done, total):
-        """Makes parts by processes side by side. A Fault where one can't be made, once all others are."""
-        if done == total:
-            return
+        """Makes parts by processes side by side; answers the tasks that failed twice, with what was wrong."""
+        if not tasks:
+            return []
         progress = Progress(stage, done, total)
         failed = Crew(self.heesch, self.jobs, progress.warn, lambda **facts: self.folder.note(stage=stage, **facts),
                       progress).run(tasks)
         progress.end()
+        return failed
+
+    def _refuse_failed(self, stage, failed, further=''):
+        """Refuses to go on where parts failed twice."""
         if failed:
-            name, fault = next(iter(failed.items()))
-            raise commands.Fault(f'{len(failed)} of the {stage} failed twice, the first of them {name}: {fault}; '
-                                 'what is done is kept')
+            task, fault = failed[0]
+            raise commands.Fault(f'{len(failed)} of the {stage} failed twice, the first of them {task.name}: {fault}; '
+                                 f'what is done is kept{further}')
 
     def _timed(self, stage, body, *arguments):
         """Calls a body, and notes its time."""

@@ -1,6 +1,7 @@
 """What the tests of the tools share: the catalogues that stand here, calls of a tool, and texts that are none.
 
-Tests that need the program `heesch` run only where the environment has HEESCH=PATH; mark them by `needs_program`.
+Tests that need the program `heesch` run only where the environment has HEESCH=PATH; mark them by `needs_program`. Those
+that need a program of others too are marked by `needs_outside`. So without HEESCH the tests need Python alone.
 """
 import contextlib
 import io
@@ -8,6 +9,7 @@ import itertools
 import os
 import pathlib
 import runpy
+import shutil
 import subprocess
 import sys
 import tempfile
@@ -23,6 +25,12 @@ SECONDS = 60
 sys.path.insert(0, str(TOOLS))
 
 needs_program = unittest.skipUnless(PROGRAM, 'HEESCH names no program')
+
+
+def needs_outside(*names):
+    """Marks tests that need one of these commands of others: they run beside HEESCH, where one is there."""
+    has_one = any(shutil.which(name) for name in names)
+    return unittest.skipUnless(PROGRAM and has_one, f'HEESCH names no program, or there is no {" or ".join(names)}')
 
 
 def data(name):

@@ -56,6 +56,14 @@ class Draw(helpers.ToolTest):
         self.assertLess(self.drawn('square-7.txt', 1, '--radius', 1).count('<path'),
                         self.drawn('square-7.txt', 1, '--radius', 3).count('<path'))
 
+    def test_tiles_far_away_are_drawn_near(self):
+        for number, tile, far in ((1, 'tile 0 0 0 class', 'tile 0 99995 -99999 class'),
+                                  (45, 'tile 2 5 0 class', 'tile 2 5 98000 class')):
+            whole = helpers.read('square-7.txt')
+            path = self.written('far.txt', whole.replace(f'\n{tile}', f'\n{far}', 1))
+            self.assertEqual(self.done('draw', path, number).count('<path'),
+                             self.drawn('square-7.txt', number).count('<path'))
+
     def test_refusals(self):
         kite, brief, outer = map(helpers.data, ('kite-4.txt', 'square-8-brief.txt', 'outer-kite-4.txt'))
         turn = self.written('turn.txt', helpers.read('square-7.txt').replace('tile 0 0 0', 'tile 9 0 0'))

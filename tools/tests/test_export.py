@@ -2,7 +2,6 @@
 import csv
 import io
 import json
-import shutil
 import subprocess
 import unittest
 
@@ -88,7 +87,7 @@ class Export(helpers.ToolTest):
         spread = [line.count('&') + (3 + 2 if 'multicolumn' in line else 0) for line in lines]
         self.assertEqual(spread, [11] * len(lines))
 
-    @unittest.skipUnless(shutil.which('pdflatex'), 'pdflatex is not here')
+    @helpers.needs_outside('pdflatex')
     def test_latex_compiles(self):
         table = self.done('export', '--tally', '--latex', *map(helpers.data, EACH_GRID))
         self.written('t.tex', f'\\documentclass{{article}}\\begin{{document}}\n{table}\\end{{document}}\n')

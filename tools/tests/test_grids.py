@@ -72,6 +72,14 @@ class Tables(unittest.TestCase):
                     a, b = grid.in_plane(point)
                     self.assertAlmostEqual(x * x + y * y, a * a + b * b)
 
+    def test_polyforms_alone_are_taken(self):
+        square = grids.named('square')
+        line = [(a, 0) for a in range(33)]
+        self.assertEqual(square.checked(line[:32]), line[:32])
+        for cells in (line, [(0, 0), (0, 0)], [(0, 0), (1, 1)], []):
+            self.assertRaises(Fault, square.checked, cells)
+        self.assertRaises(Fault, grids.named('kite').checked, [(1, 1), (3, 2)])
+
     def test_faults(self):
         for call in (lambda: grids.named('cube'), lambda: grids.named('iamond').checked([(0, 0)]),
                      lambda: grids.named('square').image((8, 0, 0), [(0, 0)])):

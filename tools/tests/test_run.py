@@ -9,7 +9,7 @@ import sys
 import time
 import unittest
 
-from helpers import PROGRAM, TOOLS, ToolTest, data, needs_program, program, read, tool
+from helpers import PROGRAM, SECONDS, TOOLS, ToolTest, data, needs_program, program, read, tool
 
 from polyforms import commands, texts
 from polyforms.whole import WholeFile
@@ -18,6 +18,9 @@ from running.parts import Evidence, NotWhole, PassText, ShareText
 from running.progress import duration
 
 SHARES = [data('kite-4-share-1.txt'), data('kite-4-share-2.txt')]
+MOMENTS = ['work/plan.json', 'work/shares/0002.txt', 'work/shares/0006.txt', 'work/first.txt',
+           'work/pass-1/0003.decided', 'work/pass-1/0020.decided', 'work/pass-1.txt', 'work/pass-2/0011.decided',
+           'work/merged.txt', 'catalogue.txt']
 STEPS = ['--first', 'turns 50 levels 1 domain 2', '--passes', 'turns 100', 'turns 1000 levels 2', '--shares', '8']
 
 
@@ -32,8 +35,9 @@ class Ladders(unittest.TestCase):
     def test_default_passes(self):
         for grid, size, wanted in (
                 ('square', 9, [(6, 4), (8, 4), (12, 5)]), ('hex', 7, [(6, 4), (8, 4), (12, 5)]),
-                ('iamond', 9, [(6, 4), (8, 4), (12, 5)]), ('kite', 5, [(6, 4), (12, 5)]), ('kite', 7, [(6, 4), (12, 5)]),
-                ('kite', 6, [(6, 4), (8, 4), (12, 5)]), ('kite', 9, [(6, 4), (8, 4), (12, 5)])):
+                ('iamond', 9, [(6, 4), (8, 4), (12, 5)]), ('kite', 5, [(6, 4), (12, 5)]),
+                ('kite', 7, [(6, 4), (12, 5)]), ('kite', 6, [(6, 4), (8, 4), (12, 5)]),
+                ('kite', 9, [(6, 4), (8, 4), (12, 5)])):
             passes = ladder.default_passes(grid, size, ladder.DEFAULT)
             self.assertEqual([(limits.domain, limits.levels) for limits in passes], wanted, (grid, size))
 
@@ -94,12 +98,13 @@ class Parts(ToolTest):
     def test_pass(self):
         whole, left = entries('kite-4.txt'), self.done('select', data('kite-4.txt'), '--undecided')
         cut = re.split(r'(?m)^(?=shape |end )', whole.decode())
-        halves = {word: cut[0] + ''.join(entry for entry in cut[1:-1] if (' undecided ' in entry) == (word == 'undecided'))
-                  + f'end {count}\n' for word, count in (('decided', 6), ('undecided', 4))}
-        size = len(halves['undecided'])
+        decided = [entry for entry in cut[1:-1] if ' undecided ' not in entry]
+        undecided = [entry for entry in cut[1:-1] if ' undecided ' in entry]
+        evidence = ''.join([cut[0], *undecided, 'end 4\n'])
+        size = len(evidence)
         for pieces in self.pieces(whole):
-            kept = {'0001.decided': halves['decided'], '0001.left': left}
-            self.assertEqual(self.pass_text(size, pieces), {**kept, '0001.undecided': halves['undecided']})
+            kept = {'0001.decided': ''.join([cut[0], *decided, 'end 6\n']), '0001.left': left}
+            self.assertEqual(self.pass_text(size, pieces), {**kept, '0001.undecided': evidence})
             for most in (1, size // 2, size - 1):
                 self.assertEqual(self.pass_text(most, pieces), {**kept, 'over': ''}, most)
 
@@ -138,10 +143,12 @@ class Joins(ToolTest):
     def test_refused(self):
         part = read('kite-4-share-2.txt')
         for text in ('', part[:-1], part.replace('end 5', 'end 4'), part.replace('levels 3', 'levels 4', 1)):
-            with self.assertRaises(commands.Fault):
-                joins.join_shares('/no/program', [SHARES[0], self.written('two', text)], str(self.folder / 'joined'), most=0)
+            self.assert_not_joined([SHARES[0], self.written('two', text)])
+        self.assert_not_joined(SHARES[::-1])
+
+    def assert_not_joined(self, shares):
         with self.assertRaises(commands.Fault):
-            joins.join_shares('/no/program', SHARES[::-1], str(self.folder / 'joined'), most=0)
+            joins.join_shares('/no/program', shares, str(self.folder / 'joined'), most=0)
         self.assertFalse((self.folder / 'joined').exists())
 
     def test_many_given(self):
@@ -166,16 +173,27 @@ class Joins(ToolTest):
 class Words(ToolTest):
     """What is refused, and small texts."""
 
+    def assert_run_refused(self, part, *words, into='into', heesch='/bin/true'):
+        with self.subTest(words=words, heesch=heesch):
+            self.assert_refused(tool('run', *words, '--into', self.folder / into, '--program', heesch), part)
+
     def test_refused(self):
-        for words in (['square', 15], ['square', 0], ['cube', 3], ['square', 3, '--shares', 'x'], ['square'],
-                      ['square', 3, '--most', '2X'], ['square', 3, '--jobs', 0], ['square', 3, '--slurm', '--parallel']):
-            with self.subTest(words=words):
-                self.assert_refused(tool('run', *words, '--into', self.folder / 'into', '--program', '/bin/true'))
-        self.assert_refused(tool('run', 'square', 3, '--program', '/bin/true'), '--into')
-        self.assert_refused(tool('run', 'square', 3, '--into', self.folder, '--program', 'no-such'), 'no-such')
-        self.assert_refused(tool('run', 'square', 3, '--into', self.written('file', ''), '--program', '/bin/true'), 'file')
-        self.assert_refused(tool('run', 'square', 3, '--into', self.folder / 'a', '--program', '/bin/false'), 'status 1')
-        self.assert_refused(tool('run', 'square', 3, '--into', self.folder / 'b', '--share', 1, '--program', '/bin/true'), 'begun')
+        self.assert_run_refused('N is 1 to 14', 'square', 15)
+        self.assert_run_refused('no whole number from 1', 'square', 0)
+        self.assert_run_refused("invalid choice: 'cube'", 'cube', 3)
+        self.assert_run_refused('required: N', 'square')
+        self.assert_run_refused('--shares', 'square', 3, '--shares', 'x')
+        self.assert_run_refused('--most', 'square', 3, '--most', '2X')
+        self.assert_run_refused('not allowed with', 'square', 3, '--slurm', '--parallel')
+        self.assert_run_refused('are no limits', 'square', 3, '--passes', 'domain')
+        self.assert_run_refused('is not begun', 'square', 3, '--share', 1)
+        self.written('file', '')
+        self.assert_run_refused('file', 'square', 3, into='file')
+        self.assert_run_refused('has files, and no run was begun in it', 'square', 3, into='.')
+        self.assert_run_refused('no-such', 'square', 3, heesch='no-such')
+        self.assert_run_refused('status 1', 'square', 3, heesch='/bin/false')
+        (self.folder / 'into/work/plan.json').write_text('{}')
+        self.assert_run_refused('not the plan of a run', 'square', 3)
 
     def test_ranges(self):
         self.assertEqual(cluster.ranges([1, 2, 3, 5, 7, 8]), '1-3,5,7-8')
@@ -210,16 +228,19 @@ class Runs(ToolTest):
         return path
 
     def started(self, folder, *words, heesch=PROGRAM):
-        return subprocess.Popen([sys.executable, str(TOOLS / 'run'), *words, '--into', str(self.folder / folder),
-                                 '--program', heesch, '--jobs', '4'], stdout=subprocess.DEVNULL, stderr=subprocess.DEVNULL)
+        command = [sys.executable, str(TOOLS / 'run'), *words, '--into', str(self.folder / folder), '--program', heesch]
+        return subprocess.Popen(command, stdout=subprocess.DEVNULL, stderr=subprocess.DEVNULL)
 
     def test_whole(self):
-        files = self.assert_made('whole', 'kite', 4)
+        files = self.assert_made('whole', 'kite', 4, '--outer')
         self.assertEqual(files['catalogue.txt'], self.merged_kites())
+        nontilers = ''.join(self.done('select', data('kite-4.txt'), '--heesch', number) for number in (0, 1))
+        outer = program('outer', 'kite', 'given', '--domain', 1, '--levels', 4, text=nontilers)
+        self.assertEqual(sorted(files['outer.txt'].decode().splitlines()), sorted(outer.splitlines()))
         self.assertEqual(program('check', text=files['catalogue.txt'].decode()), 'valid 10\n')
         self.assertNotIn('undecided.txt', files)
         readme = (self.folder / 'whole' / 'README.md').read_text()
-        for part in ('`valid 10`', 'No shape is undecided.', '| pass 1 |', 'The owner of this folder states a licence here.'):
+        for part in ('`valid 10`', 'No shape is undecided.', '| pass 1 |', 'The owner of this folder states a licence'):
             self.assertIn(part, readme)
         told = subprocess.run(['sha256sum', '--quiet', '-c', 'SHA256SUMS'], cwd=self.folder / 'whole', check=False)
         self.assertEqual(told.returncode, 0)
@@ -247,42 +268,32 @@ class Runs(ToolTest):
         return self.done('select', self.written('catalogue', catalogue), '--undecided')
 
     def test_killed_at_ten_moments(self):
-        """Each time some files have come to stand or have gone, a run of eight shares and two passes is killed."""
+        """A run of eight shares and two passes is killed as soon as certain files stand, and has others half then."""
         wanted = self.assert_made('undisturbed', 'square', 8, *STEPS)
-        kills = 0
-        while kills < 10:
+        for moment in MOMENTS:
             process = self.started('killed', 'square', '8', *STEPS)
-            before = self.names('killed')
-            while process.poll() is None and len(before ^ self.names('killed')) < 3:
-                time.sleep(0.01)
-            self.assertIsNone(process.poll(), f'it has ended before kill {kills + 1}')
+            self.wait_for((self.folder / 'killed' / moment).exists)
+            self.assertIsNone(process.poll(), moment)
             process.send_signal(signal.SIGKILL)
             process.wait()
-            kills += 1
         self.assertEqual(self.assert_made('killed', 'square', 8, *STEPS), wanted)
-
-    def names(self, folder):
-        """The names of all files of a folder that are whole."""
-        return {path for path in (self.folder / folder).rglob('*.*') if path.suffix != '.part'}
 
     def test_second_run(self):
         slow = self.stub('[ "$1 $4" = "share 1" ]', 'exec sleep 60')
         first = self.started('held', 'square', '5', '--shares', '2', heesch=slow)
-        self.wait_for(lambda: (self.folder / 'held/work/shares/0001.txt.part').exists())
+        self.wait_for((self.folder / 'held/work/shares/0001.txt.part').exists)
         self.assert_refused(self.run_tool('held', 'square', 5, heesch=slow), 'another run is at work')
         first.send_signal(signal.SIGKILL)
         first.wait()
-        pathlib.Path(slow).write_text(pathlib.Path(slow).read_text())
         self.assert_refused(self.run_tool('held', 'square', 5), 'was begun with the program')
         self.assert_refused(self.run_tool('held', 'square', 6, heesch=slow), 'was begun with the size square 5')
         self.assert_refused(self.run_tool('held', 'square', 5, '--shares', 3, heesch=slow), 'was begun with --shares 2')
 
     def wait_for(self, condition):
-        for _ in range(1000):
-            if condition():
-                return
-            time.sleep(0.01)
-        self.fail('it takes too long')
+        end = time.monotonic() + SECONDS
+        while not condition():
+            self.assertLess(time.monotonic(), end, 'it takes too long')
+            time.sleep(0.005)
 
     def test_failing_share(self):
         flag = self.folder / 'flag'
@@ -292,12 +303,24 @@ class Runs(ToolTest):
         self.assertIn('share 2 of 3: status 6, memory was refused: heesch share square 5 2 3 ', result.stderr)
         self.assertIn('; it is tried once more\n', result.stderr)
         self.assertEqual(files_of(self.folder / 'once')['catalogue.txt'].decode(), program('classify', 'square', 5))
+
+    def test_share_that_fails_twice(self):
         always = self.stub('[ "$1 $4" = "share 2" ]', 'echo share 2 3; exit 6')
         result = self.run_tool('always', 'square', 5, '--shares', 3, heesch=always)
-        self.assertEqual(result.returncode, 2)
-        self.assertRegex(result.stderr, r'1 of the shares failed twice, .* share 2 of 3: status 6, memory was refused; .*\n\Z')
+        self.assert_refused_at_end(result, '1 of the shares failed twice, the first of them share 2 of 3: status 6, ')
         self.assertEqual(sorted(path.name for path in (self.folder / 'always/work/shares').glob('*.txt')),
                          ['0001.txt', '0003.txt'])
+
+    def test_pass_that_fails_twice(self):
+        """Its shape is left undecided where that is asked for, and then there is no evidence of the last limits."""
+        left = self.done('select', data('kite-4.txt'), '--undecided').splitlines()
+        always = self.stub('readlink /proc/$$/fd/0 | grep -q /pass-1/0002.cells', 'exit 6')
+        words = ['kite', 4, '--passes', 'domain 6']
+        self.assert_refused_at_end(self.run_tool('f', *words, heesch=always), '1 of the parts of pass 1 failed twice, ')
+        files = self.assert_made('f', *words, '--leave', heesch=always)
+        self.assertEqual(files['catalogue.txt'], entries('kite-4.txt'))
+        self.assertEqual(files['undecided.txt'].decode(), f'{left[1]}\n')
+        self.assertEqual(program('check', text=files['given.txt'].decode()), 'valid 3\n')
 
     def test_invalid_catalogue(self):
         wrong = self.stub('[ "$1" = share ]', f'{PROGRAM} "$@" | sed "s/classes 1/classes 2/"; exit 0')
