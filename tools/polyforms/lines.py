@@ -59,7 +59,7 @@ class Order:
     """
 
     def __init__(self, kind):
-        self.kind, self.shapes, self.has_ended = kind, 0, False
+        self.kind, self.shapes = kind, 0
         self._close = ('hh', 'hc') if kind == 'outer' else ('shape', 'end')  # what may stand behind an entry's lines
         self._next = ('shape', 'end')
         self._then = ()  # what may come behind the layers or the proof that stand now
@@ -184,4 +184,4 @@ class Order:
 
     def _take_end(self, words):
         self._require(int(words[1]) == self.shapes, f'`{" ".join(words)}` behind {self.shapes} shapes')
-        self._next, self.has_ended = (), True
+        self._next = ()

@@ -75,7 +75,7 @@ class Process:
 
 
 def _end_with_parent():
-    """Has a new process end when this one does, however that ends; but for Linux, when it next writes."""
+    """Has a new process, on Linux, end when this one does, however that ends. Elsewhere it ends when it next writes."""
     if sys.platform == 'linux':
         LIBRARY.prctl(DIE_WITH_PARENT, signal.SIGKILL)
 

@@ -2,6 +2,7 @@
 import dataclasses
 import json
 import math
+import shlex
 import time
 
 from polyforms import commands, program, texts
@@ -31,6 +32,13 @@ class Plan:
     most: int
     outer: bool
     program: str
+
+    @property
+    def command(self):
+        """The words that make the same in another folder."""
+        words = ['tools/run', self.grid, str(self.size), '--into', 'FOLDER', '--shares', str(self.shares),
+                 '--first', str(self.first), '--most', str(self.most), '--passes', *map(str, self.passes)]
+        return shlex.join(words + ['--outer'] * self.outer)
 
     @property
     def name(self):

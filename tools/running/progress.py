@@ -13,7 +13,8 @@ class Progress:
 
     def __init__(self, stage, done, total, stream=sys.stderr):
         self._stage, self._before, self._total, self._stream = stage, done, total, stream
-        self._begun, self._told, self._shapes = time.monotonic(), time.monotonic(), 0
+        self._begun = self._told = time.monotonic()
+        self._shapes = 0
         self._is_live = stream.isatty()
 
     def __call__(self, shapes):
@@ -36,7 +37,7 @@ class Progress:
         rate = self._shapes / (now - self._begun)
         left = self._total - self._before - self._shapes
         rest = f', {duration(left / rate)} left' if rate else ''
-        return f'{self._done()}, {rate:.1f} per second{rest}'
+        return f'{self._done()}, {rate:.3g} per second{rest}'
 
     def _done(self):
         return f'{self._stage}: {self._before + self._shapes} of {self._total} shapes'

@@ -19,8 +19,8 @@ LISTED = 200  # undecided shapes that the README lists one by one
 class Report:
     """What is written of a run once its catalogue stands."""
 
-    def __init__(self, run, command):
-        self._folder, self._plan, self._heesch, self._command = run.folder, run.plan, run.heesch, command
+    def __init__(self, run):
+        self._folder, self._plan, self._heesch = run.folder, run.plan, run.heesch
         self._texts = run.catalogues() + ([OUTER] if run.plan.outer else [])
         self._merged = self._folder.recorded('merge')
         self._passes = [self._folder.recorded(f'pass-{number}') for number in range(1, self._merged['passes'] + 1)]
@@ -95,15 +95,16 @@ class Report:
         limits = self._plan.limits(self._merged['passes'])
         words = (f'{len(self._left)} shapes are undecided, under `{limits}`. They stand in {UNDECIDED}, as '
                  '`heesch classify` reads given shapes. The verdicts are those of the catalogue.')
+        if failed := sum(facts['failed'] for facts in self._passes):
+            words += f' On {failed} of the shapes of passes a process failed twice, and they were left.'
         rows = [[number, f'`{verdict}`', f'`{cells}`'] for number, verdict, cells in self._left[:LISTED]]
         return f'{words}\n\n' + _table(['Number', 'Verdict', 'Cells'], rows)
 
     def _making(self):
-        commit = _commit_of(os.path.dirname(self._heesch))
-        return (f'By `{self._command}`, which goes on where it was ended, with the program of the '
-                f'sha256 `{self._plan.program}`{commit}, in {self._plan.shares} shares, on a machine with '
-                f'{os.cpu_count()} processors. The text is the same in any number of shares. Evidence of undecided '
-                f'shapes was kept up to {self._plan.most} bytes a pass.')
+        return (f'By `{self._plan.command}`, which goes on where it was ended, with the program of the sha256 '
+                f'`{self._plan.program}`{_commit_of(os.path.dirname(self._heesch))}, on a machine with '
+                f'{os.cpu_count()} processors. The texts are the same in any number of shares, and by any number of '
+                'processes.')
 
     def _passes_table(self):
         """The limits of the first classification and of each pass, what each decided, and its evidence."""
@@ -156,4 +157,4 @@ def _commit_of(folder):
                               capture_output=True, check=False)
     except OSError:
         return ''
-    return f' and the commit {told.stdout.decode().strip()}' if told.returncode == 0 else ''
+    return f' (its repository is at the commit {told.stdout.decode().strip()})' if told.returncode == 0 else ''

@@ -17,7 +17,7 @@ VERSION = 2  # of the corona formulas, by default
 PASS_PARTS = 256  # of a pass at most, where its shapes are no more than these can be given
 FIRST, MERGED, NONTILERS = 'first.txt', 'merged.txt', 'nontilers.txt'  # in `work`
 CATALOGUE, GIVEN, OUTER = 'catalogue.txt', 'given.txt', 'outer.txt'
-PART_FILES = ('decided', 'undecided', 'left')
+PART_FILES = ('decided', 'undecided', 'left', 'failed')  # of a part of a pass, some only where they say something
 
 
 class Run:
@@ -98,16 +98,17 @@ class Run:
         failed = self._work(f'pass {number}', tasks, shapes - sum(sizes[task.number] for task in tasks), shapes)
         if not self._leaves:
             self._refuse_failed(f'parts of pass {number}', failed, ', and --leave leaves these shapes undecided')
-        for task, _ in failed:
-            self._leave(number, task.number, evidence)
+        for task, fault in failed:
+            self._leave(number, task.number, fault, evidence)
         return self._join_pass(number, sizes, evidence)
 
-    def _leave(self, number, part, evidence):
+    def _leave(self, number, part, fault, evidence):
         """Leaves the shapes of a part undecided, and with them all evidence of undecided shapes of the pass."""
         evidence.give_up()
         header = texts.Header(False, VERSION, self.plan.grid, None, self.plan.limits(number))
         paths = self._pass_paths(number, part)
         shutil.copyfile(self.folder.part(f'pass-{number}', part, 'cells'), paths['left'])
+        write_whole(paths['failed'], fault + '\n')
         GivenText(paths['decided'], f'{header}\n'.encode()).close()
 
     def _pass_paths(self, number, part):
@@ -142,7 +143,8 @@ class Run:
         self._timed(f'join of pass {number}', joins.join_given, files['decided'] + kept, self.folder.pass_text(number))
         left = self._join_lists(files['left'], number)
         shapes = sum(sizes.values())
-        facts = {'shapes': shapes, 'decided': shapes - left, 'evidence': None if evidence.is_over else evidence.bytes}
+        facts = {'shapes': shapes, 'decided': shapes - left, 'evidence': None if evidence.is_over else evidence.bytes,
+                 'failed': sum(sizes[part] for part, path in zip(sizes, files['failed']) if os.path.exists(path))}
         self.folder.record(f'pass-{number}', facts)
         return facts
 

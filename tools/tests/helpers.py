@@ -1,7 +1,7 @@
 """What the tests of the tools share: the catalogues that stand here, calls of a tool, and texts that are none.
 
-Tests that need the program `heesch` run only where the environment has HEESCH=PATH; mark them by `needs_program`. Those
-that need a program of others too are marked by `needs_outside`. So without HEESCH the tests need Python alone.
+Tests that need the program `heesch` run only where the environment has HEESCH=PATH; mark them by `needs_program`.
+Those that need a program of others too are marked by `needs_outside`. So without HEESCH the tests need Python alone.
 """
 import contextlib
 import io
@@ -20,7 +20,7 @@ TOOLS = pathlib.Path(__file__).resolve().parent.parent
 DATA = TOOLS / 'tests' / 'data'
 PROGRAM = os.environ.get('HEESCH')
 REFUSED = 2
-SECONDS = 60
+SECONDS = 300  # after which a call has failed, on a busy machine too
 
 sys.path.insert(0, str(TOOLS))
 

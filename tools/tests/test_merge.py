@@ -98,7 +98,8 @@ class Merge(helpers.ToolTest):
                             ((share, second), 'this is a share'), ((first, outer), 'this is an outer text')):
             self.refused(*texts, part)
         self.assert_refused(helpers.called('merge', FIRST), 'LATER')
-        self.assert_refused(helpers.called('merge', FIRST, '-'), 'standard input')
+        for path in ('-', self.folder, '/dev/stdin'):
+            self.assert_refused(helpers.called('merge', FIRST, path), f'{path}: merge reads its texts twice')
 
     def test_bad_texts(self):
         self.assert_refuses_bad_texts('merge', behind=(SECOND,))

@@ -1,4 +1,5 @@
 """Tests of tools/run: its parts by themselves, and whole runs that are ended at any moment."""
+import io
 import os
 import pathlib
 import re
@@ -8,6 +9,7 @@ import subprocess
 import sys
 import time
 import unittest
+from unittest import mock
 
 from helpers import PROGRAM, SECONDS, TOOLS, ToolTest, data, needs_program, program, read, tool
 
@@ -15,7 +17,7 @@ from polyforms import commands, texts
 from polyforms.whole import WholeFile
 from running import cluster, joins, ladder
 from running.parts import Evidence, NotWhole, PassText, ShareText
-from running.progress import duration
+from running.progress import Progress, duration
 
 SHARES = [data('kite-4-share-1.txt'), data('kite-4-share-2.txt')]
 MOMENTS = ['work/plan.json', 'work/shares/0002.txt', 'work/shares/0006.txt', 'work/first.txt',
@@ -198,6 +200,26 @@ class Words(ToolTest):
     def test_ranges(self):
         self.assertEqual(cluster.ranges([1, 2, 3, 5, 7, 8]), '1-3,5,7-8')
 
+    def progress(self, is_live, moments):
+        """What is written at moments in seconds, each with the number of shapes that are done then, and at the end."""
+        stream = io.StringIO()
+        stream.isatty = lambda: is_live
+        with mock.patch('running.progress.time.monotonic', side_effect=[0, *(second for second, _ in moments), 200]):
+            progress = Progress('shares', 100, 500, stream)
+            for _, shapes in moments:
+                progress(shapes)
+            progress.end()
+        return stream.getvalue()
+
+    def test_progress(self):
+        moments = [(0.5, 1), (59, 30), (61, 100), (62, 101), (130, 390)]
+        self.assertEqual(self.progress(False, moments),
+                         'shares: 200 of 500 shapes, 1.64 per second, 3 min 3 s left\n'
+                         'shares: 490 of 500 shapes, 3 per second, 3.3 s left\n'
+                         'shares: 490 of 500 shapes in 3 min 20 s\n')
+        live = self.progress(True, moments)
+        self.assertEqual((live.count('\r\x1b[K'), live.count('\n')), (5, 1))
+
     def test_durations(self):
         self.assertEqual([duration(seconds) for seconds in (1.26, 59.4, 61, 3600, 90000)],
                          ['1.3 s', '59 s', '1 min 1 s', '1 h 0 min', '25 h 0 min'])
@@ -321,6 +343,7 @@ class Runs(ToolTest):
         self.assertEqual(files['catalogue.txt'], entries('kite-4.txt'))
         self.assertEqual(files['undecided.txt'].decode(), f'{left[1]}\n')
         self.assertEqual(program('check', text=files['given.txt'].decode()), 'valid 3\n')
+        self.assertIn('On 1 of the shapes of passes a process failed twice', (self.folder / 'f/README.md').read_text())
 
     def test_invalid_catalogue(self):
         wrong = self.stub('[ "$1" = share ]', f'{PROGRAM} "$@" | sed "s/classes 1/classes 2/"; exit 0')
