@@ -4,7 +4,7 @@
 A table stands behind a line `<!-- bench/runs.py NAME -->`, or `<!-- bench/runs.py NAME from GRID N, GRID N -->` where
 it has the sizes from N on alone. Its rows are those of the folders, in the order of grids and sizes. Every figure
 stands in a folder (tally.csv, README.md), or is printed by `heesch table` over its catalogue, or is one of
-published.txt. HEESCH names the program.
+published.txt. HEESCH names the program. Runs of different programs are refused, since a table is of one.
 """
 import csv
 import os
@@ -26,6 +26,7 @@ class Run:
         with open(self.folder / 'tally.csv', encoding='ascii', newline='') as file:
             self.tallies = list(csv.DictReader(file))
         self.tally = self.tallies[0]
+        self.program = re.search('sha256\\s+`([0-9a-f]{64})`', self.readme)[1]
         self.grid, self.size = self.tally['grid'], int(self.tally['size'])
         self.name = f'{self.grid} {self.size}'
 
@@ -126,12 +127,11 @@ def left_open(runs):
 def stages(runs):
     rows = []
     for run in runs:
-        command = re.search('By `(tools/run [^`]*)`', run.readme)[1]
         ladder = [row['Limits'].replace('turns 20000 ', '').replace(' size 60000000', '') for row in run.rows('Stage')
                   if 'Limits' in row]
         times = [row for row in run.rows('Stage') if row.get('Processor seconds')]
         file = next(row for row in run.rows('File') if row['File'] == 'catalogue.txt')
-        rows.append([f'`{re.sub(" --into [^ ]*", "", command)}`', '; '.join(ladder),
+        rows.append([f'`tools/run {run.name}{" --outer" if run.outer() else ""}`', '; '.join(ladder),
                      f'{sum(float(row["Processor seconds"]) for row in times):.1f}',
                      max(int(row['Peak MB of one']) for row in times), file['Bytes'], f'`{file["sha256"]}`',
                      f'`{file["heesch check"]}`'])
@@ -165,6 +165,8 @@ if __name__ == '__main__':
     if len(sys.argv) < 2:
         sys.exit(__doc__)
     made = sorted(map(Run, sys.argv[1:]), key=Run.key)
+    if len({run.program for run in made}) > 1:
+        sys.exit('the runs are of several programs, and a table is of one')
     for name in ('README.md', 'docs/TABLES.md', 'docs/RUNS.md'):
         path = HERE.parent / name
         path.write_text(filled(path.read_text(encoding='utf-8'), made), encoding='utf-8')
