@@ -13,6 +13,7 @@ import re
 import subprocess
 import sys
 
+MOST = 2_000_000_000  # the bytes of evidence that tools/run keeps by default
 GRIDS = ('square', 'hex', 'iamond', 'kite')
 HERE = pathlib.Path(__file__).resolve().parent
 
@@ -26,6 +27,7 @@ class Run:
         with open(self.folder / 'tally.csv', encoding='ascii', newline='') as file:
             self.tallies = list(csv.DictReader(file))
         self.tally = self.tallies[0]
+        self.given = [tally for tally in self.tallies if tally['file'].startswith('given')]
         self.program = re.search('sha256\\s+`([0-9a-f]{64})`', self.readme)[1]
         self.grid, self.size = self.tally['grid'], int(self.tally['size'])
         self.name = f'{self.grid} {self.size}'
@@ -33,17 +35,23 @@ class Run:
     def key(self):
         return GRIDS.index(self.grid), self.size
 
+    def count(self, column):
+        """What the catalogue counts, and beside it the entries of given shapes that only later passes decide."""
+        return sum(int(tally[column] or 0) for tally in [self.tally, *self.given])
+
     def numbers(self, word, tally=None):
-        """The counts of a tally by number, as `0: 1, 1: 2`, of its columns `WORD_H`."""
-        tally = tally or self.tally
-        counts = {key.split('_')[1]: tally[key] for key in tally if re.fullmatch(f'{word}_[0-9]+', key)}
-        return ', '.join(f'{number}: {count}' for number, count in counts.items() if count != '0')
+        """The counts by number, as `0: 1, 1: 2`, of the columns `WORD_H`."""
+        columns = [column for column in self.tally if re.fullmatch(f'{word}_[0-9]+', column)]
+        counts = {column.split('_')[1]: int(tally[column] or 0) if tally else self.count(column) for column in columns}
+        return in_words(counts)
 
     def undecided(self):
-        return sum(int(self.tally[f'undecided_{word}']) for word in ('levels', 'holes', 'turns', 'size'))
+        """How many shapes no pass decides."""
+        counts = [int(self.tally[f'undecided_{word}']) for word in ('levels', 'holes', 'turns', 'size')]
+        return sum(counts) - sum(int(tally['shapes']) for tally in self.given)
 
     def limits(self):
-        return f'domain {self.tally["limit_domain"]} levels {self.tally["limit_levels"]}'
+        return [without_defaults(row['Limits']) for row in self.rows('Stage') if 'Limits' in row]
 
     def rows(self, heading):
         """The rows of the README's table that has this first heading, each as its cells by heading."""
@@ -61,12 +69,29 @@ class Run:
         """The tally of outer.txt, or None."""
         return next((tally for tally in self.tallies if tally['file'] == 'outer.txt'), None)
 
+    def command(self):
+        """The words that make the folder again, but for the limits."""
+        most = re.search('--most ([0-9]+)|kept up to ([0-9]+) bytes', self.readme)
+        most = int(most[1] or most[2])
+        return f'tools/run {self.name}' + f' --most {most}' * (most != MOST) + ' --outer' * bool(self.outer())
+
     def with_holed(self):
         """The Heesch numbers of all shapes, as `heesch table` counts them."""
-        with open(self.folder / 'catalogue.txt', 'rb') as text:
-            done = subprocess.run([os.environ['HEESCH'], 'table'], stdin=text, capture_output=True, check=True)
-        return ', '.join(re.sub('heesch ([0-9]+) ', r'\1: ', line)
-                         for line in done.stdout.decode().splitlines() if line.startswith('heesch '))
+        counts = {}
+        for tally in [self.tally, *self.given]:
+            with open(self.folder / tally['file'], 'rb') as text:
+                done = subprocess.run([os.environ['HEESCH'], 'table'], stdin=text, capture_output=True, check=True)
+            for number, count in re.findall('^heesch ([0-9]+) ([0-9]+)$', done.stdout.decode(), re.MULTILINE):
+                counts[number] = counts.get(number, 0) + int(count)
+        return in_words(counts)
+
+
+def in_words(counts):
+    return ', '.join(f'{number}: {count}' for number, count in sorted(counts.items()) if count) or 'none'
+
+
+def without_defaults(limits):
+    return limits.replace('turns 20000 ', '').replace(' size 60000000', '')
 
 
 def cells(line):
@@ -95,9 +120,9 @@ def with_published(runs):
         tally = run.tally
         figures = known.get(run.size, []) if run.grid == 'square' else []
         numbers = ', '.join(f'{number}: {count}' for number, count in enumerate(figures[2:]) if count not in ('', '0'))
-        rows.append([f'`{run.name}`', tally['shapes'], tally['holed'], tally['translation'], tally['halfturn'],
-                     tally['periodic'], run.numbers('heesch') or 'none', run.undecided(),
-                     figures[1] if figures else '', numbers])
+        rows.append([f'`{run.name}`', tally['shapes'], tally['holed'], run.count('translation'), run.count('halfturn'),
+                     run.count('periodic'), run.numbers('heesch'), run.undecided(), figures[1] if figures else '',
+                     numbers])
     return table(['Size', 'Shapes', 'Holed', 'Tile by translations', 'By half-turns', 'Otherwise', 'Heesch numbers',
                   'Undecided', "Myers: don't tile", 'Kaplan: Heesch numbers'], rows)
 
@@ -106,20 +131,19 @@ def verdicts(runs):
     rows = []
     for run in runs:
         tally, outer = run.tally, run.outer()
-        left = [f'{word} {tally["undecided_" + word]}' for word in ('levels', 'holes', 'turns', 'size')
-                if tally['undecided_' + word] != '0']
-        rows.append([f'`{run.name}`', tally['shapes'], tally['holed'], tally['translation'], tally['halfturn'],
-                     tally['periodic'], tally['one_class'], run.numbers('heesch') or 'none',
-                     run.with_holed() or 'none', (run.numbers('outer', outer) or 'none') if outer else '',
-                     ', '.join(left) or '0', run.limits()])
+        rows.append([f'`{run.name}`', tally['shapes'], tally['holed'], run.count('translation'), run.count('halfturn'),
+                     run.count('periodic'), run.count('one_class'), run.numbers('heesch'), run.with_holed(),
+                     run.numbers('outer', outer) if outer else '', run.undecided(), run.limits()[-1],
+                     sum(int(given['shapes']) for given in run.given)])
     return table(['Size', 'Shapes', 'Holed', 'Translation', 'Half-turn', 'Periodic', 'Written with one class',
-                  'Heesch numbers', 'With holed shapes', 'Outer numbers', 'Undecided', 'Last limits'], rows)
+                  'Heesch numbers', 'With holed shapes', 'Outer numbers', 'Undecided', 'Last limits', 'In given.txt'],
+                 rows)
 
 
 def left_open(runs):
     rows = []
     for run in runs:
-        rows += [[f'`{run.name}`', row['Number'], f'`{row["Cells"]}`', f'`{row["Verdict"]}`', run.limits()]
+        rows += [[f'`{run.name}`', row['Number'], f'`{row["Cells"]}`', f'`{row["Verdict"]}`', run.limits()[-1]]
                  for row in run.rows('Number')]
     return table(['Size', 'Number', 'Cells', 'Verdict', 'Limits'], rows)
 
@@ -127,16 +151,17 @@ def left_open(runs):
 def stages(runs):
     rows = []
     for run in runs:
-        ladder = [row['Limits'].replace('turns 20000 ', '').replace(' size 60000000', '') for row in run.rows('Stage')
-                  if 'Limits' in row]
         times = [row for row in run.rows('Stage') if row.get('Processor seconds')]
-        file = next(row for row in run.rows('File') if row['File'] == 'catalogue.txt')
-        rows.append([f'`tools/run {run.name}{" --outer" if run.outer() else ""}`', '; '.join(ladder),
-                     f'{sum(float(row["Processor seconds"]) for row in times):.1f}',
-                     max(int(row['Peak MB of one']) for row in times), file['Bytes'], f'`{file["sha256"]}`',
-                     f'`{file["heesch check"]}`'])
+        took = [f'`{run.command()}`', '; '.join(run.limits()),
+                f'{sum(float(row["Processor seconds"]) for row in times):.1f}',
+                max(int(row['Peak MB of one']) for row in times)]
+        for file in run.rows('File'):
+            if file['File'].split('.')[0].split('-')[0] in ('catalogue', 'given', 'outer'):
+                said = f'`{file["heesch check"]}`' if file['heesch check'] else ''
+                rows.append([*took, file['File'], file['Bytes'], f'`{file["sha256"]}`', said])
+                took = [''] * len(took)
     return table(['Command', 'Limits of the shares and of each pass', 'Processor seconds', 'Peak MB of one process',
-                  'Bytes', 'sha256 of catalogue.txt', '`heesch check`'], rows)
+                  'File', 'Bytes', 'sha256', '`heesch check`'], rows)
 
 
 TABLES = {'published': with_published, 'verdicts': verdicts, 'open': left_open, 'runs': stages}
