@@ -156,7 +156,8 @@ def stages(runs):
                 f'{sum(float(row["Processor seconds"]) for row in times):.1f}',
                 max(int(row['Peak MB of one']) for row in times)]
         for file in run.rows('File'):
-            if file['File'].split('.')[0].split('-')[0] in ('catalogue', 'given', 'outer'):
+            is_empty = int(file['Bytes']) <= len('end 0\n')
+            if file['File'].split('.')[0].split('-')[0] in ('catalogue', 'given', 'outer') and not is_empty:
                 said = f'`{file["heesch check"]}`' if file['heesch check'] else ''
                 rows.append([*took, file['File'], file['Bytes'], f'`{file["sha256"]}`', said])
                 took = [''] * len(took)
