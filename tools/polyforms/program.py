@@ -63,10 +63,18 @@ def lines_of(program, words, text):
         raise Fault(f'{" ".join(["heesch", *words])}: {ending(process.returncode)}: {told}')
 
 
+def waited(process):
+    """Waits for the end of a process; answers its status, and what it took: processor seconds, and bytes at most."""
+    _, status, usage = os.wait4(process.pid, 0)
+    process.returncode = os.waitstatus_to_exitcode(status)
+    return process.returncode, {'processor': usage.ru_utime + usage.ru_stime, 'peak': usage.ru_maxrss * 1024}
+
+
 def pour(command, source, take, folder=None):
     """Runs a command over an open file, or none, and hands what it writes to `take`, piece by piece.
 
-    It runs in `folder` where one is given. A Fault with what it wrote last where it ends with another status than 0.
+    It runs in `folder` where one is given. It answers what the process took; a Fault with what that wrote last where it
+    ends with another status than 0.
     """
     last = b''
     with subprocess.Popen(command, stdin=source or subprocess.DEVNULL, stdout=subprocess.PIPE, bufsize=0,
@@ -74,6 +82,8 @@ def pour(command, source, take, folder=None):
         while piece := process.stdout.read(PIECE):
             take(piece)
             last = piece
-    if process.returncode:
+        status, cost = waited(process)
+    if status:
         name = ' '.join([os.path.basename(command[0]), *command[1:]])
-        raise Fault(f'{name}: {ending(process.returncode)}: {last[-80:].decode("ascii", "replace").strip()}')
+        raise Fault(f'{name}: {ending(status)}: {last[-80:].decode("ascii", "replace").strip()}')
+    return cost

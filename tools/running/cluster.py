@@ -29,7 +29,7 @@ def write_slurm(run):
     name = f'{run.plan.grid}-{run.plan.size}'
     shares, rest = run.folder.work('shares.sbatch'), run.folder.work('rest.sbatch')
     write_whole(rest, _script({'job-name': name, 'cpus-per-task': run.jobs, 'output': run.folder.work('slurm-%j.out')},
-                              call(run, '--jobs', str(run.jobs))))
+                              call(run, '--jobs', str(run.jobs), *['--leave'] * run.leaves)))
     missing = run.missing_shares()
     if not missing:
         return [f'sbatch {shlex.quote(rest)}']

@@ -53,13 +53,11 @@ class Process:
     def wait(self):
         """Waits for its end. Answers what is wrong with the part, or None, and what the process took."""
         self.output.close()
-        _, status, usage = os.wait4(self._process.pid, 0)
-        self._process.returncode = os.waitstatus_to_exitcode(status)
-        cost = {'begun': self.begun, 'seconds': time.time() - self.begun, 'peak': usage.ru_maxrss * 1024,
-                'processor': usage.ru_utime + usage.ru_stime}
+        status, cost = program.waited(self._process)
+        cost.update(begun=self.begun, seconds=time.time() - self.begun)
         try:
-            if self._process.returncode:
-                raise NotWhole(program.ending(self._process.returncode))
+            if status:
+                raise NotWhole(program.ending(status))
             self.text.end()
         except NotWhole as fault:
             self.text.drop()

@@ -39,16 +39,18 @@ def header_of(path, skipped=0):
 
 
 def join_shares(heesch, paths, target, most=MOST_JOINED):
-    """Makes a catalogue of all shares of a size: by `heesch join`, or where they are large a line at a time."""
+    """Makes a catalogue of all shares of a size: by `heesch join`, or where they are large a line at a time.
+
+    It answers what `heesch join` took.
+    """
     if sum(map(os.path.getsize, paths)) <= most:
-        _join_by_program(heesch, paths, target)
-    else:
-        _join_by_line(paths, target)
+        return _join_by_program(heesch, paths, target)
+    return _join_by_line(paths, target)
 
 
 def _join_by_program(heesch, paths, target):
     with subprocess.Popen(['cat', *paths], stdout=subprocess.PIPE) as shares, WholeFile(target) as file:
-        program.pour([heesch, 'join'], shares.stdout, file.write)
+        return program.pour([heesch, 'join'], shares.stdout, file.write)
 
 
 def _join_by_line(paths, target):
@@ -76,7 +78,7 @@ def _write_entries(file, parts):
 
 
 def join_given(paths, target, header=None):
-    """Makes a catalogue of the given shapes of texts, under a header or that of the first; answers how many they are.
+    """Makes a catalogue of the given shapes of texts, under a header or that of the first.
 
     Where they are more than a catalogue of given shapes may have, the others stand in files with -2, -3 and so on
     behind the name.
@@ -96,7 +98,6 @@ def join_given(paths, target, header=None):
     except BaseException:
         text.drop()
         raise
-    return total
 
 
 def numbered(path, number):

@@ -80,23 +80,24 @@ class Report:
     def _beside(self):
         if not self._merged['later']:
             return 'All that is decided stands in the catalogue.'
-        return (f'{self._merged["later"]} of the shapes that are undecided in {CATALOGUE} are decided in the catalogue '
-                'of given shapes beside it, under the limits of later passes.')
+        return (f'Of the shapes that are undecided in {CATALOGUE}, {self._merged["later"]} are decided in the '
+                'catalogue of given shapes beside it, under the limits of later passes.')
 
     def _outer(self):
         if not self._plan.outer:
             return ''
         limits = self._plan.outer_limits(self._merged['passes'])
-        return f' {OUTER} has the outer numbers of the shapes with a Heesch number, by `heesch outer` under `{limits}`.'
+        return (f' {OUTER} has the outer numbers of the shapes with a Heesch number, by `heesch outer` under '
+                f'`{limits}`.')
 
     def _undecided(self):
         if not self._left:
-            return 'No shape is undecided.'
+            return 'None.'
         limits = self._plan.limits(self._merged['passes'])
-        words = (f'{len(self._left)} shapes are undecided, under `{limits}`. They stand in {UNDECIDED}, as '
-                 '`heesch classify` reads given shapes. The verdicts are those of the catalogue.')
+        words = (f'Undecided under `{limits}`: {len(self._left)}. The cells stand in {UNDECIDED}, as `heesch classify` '
+                 'reads given shapes. The verdicts are those of the catalogue.')
         if failed := sum(facts['failed'] for facts in self._passes):
-            words += f' On {failed} of the shapes of passes a process failed twice, and they were left.'
+            words += f' Shapes of passes that were left, since a process failed twice on them: {failed}.'
         rows = [[number, f'`{verdict}`', f'`{cells}`'] for number, verdict, cells in self._left[:LISTED]]
         return f'{words}\n\n' + _table(['Number', 'Verdict', 'Cells'], rows)
 

@@ -27,7 +27,7 @@ class Run:
     """
 
     def __init__(self, folder, plan, heesch, jobs, leaves=False):
-        self.folder, self.plan, self.heesch, self.jobs, self._leaves = folder, plan, heesch, jobs, leaves
+        self.folder, self.plan, self.heesch, self.jobs, self.leaves = folder, plan, heesch, jobs, leaves
 
     def make_catalogue(self):
         """Makes the checked catalogue of the size, and beside it what only the last passes decide."""
@@ -96,7 +96,7 @@ class Run:
                  for part in self._missing(f'pass-{number}', sizes, 'decided')]
         shapes = sum(sizes.values())
         failed = self._work(f'pass {number}', tasks, shapes - sum(sizes[task.number] for task in tasks), shapes)
-        if not self._leaves:
+        if not self.leaves:
             self._refuse_failed(f'parts of pass {number}', failed, ', and --leave leaves these shapes undecided')
         for task, fault in failed:
             self._leave(number, task.number, fault, evidence)
@@ -178,10 +178,9 @@ class Run:
     def _merge_texts(self, passes, target):
         first = self.folder.work(FIRST)
         if not passes:
-            _same_file(first, target)
-            return
+            return _same_file(first, target)
         with WholeFile(target) as file:
-            program.pour([sys.executable, tool('merge'), first, *passes], None, file.write)
+            return program.pour([sys.executable, tool('merge'), first, *passes], None, file.write)
 
     def check(self):
         """Has `heesch check` judge what was made, and only then gives it its name."""
@@ -193,11 +192,12 @@ class Run:
         """Has it judge a text of `work`, which then gets its name in the folder."""
         told = []
         with open(self.folder.work(name), 'rb') as source:
-            program.pour([self.heesch, 'check', '--workers', str(min(self.jobs, 64))], source, told.append)
+            cost = program.pour([self.heesch, 'check', '--workers', str(min(self.jobs, 64))], source, told.append)
         said = b''.join(told).decode('ascii').strip()
         checked = self.folder.recorded('check') or {}
         self.folder.record('check', {**checked, target: said})
         os.replace(self.folder.work(name), self.folder.file(target))
+        return cost
 
     # ---- outer numbers
 
@@ -252,10 +252,10 @@ class Run:
                                  f'what is done is kept{further}')
 
     def _timed(self, stage, body, *arguments):
-        """Calls a body, and notes its time."""
+        """Calls a body, which may answer what a process took, and notes its time."""
         begun = time.time()
-        body(*arguments)
-        self.folder.note(stage=stage, begun=begun, seconds=time.time() - begun)
+        cost = body(*arguments) or {}
+        self.folder.note(stage=stage, begun=begun, seconds=time.time() - begun, **cost)
 
 
 def tool(name):

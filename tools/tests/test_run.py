@@ -157,7 +157,7 @@ class Joins(ToolTest):
         header = 'brief 2 square given turns 20000 levels 3 domain 4 size 60000000\n'
         entry = 'shape 0,0\nverdict tiles translation domain 1 classes 1\n'
         text = self.written('text', f'{header}{entry * 15000}end 15000\n')
-        self.assertEqual(joins.join_given([text], str(self.folder / 'given.txt'), header.encode()), 15000)
+        joins.join_given([text], str(self.folder / 'given.txt'), header.encode())
         counts = []
         for name in ('given.txt', 'given-2.txt'):
             with texts.opened(str(self.folder / name)) as joined:
@@ -262,7 +262,7 @@ class Runs(ToolTest):
         self.assertEqual(program('check', text=files['catalogue.txt'].decode()), 'valid 10\n')
         self.assertNotIn('undecided.txt', files)
         readme = (self.folder / 'whole' / 'README.md').read_text()
-        for part in ('`valid 10`', 'No shape is undecided.', '| pass 1 |', 'The owner of this folder states a licence'):
+        for part in ('`valid 10`', '## Undecided\n\nNone.', '| pass 1 |', 'The owner of this folder states a licence'):
             self.assertIn(part, readme)
         told = subprocess.run(['sha256sum', '--quiet', '-c', 'SHA256SUMS'], cwd=self.folder / 'whole', check=False)
         self.assertEqual(told.returncode, 0)
@@ -343,7 +343,7 @@ class Runs(ToolTest):
         self.assertEqual(files['catalogue.txt'], entries('kite-4.txt'))
         self.assertEqual(files['undecided.txt'].decode(), f'{left[1]}\n')
         self.assertEqual(program('check', text=files['given.txt'].decode()), 'valid 3\n')
-        self.assertIn('On 1 of the shapes of passes a process failed twice', (self.folder / 'f/README.md').read_text())
+        self.assertIn('since a process failed twice on them: 1.', (self.folder / 'f/README.md').read_text())
 
     def test_invalid_catalogue(self):
         wrong = self.stub('[ "$1" = share ]', f'{PROGRAM} "$@" | sed "s/classes 1/classes 2/"; exit 0')
