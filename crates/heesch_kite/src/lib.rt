@@ -1,5 +1,8 @@
 //! The grid of kites: the hexagonal grid with each hexagon cut into six by the lines from its centre to the middles of
 //! its edges.
+//!
+//! Every command comes from the name of a grid to the grid by the macro `on_grid!`, so a grid is one arm here. It is
+//! no trait with a method generic over the grid: such a method gets no proof where it starts threads.
 #![tactic(auto)]
 
 use heesch_grid::tables::is_congruent;

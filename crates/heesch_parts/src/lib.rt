@@ -1,4 +1,8 @@
 //! Shares of a catalogue, and their joining.
+//!
+//! The joiner reads share after share by the grammar of one catalogue, so no second grammar is written. It holds the
+//! whole catalogue before anything is written, since a later line may be at fault. A line that is wholly a `brief`
+//! or a `given` header has fault 10 wherever it stands.
 #![tactic(auto)]
 
 mod input;
