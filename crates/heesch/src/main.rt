@@ -67,7 +67,7 @@ fn end<T: Threads + Sync, R: Source + Drop, W: Sink + Drop>(
     ensures without_sink { IfOk words (λ _. IfErr sink (λ _. exit_status result ≡ 6)) }
     ensures ran { IfOk words (λ all. IfOk source (λ from. IfOk sink (λ to.
         (status : StatusOf) × (after : R) × (into : W) × (exit_status result ≡ status_number status)
-            × HasRun R.left R.faults W.held W.faults (map string_bytes all.items) from after to into status))) }
+        × HasRun R.left R.faults W.held W.faults (map string_bytes all.items) from after to into status))) }
 {
     let words = match words {
         Ok(words) => words,
@@ -89,7 +89,7 @@ fn end_of_run<T: Threads + Sync, R: Source, W: Sink>(
 ) -> ExitCode
     ensures { (status : StatusOf) × (exit_status result ≡ status_number status)
         × HasRun R.left R.faults W.held W.faults (map string_bytes words.now)
-            source.old source.new sink.old sink.new status }
+        source.old source.new sink.old sink.new status }
 {
     let status = run(rt, alloc, words, source, sink, &Open);
     exit_code(status)

@@ -18,9 +18,7 @@ use heesch_cuts::{clause_of, lawful};
 use heesch_grid::Grid;
 use heesch_io::{NoMemory, Seq};
 use heesch_place::Universe;
-use heesch_rup::{
-    LogAnswer, Steps, check_steps, check_steps_in_turn, is_spent, is_spent_in_turn,
-};
+use heesch_rup::{LogAnswer, Steps, check_steps, check_steps_in_turn, is_spent, is_spent_in_turn};
 use heesch_shape::Shape;
 use std::alloc::Global;
 use std::thread::Threads;

@@ -44,10 +44,7 @@ fn turned_ring<G: Grid>(alloc: Global, shape: &Shape<G>, k: u32) -> Result<Turne
 
 /// The cells around the shape under each of the turns. Condition: the coordinates of its cells lie within 200 of 0. It goes once
 /// over the neighbours of each cell of each turned shape.
-pub fn rings_of<G: Grid>(
-    alloc: Global,
-    shape: &Shape<G>,
-) -> Result<Vec<TurnedRing>, NoMemory>
+pub fn rings_of<G: Grid>(alloc: Global, shape: &Shape<G>) -> Result<Vec<TurnedRing>, NoMemory>
     requires { (c : Cell) → has shape.now c ≡ true → IsWithin 200 c }
     ensures { IfOk result (λ rings. AreRings G.geometry shape.now rings.items) }
 {

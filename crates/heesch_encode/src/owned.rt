@@ -62,10 +62,7 @@ fn add_owned<G: Grid>(
 
 /// The cells that at least two variables have, in cell order. A look-up for each cell of each variable's tile, and a sort of
 /// the cells found.
-pub fn owned_cells<G: Grid>(
-    alloc: Global,
-    universe: &Universe<G>,
-) -> Result<Vec<Cell>, NoMemory>
+pub fn owned_cells<G: Grid>(alloc: Global, universe: &Universe<G>) -> Result<Vec<Cell>, NoMemory>
     requires { IsUniverseOf G.geometry universe.now }
     ensures { IfOk result (λ cells. ListsExactly cell_before (IsOwned universe.now.vars) cells.items) }
 {

@@ -73,25 +73,31 @@ module _ (version : Version) (g : Geometry) (j size : ℕ) (line : List ℕ) whe
 
   -- its fault is told of an input to `formula`
   pub formula_stop : (most : ℕ) (input behind : List ℕ) → input ≢ [] → HasFirstLine input line behind → IsInTime most input line → (stop : LineStop ℕ) → IsShapeStop version g j size line stop → IsFormulaStop most version g j size input stop
-  formula_stop most input behind some first in_time (Fault at number) (one, fault) = inr (inr (inl (record {
-    some = some;
-    line = line;
-    behind = behind;
-    first = first;
-    in_time = in_time;
-    fault = fault;
-  }, one)))
+  formula_stop most input behind some first in_time (Fault at number) (one, fault) = inr (inr (inl (
+    record {
+      some = some;
+      line = line;
+      behind = behind;
+      first = first;
+      in_time = in_time;
+      fault = fault;
+    },
+    one,
+  )))
   formula_stop most input behind some first in_time NoMemory _ = tt
 
   -- and of one to `answer`
   pub answer_stop : (most : ℕ) (input model : List ℕ) → HasEndedLine input line model → IsInTime most input line → (stop : LineStop ℕ) → IsShapeStop version g j size line stop → IsAnswerStop most version g j size input stop
-  answer_stop most input model ended in_time (Fault at number) (one, fault) = inr (inr (inr (inl (record {
-    line = line;
-    model = model;
-    ended = ended;
-    in_time = in_time;
-    fault = fault;
-  }, one))))
+  answer_stop most input model ended in_time (Fault at number) (one, fault) = inr (inr (inr (inl (
+    record {
+      line = line;
+      model = model;
+      ended = ended;
+      in_time = in_time;
+      fault = fault;
+    },
+    one,
+  ))))
   answer_stop most input model ended in_time NoMemory _ = tt
 
   -- its formula, over a universe of its shape

@@ -121,10 +121,18 @@ fn an_endless_line_is_too_long(rt: HostRuntime) -> Result<(), Fail> {
         let bytes = input.as_bytes();
         let (line, fault) = asked;
         let found = formula::<8>(alloc, GridName::Square, 1, 8, Version::Two, bytes);
-        assert_eq!(rt; found.err(), Some(LineStop::Fault { line, fault }), "at {input}");
+        assert_eq!(rt;
+            found.err(),
+            Some(LineStop::Fault { line, fault }),
+            "at {input}"
+        );
         let (line, fault) = answered;
         let found = answer::<8>(alloc, GridName::Square, 1, 8, Version::Two, bytes);
-        assert_eq!(rt; found.err(), Some(LineStop::Fault { line, fault }), "at {input}");
+        assert_eq!(rt;
+            found.err(),
+            Some(LineStop::Fault { line, fault }),
+            "at {input}"
+        );
         assert_eq!(rt; is_endless::<8>(bytes), asked == (1, 8), "at {input}");
     }
     Ok(())
