@@ -1,4 +1,4 @@
-"""Tests of `atlas`: what its page carries, and, where there is a Chromium, what the page does."""
+"""Tests of `atlas`: what its page carries, and, beside HEESCH and where there is a Chromium, what the page does."""
 import functools
 import json
 import re
@@ -130,7 +130,7 @@ def places(words):
     return [tuple(map(int, word.split(','))) for word in words.split()]
 
 
-@unittest.skipUnless(chromium.found(), 'there is no Chromium')
+@helpers.needs_outside(*chromium.NAMES)
 class BrowserTest(AtlasTest):
     """What a page does in a browser."""
 
