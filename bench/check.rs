@@ -1,6 +1,7 @@
-//! `heesch check` as a plain Rust program, for catalogues of squares, hexagons and triangles whose shapes have at most 16
-//! cells: `check < CATALOGUE`. A clause that a hint names is had by its number alone, and nothing of a formula is made.
-//! It writes `valid COUNT` or the first invalid part, with status 1.
+//! `heesch check` as a plain Rust program, for catalogues of squares, hexagons and triangles whose
+//! shapes have at most 16 cells: `check < CATALOGUE`. A clause that a hint names is had by its
+//! number alone, and nothing of a formula is made. It writes `valid COUNT` or the first invalid
+//! part, with status 1.
 #[allow(dead_code)]
 mod cdcl;
 #[allow(dead_code)]
@@ -19,8 +20,8 @@ mod shapes;
 mod tori;
 mod words;
 
-use entries::Judge;
-use grids::Grid;
+use entries::{polyform, Judge};
+use grids::{Cell, Grid};
 use numbers::Version;
 use shapes::Shape;
 use std::io::{self, BufRead};
@@ -87,7 +88,9 @@ fn read_header(line: &str) -> Option<Header> {
     let most = most_cells(version, name)?;
     let asked = match words.next()? {
         "given" => Asked::Given,
-        size => Asked::Size(words::natural(size).filter(|size| (1..=most).contains(size))? as usize),
+        size => {
+            Asked::Size(words::natural(size).filter(|size| (1..=most).contains(size))? as usize)
+        }
     };
     let limits = Limits {
         turns: limit(&mut words, "turns", MOST_TURNS)?,
@@ -149,34 +152,55 @@ impl<R: BufRead> Input<R> {
     }
 }
 
-/// Whether the next shape of the catalogue may have these cells.
-fn is_in_place(shapes: Option<&Vec<Shape>>, before: usize, shape: &Shape) -> bool {
-    match shapes {
-        Some(shapes) => shapes.get(before) == Some(shape),
-        None => before < MOST_GIVEN,
+/// What a catalogue may have shapes from: the free list of its size, or all.
+enum Shapes {
+    Free(Vec<Shape>),
+    Given,
+}
+
+impl Shapes {
+    fn of(header: &Header) -> Shapes {
+        match header.asked {
+            Asked::Size(size) => Shapes::Free(shapes::free_shapes(header.grid, size)),
+            Asked::Given => Shapes::Given,
+        }
+    }
+
+    /// The shape of these cells behind so many others, where that is its place.
+    fn in_place(&self, grid: &Grid, before: usize, cells: &[Cell]) -> Option<Shape> {
+        match self {
+            Shapes::Free(list) => list.get(before).filter(|shape| shape.cells() == cells).copied(),
+            Shapes::Given if before < MOST_GIVEN => polyform(grid, cells),
+            Shapes::Given => None,
+        }
+    }
+
+    fn may_be(&self, count: usize) -> bool {
+        match self {
+            Shapes::Free(list) => list.len() == count,
+            Shapes::Given => true,
+        }
     }
 }
 
 fn check(reader: impl BufRead) -> io::Result<Answer> {
     let mut input = Input::new(reader)?;
-    let Some(header) = input.text().and_then(read_header) else { return Ok(Answer::InvalidHeader) };
-    input.go_on()?;
-    let shapes = match header.asked {
-        Asked::Size(size) => Some(shapes::free_shapes(header.grid, size)),
-        Asked::Given => None,
+    let Some(header) = input.text().and_then(read_header) else {
+        return Ok(Answer::InvalidHeader);
     };
+    input.go_on()?;
+    let shapes = Shapes::of(&header);
     let judge = Judge::new(header.grid, header.version, header.limits);
     let (mut count, mut block) = (0, Vec::new());
     while input.begins_entry() {
         input.block(&mut block)?;
-        let in_place = |shape: &Shape| is_in_place(shapes.as_ref(), count, shape);
+        let in_place = |cells: &[Cell]| shapes.in_place(header.grid, count, cells);
         if !std::str::from_utf8(&block).is_ok_and(|text| judge.is_true(text, in_place)) {
             return Ok(Answer::InvalidEntry { number: count + 1 });
         }
         count += 1;
     }
-    let are_all = shapes.is_none_or(|shapes| shapes.len() == count);
-    let is_end = are_all && input.text() == Some(&format!("end {count}"));
+    let is_end = shapes.may_be(count) && input.text() == Some(&format!("end {count}"));
     input.go_on()?;
     Ok(if is_end && input.line.is_empty() { Answer::Valid { count } } else { Answer::InvalidEnd })
 }

@@ -15,7 +15,7 @@ use crate::words::{cell, place, Lines, Words};
 use crate::Limits;
 use std::cell::OnceCell;
 
-/// Shapes of more cells aren't known here.
+/// Shapes of more cells aren't known here (shapes.rs).
 const MOST_CELLS: usize = 16;
 
 const STILL: Isometry = Isometry { turn: 0, da: 0, db: 0 };
@@ -96,7 +96,9 @@ impl Verdict {
     fn free(&self) -> usize {
         match self {
             Verdict::Tiles { .. } => 0,
-            Verdict::Heesch { free, .. } | Verdict::Levels { free } | Verdict::Holes { free } => *free,
+            Verdict::Heesch { free, .. } | Verdict::Levels { free } | Verdict::Holes { free } => {
+                *free
+            }
             Verdict::Turns { free, .. } | Verdict::Size { free, .. } => *free,
         }
     }
@@ -111,7 +113,7 @@ fn holds(condition: bool) -> Option<()> {
 }
 
 /// The shape of these cells, where they are the canonical list of a polyform.
-fn polyform(grid: &Grid, cells: &[Cell]) -> Option<Shape> {
+pub fn polyform(grid: &Grid, cells: &[Cell]) -> Option<Shape> {
     assert!(cells.len() <= MOST_CELLS, "a shape of at most {MOST_CELLS} cells");
     holds(cells.is_sorted_by(|c, d| c < d) && cells.iter().all(|c| is_cell(grid, *c)))?;
     let mut joined = vec![*cells.first()?];
@@ -129,11 +131,13 @@ fn polyform(grid: &Grid, cells: &[Cell]) -> Option<Shape> {
 
 /// Whether each cell of the torus is had once by the tiles.
 fn is_cover(grid: &Grid, shape: &Shape, cover: &Cover) -> bool {
-    let images = cover.tiles.iter().flat_map(|by| shape.cells().iter().map(|c| grid.image(*by, *c)));
+    let images =
+        cover.tiles.iter().flat_map(|by| shape.cells().iter().map(|c| grid.image(*by, *c)));
     let mut residues: Vec<(Cell, usize)> =
         images.map(|c| (cover.triple.reduced(grid.unit_of(c)), grid.class(c))).collect();
     residues.sort_unstable();
-    residues.windows(2).all(|two| two[0] != two[1]) && residues.len() == grid.per * area(cover.triple)
+    residues.windows(2).all(|two| two[0] != two[1])
+        && residues.len() == grid.per * area(cover.triple)
 }
 
 fn area(triple: Triple) -> usize {
@@ -154,15 +158,16 @@ impl Judge {
         Judge { grid, version, limits, windows: Default::default() }
     }
 
-    /// Whether the text is that of a true entry, whose shape is in its place.
-    pub fn is_true(&self, text: &str, in_place: impl Fn(&Shape) -> bool) -> bool {
+    /// Whether the text is that of a true entry. By its cells, `in_place` gives the shape that
+    /// stands in its place.
+    pub fn is_true(&self, text: &str, in_place: impl Fn(&[Cell]) -> Option<Shape>) -> bool {
         self.check(&mut Lines(text), in_place).is_some()
     }
 
-    fn check(&self, lines: &mut Lines, in_place: impl Fn(&Shape) -> bool) -> Option<()> {
-        let cells = lines.behind("shape")?.rest(cell)?;
-        let shape = polyform(self.grid, &cells).filter(in_place)?;
-        let admitted = |plain: &Plain| matches!(plain, Plain::Translation { .. }) || self.limits.domain >= 2;
+    fn check(&self, lines: &mut Lines, in_place: impl Fn(&[Cell]) -> Option<Shape>) -> Option<()> {
+        let shape = in_place(&lines.behind("shape")?.rest(cell)?)?;
+        let admitted =
+            |plain: &Plain| matches!(plain, Plain::Translation { .. }) || self.limits.domain >= 2;
         let plain = plain(self.grid, shape.cells()).filter(admitted);
         let verdict = Verdict::read(lines.behind("verdict")?)?;
         match (verdict, plain) {
@@ -172,8 +177,9 @@ impl Judge {
             }
             (verdict, None) => {
                 let images = shape.images(self.grid);
-                let window = self.windows[shape.cells().len()]
-                    .get_or_init(|| Window::new(self.grid, shape.cells().len(), self.limits.levels));
+                let window = self.windows[shape.cells().len()].get_or_init(|| {
+                    Window::new(self.grid, shape.cells().len(), self.limits.levels)
+                });
                 let subject = Subject { grid: self.grid, shape: &shape, images: &images };
                 let universe = Universe::new(window, &shape, &images);
                 Search { judge: self, subject, universe }.check(lines, verdict)?;
@@ -184,11 +190,20 @@ impl Judge {
     }
 
     /// The cover that is written, whose classes are these.
-    fn read_cover(&self, lines: &mut Lines, domain: usize, shape: &Shape, classes: usize) -> Option<Cover> {
+    fn read_cover(
+        &self,
+        lines: &mut Lines,
+        domain: usize,
+        shape: &Shape,
+        classes: usize,
+    ) -> Option<Cover> {
         let mut words = lines.behind("lattice")?;
         let triple = words.triple()?;
         words.end()?;
-        holds(domain <= self.limits.domain && self.grid.per * area(triple) == shape.cells().len() * domain)?;
+        holds(
+            domain <= self.limits.domain
+                && self.grid.per * area(triple) == shape.cells().len() * domain,
+        )?;
         let (mut cover, mut written) = (Cover { triple, tiles: Vec::new() }, Vec::new());
         while lines.is_next("tile") {
             let mut words = lines.behind("tile")?;
@@ -207,10 +222,13 @@ impl Judge {
     }
 }
 
-/// Whether a cover is of its kind, where the shape has this plain tiling, or none that is admitted.
+/// Whether a cover is of its kind, where the shape has this plain tiling, or none that is
+/// admitted.
 fn has_kind(grid: &Grid, cover: &Cover, kind: Kind, plain: Option<Plain>) -> bool {
     match (kind, plain) {
-        (Kind::Translation, Some(Plain::Translation { triple })) => cover.triple == triple && cover.tiles == [STILL],
+        (Kind::Translation, Some(Plain::Translation { triple })) => {
+            cover.triple == triple && cover.tiles == [STILL]
+        }
         (Kind::HalfTurn, Some(Plain::HalfTurn { triple, da, db })) => {
             let turned = Isometry { turn: grid.half_turn, da, db };
             cover.triple == triple && cover.tiles == [STILL, turned]
@@ -315,10 +333,17 @@ impl Search<'_> {
     }
 
     /// A line with this word and level, and a proof behind it that ends so; how many cuts it has.
-    fn proof(&mut self, lines: &mut Lines, word: &str, level: usize, ending: Ending) -> Option<usize> {
+    fn proof(
+        &mut self,
+        lines: &mut Lines,
+        word: &str,
+        level: usize,
+        ending: Ending,
+    ) -> Option<usize> {
         head(lines, word, level, ending.word())?;
         let placements = self.placements(level)?;
-        let mut clauses = CoronaClauses::new(&placements, self.judge.version, self.judge.limits.size)?;
+        let mut clauses =
+            CoronaClauses::new(&placements, self.judge.version, self.judge.limits.size)?;
         check_proof(lines, &mut clauses, ending)
     }
 
@@ -326,7 +351,9 @@ impl Search<'_> {
     fn too_large(&mut self, lines: &mut Lines, word: &str, level: usize) -> Option<()> {
         head(lines, word, level, "size")?;
         let placements = self.placements(level)?;
-        holds(CoronaClauses::new(&placements, self.judge.version, self.judge.limits.size).is_none())
+        holds(
+            CoronaClauses::new(&placements, self.judge.version, self.judge.limits.size).is_none(),
+        )
     }
 
     /// All triples of the domains from 2 on, each with a proof.

@@ -99,7 +99,8 @@ impl<S: Source> Log<'_, S> {
             self.source.walk(number, each);
         } else {
             let line = (number - count) as usize - 1;
-            let _ = self.literals[self.ends[line]..self.ends[line + 1]].iter().all(|lit| each(*lit));
+            let _ =
+                self.literals[self.ends[line]..self.ends[line + 1]].iter().all(|lit| each(*lit));
         }
         left
     }
@@ -149,7 +150,8 @@ impl<S: Source> Log<'_, S> {
     }
 }
 
-/// The lines so far, each in the list of one of its literals, and marks of those of the line at hand.
+/// The lines so far, each in the list of one of its literals, and marks of those of the line at
+/// hand.
 struct Earlier {
     lists: Vec<Vec<usize>>,
     marks: Vec<usize>,
@@ -163,7 +165,11 @@ fn index(lit: Lit) -> usize {
 impl Earlier {
     fn over(vars: u32) -> Earlier {
         let literals = 2 * (vars as usize + 1);
-        Earlier { lists: vec![Vec::new(); literals], marks: vec![usize::MAX; literals], has_empty: false }
+        Earlier {
+            lists: vec![Vec::new(); literals],
+            marks: vec![usize::MAX; literals],
+            has_empty: false,
+        }
     }
 
     fn mark(&mut self, line: &[Lit], i: usize) {
@@ -176,7 +182,8 @@ impl Earlier {
 
     fn within<'a>(&self, line: &[Lit], i: usize, clause: impl Fn(usize) -> &'a [Lit]) -> bool {
         let mut listed = line.iter().flat_map(|lit| &self.lists[index(*lit)]);
-        self.has_empty || listed.any(|earlier| clause(*earlier).iter().all(|lit| self.has(*lit, i)))
+        self.has_empty
+            || listed.any(|earlier| clause(*earlier).iter().all(|lit| self.has(*lit, i)))
     }
 
     fn push(&mut self, line: &[Lit], i: usize) {

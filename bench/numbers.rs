@@ -1,5 +1,6 @@
-//! The clauses of corona formulas by their numbers: a family by its range, a clause of it by the sums before it, and its
-//! literals from the lists of the cells of the universe. Nothing of a formula is made.
+//! The clauses of corona formulas by their numbers: a family by its range, a clause of it by the
+//! sums before it, and its literals from the lists of the cells of the universe. Nothing of a
+//! formula is made.
 
 use crate::cdcl::Lit;
 use crate::logs::Source;
@@ -15,7 +16,8 @@ pub enum Version {
 
 /// The fourth family.
 enum Apart {
-    /// By variable, how many clauses come before its own; and the later ones that meet it, where they were asked for.
+    /// By variable, how many clauses come before its own; and the later ones that meet it, where
+    /// they were asked for.
     Pairs { before: Vec<u32>, later: Vec<Vec<u32>> },
     /// The cells with two holders or more, in order.
     Owners { cells: Vec<Owned> },
@@ -57,7 +59,8 @@ enum Clause {
 /// The corona formula of the placements, of the level up to which they go.
 pub struct CoronaClauses<'a> {
     placements: &'a Placements,
-    /// By variable below the last level, how many clauses come before its own of the second family.
+    /// By variable below the last level, how many clauses come before its own of the second
+    /// family.
     covering: Vec<u32>,
     /// How many clauses the first three families have.
     common: u32,
@@ -72,7 +75,11 @@ fn digits(holders: usize) -> u32 {
 
 impl<'a> CoronaClauses<'a> {
     /// The formula, or None where it has more than so many literals.
-    pub fn new(placements: &'a Placements, version: Version, size: u64) -> Option<CoronaClauses<'a>> {
+    pub fn new(
+        placements: &'a Placements,
+        version: Version,
+        size: u64,
+    ) -> Option<CoronaClauses<'a>> {
         let low = placements.ends[placements.level() - 1];
         let mut covering = vec![placements.ring.len() as u32];
         for var in 1..=low {
@@ -80,7 +87,8 @@ impl<'a> CoronaClauses<'a> {
         }
         let common = covering[low as usize] + placements.count() - placements.ends[1];
         let (apart, vars) = (Apart::Owners { cells: Vec::new() }, placements.count());
-        let mut clauses = CoronaClauses { placements, covering, common, apart, count: common, vars };
+        let mut clauses =
+            CoronaClauses { placements, covering, common, apart, count: common, vars };
         match version {
             Version::Pairs => clauses.number_pairs(size)?,
             Version::Owners => clauses.number_owners(size)?,
@@ -89,7 +97,8 @@ impl<'a> CoronaClauses<'a> {
         clauses.fits_common(room).then_some(clauses)
     }
 
-    /// Whether the first three families have at most so many literals. A count of no fewer is tried first.
+    /// Whether the first three families have at most so many literals. A count of no fewer is
+    /// tried first.
     fn fits_common(&self, size: u64) -> bool {
         let placements = self.placements;
         let all_holders = |c, _| placements.holders(c).len();
@@ -98,7 +107,11 @@ impl<'a> CoronaClauses<'a> {
             || self.size_by(holders, |var| placements.supporters(var).count()) <= size
     }
 
-    fn size_by(&self, holders: impl Fn(u32, u32) -> usize, supporters: impl Fn(u32) -> usize) -> u64 {
+    fn size_by(
+        &self,
+        holders: impl Fn(u32, u32) -> usize,
+        supporters: impl Fn(u32) -> usize,
+    ) -> u64 {
         let Placements { ends, ring, .. } = self.placements;
         let first: usize = ring.iter().map(|c| holders(*c, ends[1])).sum();
         let low = ends[self.placements.level() - 1];
@@ -107,7 +120,8 @@ impl<'a> CoronaClauses<'a> {
             self.placements.ring_of(var).map(|c| 1 + holders(c, last)).sum::<usize>()
         };
         let second: usize = (1..=low).map(covering).sum();
-        let third: usize = (ends[1] + 1..=self.placements.count()).map(|var| 1 + supporters(var)).sum();
+        let third: usize =
+            (ends[1] + 1..=self.placements.count()).map(|var| 1 + supporters(var)).sum();
         (first + second + third) as u64
     }
 
@@ -134,7 +148,8 @@ impl<'a> CoronaClauses<'a> {
             if holders < 2 {
                 continue;
             }
-            let owned = Owned { cell, clauses: self.count, vars: self.vars, digits: digits(holders) };
+            let owned =
+                Owned { cell, clauses: self.count, vars: self.vars, digits: digits(holders) };
             self.count += holders as u32 * owned.digits;
             self.vars += owned.digits;
             cells.push(owned);
@@ -159,7 +174,8 @@ impl<'a> CoronaClauses<'a> {
         if number <= self.covering[self.covering.len() - 1] {
             let var = self.covering.partition_point(|before| *before < number);
             let place = (number - self.covering[var - 1]) as usize - 1;
-            let cell = placements.ring_of(var as u32).nth(place).expect("a cell around the placement");
+            let cell =
+                placements.ring_of(var as u32).nth(place).expect("a cell around the placement");
             return Clause::Covering { var: var as u32, cell };
         }
         if number <= self.common {
@@ -194,14 +210,16 @@ impl<'a> CoronaClauses<'a> {
         placements.ring.iter().any(|c| covered(*c, placements.ends[1]))
             || negated.iter().any(|var| {
                 let level = placements.level_of(*var);
-                level < placements.level() && placements.ring_of(*var).any(|c| covered(c, self.last_beside(*var)))
+                level < placements.level()
+                    && placements.ring_of(*var).any(|c| covered(c, self.last_beside(*var)))
                     || level > 1 && placements.supporters(*var).all(holds)
             })
     }
 
     /// Whether two of these meet.
     fn has_pair(&self, negated: &[u32]) -> bool {
-        let mut cells: Vec<u32> = negated.iter().flat_map(|var| self.placements.cells(*var)).collect();
+        let mut cells: Vec<u32> =
+            negated.iter().flat_map(|var| self.placements.cells(*var)).collect();
         cells.sort_unstable();
         cells.windows(2).any(|two| two[0] == two[1])
     }
@@ -209,7 +227,9 @@ impl<'a> CoronaClauses<'a> {
     /// Whether one of these stands with a literal of an owner that it asks for.
     fn has_owner(&self, cells: &[Owned], negated: &[u32], has: &impl Fn(Lit) -> bool) -> bool {
         let asks = |var: u32, cell| {
-            let Ok(at) = cells.binary_search_by_key(&cell, |owned| owned.cell) else { return false };
+            let Ok(at) = cells.binary_search_by_key(&cell, |owned| owned.cell) else {
+                return false;
+            };
             let rank = self.placements.holders(cell).partition_point(|other| *other < var) as u32;
             (0..cells[at].digits).any(|digit| has(cells[at].literal(rank, digit)))
         };
@@ -235,10 +255,12 @@ impl Source for CoronaClauses<'_> {
             }
             Clause::Covering { var, cell } => {
                 let last = self.last_beside(var);
-                each(Lit::negative(var)) && placements.holders_to(cell, last).all(|var| each(Lit::positive(var)))
+                each(Lit::negative(var))
+                    && placements.holders_to(cell, last).all(|var| each(Lit::positive(var)))
             }
             Clause::Support { var } => {
-                each(Lit::negative(var)) && placements.supporters(var).all(|other| each(Lit::positive(other)))
+                each(Lit::negative(var))
+                    && placements.supporters(var).all(|other| each(Lit::positive(other)))
             }
             Clause::Apart { var, other } => each(Lit::negative(var)) && each(other),
         };
@@ -264,17 +286,21 @@ impl Source for CoronaClauses<'_> {
         let mut hole = Vec::new();
         words.to_colon(cell, &mut hole)?;
         let border = words.rest(natural)?;
-        let rises = !hole.is_empty() && hole.is_sorted_by(|c, d| c < d) && border.is_sorted_by(|u, v| u < v);
+        let rises = !hole.is_empty()
+            && hole.is_sorted_by(|c, d| c < d)
+            && border.is_sorted_by(|u, v| u < v);
         if !rises || !(1..=self.placements.level()).contains(&level) {
             return None;
         }
-        let hole: Vec<u32> = hole.into_iter().map(|c| self.placements.number(c)).collect::<Option<_>>()?;
+        let hole: Vec<u32> =
+            hole.into_iter().map(|c| self.placements.number(c)).collect::<Option<_>>()?;
         self.cut_clause(level, &hole, &border)
     }
 }
 
 impl CoronaClauses<'_> {
-    /// The clause of a cut with this hole and border, both rising, or None where the border doesn't enclose the hole.
+    /// The clause of a cut with this hole and border, both rising, or None where the border
+    /// doesn't enclose the hole.
     fn cut_clause(&self, level: usize, hole: &[u32], border: &[u32]) -> Option<Vec<Lit>> {
         let placements = self.placements;
         let last = placements.ends[level];
@@ -290,7 +316,8 @@ impl CoronaClauses<'_> {
             return None;
         }
         let fillers = hole.iter().flat_map(|c| placements.holders_to(*c, last)).map(Lit::positive);
-        let mut clause: Vec<Lit> = border.iter().map(|var| Lit::negative(*var)).chain(fillers).collect();
+        let mut clause: Vec<Lit> =
+            border.iter().map(|var| Lit::negative(*var)).chain(fillers).collect();
         clause.sort_unstable();
         clause.dedup();
         Some(clause)

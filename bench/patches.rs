@@ -1,4 +1,5 @@
-//! Layers of placements around a shape: whether they are coronas, with or without holes, and spelled as a catalogue does.
+//! Layers of placements around a shape: whether they are coronas, with or without holes, and
+//! spelled as a catalogue does.
 
 use crate::grids::{Cell, Grid, Isometry};
 use crate::raster::Raster;
@@ -30,11 +31,14 @@ impl Subject<'_> {
         (extent + 2 * self.grid.unit) * (layers as i32 + 1)
     }
 
-    /// Whether these layers are coronas, hole-free where that is asked for. A layer's places have to be least
-    /// isometries, in the order of their cell lists.
+    /// Whether these layers are coronas, hole-free where that is asked for. A layer's places have
+    /// to be least isometries, in the order of their cell lists.
     pub fn has_coronas(&self, layers: &[Vec<Isometry>], hole_free: bool) -> bool {
         let placed = |layer: &Vec<Isometry>| layer.iter().map(|by| self.placement(by)).collect();
-        let Some(layers) = layers.iter().map(placed).collect::<Option<Vec<Vec<Vec<Cell>>>>>() else { return false };
+        let Some(layers) = layers.iter().map(placed).collect::<Option<Vec<Vec<Vec<Cell>>>>>()
+        else {
+            return false;
+        };
         let reach = self.reach(layers.len());
         let is_near = |c: &Cell| c.a.abs() <= reach && c.b.abs() <= reach;
         let spelled = layers.iter().all(|layer| layer.is_sorted_by(|one, next| one < next));
@@ -43,7 +47,8 @@ impl Subject<'_> {
         }
         let cells = layers.iter().flatten().flatten().chain(self.shape.cells()).copied();
         let raster = Raster::around(self.grid, cells, 3);
-        let numbers = |cells: &[Cell]| -> Vec<i32> { cells.iter().map(|c| raster.number(*c)).collect() };
+        let numbers =
+            |cells: &[Cell]| -> Vec<i32> { cells.iter().map(|c| raster.number(*c)).collect() };
         let mut patch = vec![None; raster.len()];
         let mut all = numbers(self.shape.cells());
         all.iter().for_each(|c| patch[*c as usize] = Some(0));
@@ -57,7 +62,13 @@ impl Subject<'_> {
 }
 
 /// Adds a layer to a patch of these cells; whether it is a corona.
-fn add_corona(raster: &Raster, patch: &mut Patch, cells: &[i32], level: usize, tiles: &[Vec<i32>]) -> bool {
+fn add_corona(
+    raster: &Raster,
+    patch: &mut Patch,
+    cells: &[i32],
+    level: usize,
+    tiles: &[Vec<i32>],
+) -> bool {
     for tile in tiles {
         let is_apart = tile.iter().all(|c| patch[*c as usize].is_none());
         let is_earlier = |c: i32| patch[c as usize].is_some_and(|layer| layer < level);
@@ -69,8 +80,9 @@ fn add_corona(raster: &Raster, patch: &mut Patch, cells: &[i32], level: usize, t
     cells.iter().all(|c| raster.touching(*c).all(|d| patch[d as usize].is_some()))
 }
 
-/// Whether a part of the patch's complement is shut in: beside the patch, and not reached from the raster's corner. A
-/// path that leaves the raster at one side, and comes in at the other, does no harm.
+/// Whether a part of the patch's complement is shut in: beside the patch, and not reached from the
+/// raster's corner. A path that leaves the raster at one side, and comes in at the other, does no
+/// harm.
 fn has_hole(raster: &Raster, patch: &Patch, cells: &[i32]) -> bool {
     let mut reached: Vec<bool> = patch.iter().map(Option::is_some).collect();
     let mut open = vec![0];

@@ -1,4 +1,5 @@
-//! Cells numbered in cell order, in lines of units with a line for each class, so that a translation adds to them.
+//! Cells numbered in cell order, in lines of units with a line for each class, so that a
+//! translation adds to them.
 
 use crate::grids::{Cell, Grid};
 
@@ -43,7 +44,8 @@ impl Raster {
         }
         let low = Cell { a: low.a - spare, b: low.b - spare };
         let (wide, high) = (top.a + spare - low.a + 1, top.b + spare - low.b + 1);
-        let mut raster = Raster { grid, low, wide, high, adjacent: Vec::new(), touching: Vec::new() };
+        let mut raster =
+            Raster { grid, low, wide, high, adjacent: Vec::new(), touching: Vec::new() };
         for from in (0..grid.per).map(|class| cell_of(grid, Cell::default(), class)) {
             let step = |to| raster.number(to) - raster.number(from);
             let adjacent = grid.adjacent(from).map(step).collect();
@@ -61,7 +63,8 @@ impl Raster {
 
     pub fn number(&self, c: Cell) -> i32 {
         let unit = self.grid.unit_of(c);
-        self.shift(unit.a - self.low.a, unit.b - self.low.b) + self.grid.class(c) as i32 * self.wide
+        self.shift(unit.a - self.low.a, unit.b - self.low.b)
+            + self.grid.class(c) as i32 * self.wide
     }
 
     /// The number of a cell that lies in the raster, and not at its frame.

@@ -1,5 +1,5 @@
-//! The clauses of torus formulas by their numbers. Residue sets are masks, and the clauses of two that meet are counted
-//! by sums.
+//! The clauses of torus formulas by their numbers. Residue sets are masks, and the clauses of two
+//! that meet are counted by sums.
 
 use crate::cdcl::Lit;
 use crate::grids::{Cell, Grid, Isometry};
@@ -16,7 +16,8 @@ fn meet<const W: usize>(one: &Mask<W>, other: &Mask<W>) -> bool {
     one.iter().zip(other).any(|(word, beside)| word & beside != 0)
 }
 
-/// The reduced cells of a triple, numbered in cell order: in lines of p, as many lines a row of units as classes.
+/// The reduced cells of a triple, numbered in cell order: in lines of p, as many lines a row of
+/// units as classes.
 struct Torus<'a> {
     grid: &'a Grid,
     triple: Triple,
@@ -84,7 +85,9 @@ impl Meetings {
         let mut bits = vec![0; words * sets.len()];
         for (i, set) in sets.iter().enumerate() {
             let row = &mut bits[words * i..words * (i + 1)];
-            for (other, _) in sets.iter().enumerate().skip(i + 1).filter(|(_, other)| meet(set, other)) {
+            for (other, _) in
+                sets.iter().enumerate().skip(i + 1).filter(|(_, other)| meet(set, other))
+            {
                 row[other / 64] |= 1 << (other % 64);
             }
         }
@@ -173,7 +176,10 @@ impl<const W: usize> Source for TorusClauses<W> {
         let negations = clause.iter().filter(|lit| !lit.is_positive());
         let sets: Vec<Mask<W>> = negations.map(|lit| self.sets[lit.var() as usize - 1]).collect();
         self.holders.iter().any(|holders| holders.iter().all(|var| has(Lit::positive(*var))))
-            || sets.iter().enumerate().any(|(i, set)| sets[i + 1..].iter().any(|other| meet(set, other)))
+            || sets
+                .iter()
+                .enumerate()
+                .any(|(i, set)| sets[i + 1..].iter().any(|other| meet(set, other)))
     }
 
     /// No cut is lawful over a torus.

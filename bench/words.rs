@@ -14,7 +14,9 @@ pub fn natural(word: &str) -> Option<u32> {
     if !(1..=10).contains(&digits.len()) || digits.len() > 1 && digits[0] == b'0' {
         return None;
     }
-    let with = |value: u64, digit: &u8| digit.is_ascii_digit().then(|| 10 * value + u64::from(digit - b'0'));
+    let with = |value: u64, digit: &u8| {
+        digit.is_ascii_digit().then(|| 10 * value + u64::from(digit - b'0'))
+    };
     u32::try_from(digits.iter().try_fold(0, with)?).ok()
 }
 
