@@ -1,13 +1,14 @@
 #!/usr/bin/env bash
-# Compares `heesch check` with a plain Rust program of the same method (check.rs), which has clauses by their numbers:
-# `check.sh PROGRAM GRID N ..`, as `check.sh ../crates/heesch/out/heesch square 8 iamond 9`. PROGRAM makes each catalogue
-# once, by the default limits and OPTIONS (none; as `--version 1`). Then both check it in turn, RUNS times (5): the least
-# user seconds of each by one worker, their peaks in MB, and the ratio of the seconds. In the same turns `heesch check`
-# runs by four workers: its least seconds by the clock, as a part of the least by one. Last, in between the turns, how
-# many times as long a loop of additions takes four processes as one, the least: 1 on a quiet machine of four processors.
-# Kites aren't known to the plain program. It needs rustc, and GNU time at /usr/bin/time.
+# Compares `heesch check` with a plain Rust program of the same method (check.rs), which has
+# clauses by their numbers: `check.sh PROGRAM GRID N ..`, as `check.sh ../heesch square 8 hex 6`.
+# PROGRAM makes each catalogue once, by the default limits and OPTIONS (none; as `--version 1`).
+# Then both check it in turn, RUNS times (5): the least user seconds of each by one worker, their
+# greatest peaks in MB, and the ratio of the seconds. In the same turns `heesch check` runs by four
+# workers: its least seconds by the clock, as a part of the least by one. Last, in between the
+# turns, how many times as long a loop of additions takes four processes as one, the least: 1 on a
+# quiet machine of four processors. Kites aren't known here. It needs rustc, and GNU time.
 set -eu
-[ $# -ge 3 ] && [ -x "$1" ] || { sed -n 2,8p "$0" >&2; exit 2; }
+[ $# -ge 3 ] && [ -x "$1" ] || { sed -n 2,9p "$0" >&2; exit 2; }
 program=$(readlink -f "$1")
 shift
 cd "$(dirname "$0")"
@@ -16,10 +17,12 @@ work=$(mktemp -d)
 trap 'rm -r "$work"' EXIT
 rustc -O --edition 2021 -o "$work/check" check.rs
 
-measure() { # NAME COMMAND..: runs the command over the catalogue; adds its user seconds, seconds and peak in kB to NAME
+measure() { # NAME COMMAND..: checks the text; adds user seconds, seconds and kB at peak to NAME
   local name=$1 TIMEFORMAT='%3U %3R' seconds
   shift
-  seconds=$( { time /usr/bin/time -o "$work/peak" -f %M "$@" < "$work/text" > "$work/$name.answer"; } 2>&1) || true
+  seconds=$( {
+    time /usr/bin/time -o "$work/peak" -f %M "$@" < "$work/text" > "$work/$name.answer"
+  } 2>&1) || true
   echo "$seconds $(tail -n 1 "$work/peak")" >> "$work/$name"
 }
 
@@ -52,8 +55,10 @@ while [ $# -ge 2 ]; do
     additions
   done
   one=$(least one 1) plain=$(least plain 1)
-  echo "$1 $2, $(wc -c < "$work/text") bytes: heesch $(cat "$work/one.answer"), $one s, $(megabytes one) MB;" \
-    "plain Rust $(cat "$work/plain.answer"), $plain s, $(megabytes plain) MB; ratio $(ratio "$one" "$plain");" \
-    "4 workers $(ratio "$(least four 2)" "$(least one 2)") of one, $(megabytes four) MB, where the loop took $(least loop 1)"
+  echo "$1 $2, $(wc -c < "$work/text") bytes:" \
+    "heesch $(cat "$work/one.answer"), $one s, $(megabytes one) MB;" \
+    "plain Rust $(cat "$work/plain.answer"), $plain s, $(megabytes plain) MB;" \
+    "ratio $(ratio "$one" "$plain"); 4 workers $(megabytes four) MB," \
+    "$(ratio "$(least four 2)" "$(least one 2)") of one, where the loop took $(least loop 1)"
   shift 2
 done
