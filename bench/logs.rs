@@ -203,7 +203,7 @@ pub fn check_proof<S: Source>(lines: &mut Lines, source: &mut S, ending: Ending)
         let mut words = lines.words()?;
         match (words.next()?, ending) {
             ("learn", _) => {
-                words.to_colon(literal, &mut clause)?;
+                words.before_colon(literal, &mut clause)?;
                 read_hints(&mut words, &mut hints)?;
                 if !log.is_clause(&clause) || !log.holds(&clause, &hints) {
                     return None;

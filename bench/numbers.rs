@@ -59,8 +59,7 @@ enum Clause {
 /// The corona formula of the placements, of the level up to which they go.
 pub struct CoronaClauses<'a> {
     placements: &'a Placements,
-    /// By variable below the last level, how many clauses come before its own of the second
-    /// family.
+    /// By variable below the last level, from 0: where its clauses of the second family end.
     covering: Vec<u32>,
     /// How many clauses the first three families have.
     common: u32,
@@ -284,7 +283,7 @@ impl Source for CoronaClauses<'_> {
         let level = words.natural()? as usize;
         words.expect(":")?;
         let mut hole = Vec::new();
-        words.to_colon(cell, &mut hole)?;
+        words.before_colon(cell, &mut hole)?;
         let border = words.rest(natural)?;
         let rises = !hole.is_empty()
             && hole.is_sorted_by(|c, d| c < d)

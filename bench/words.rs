@@ -99,8 +99,12 @@ impl<'a> Words<'a> {
         self.map(read).collect()
     }
 
-    /// The words up to a colon, each read so, one after the other into an empty list.
-    pub fn to_colon<T>(&mut self, read: fn(&str) -> Option<T>, into: &mut Vec<T>) -> Option<()> {
+    /// The words before a colon, each read so, one after the other into an empty list.
+    pub fn before_colon<T>(
+        &mut self,
+        read: fn(&str) -> Option<T>,
+        into: &mut Vec<T>,
+    ) -> Option<()> {
         into.clear();
         loop {
             match self.next()? {
