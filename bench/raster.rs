@@ -1,0 +1,94 @@
+//! Cells numbered in cell order, in lines of units with a line for each class, so that a
+//! translation adds to them.
+
+use crate::grids::{Cell, Grid};
+
+/// The cell of a class in a unit.
+fn cell_of(grid: &Grid, unit: Cell, class: usize) -> Cell {
+    let class = class as i32;
+    grid.moved(Cell { a: grid.first.a + class, b: grid.first.b + class }, unit.a, unit.b)
+}
+
+/// Whether the pair is a cell of the grid.
+pub fn is_cell(grid: &Grid, c: Cell) -> bool {
+    (0..grid.per).any(|class| cell_of(grid, grid.unit_of(c), class) == c)
+}
+
+/// The cells outside that touch one of these, in order.
+pub fn ring_of(grid: &Grid, cells: &[Cell]) -> Vec<Cell> {
+    let around = cells.iter().flat_map(|c| grid.touching(*c));
+    let mut ring: Vec<Cell> = around.filter(|d| !cells.contains(d)).collect();
+    ring.sort_unstable();
+    ring.dedup();
+    ring
+}
+
+/// So many rows and columns of units.
+pub struct Raster {
+    grid: &'static Grid,
+    low: Cell,
+    wide: i32,
+    high: i32,
+    /// By class, what leads from a cell to those adjacent to it, and to those that touch it.
+    adjacent: Vec<Vec<i32>>,
+    touching: Vec<Vec<i32>>,
+}
+
+impl Raster {
+    /// A raster around these cells and the unit (0, 0), with so many units to spare at each side.
+    pub fn around(grid: &'static Grid, cells: impl Iterator<Item = Cell>, spare: i32) -> Raster {
+        let (mut low, mut top) = (Cell::default(), Cell::default());
+        for unit in cells.map(|c| grid.unit_of(c)) {
+            low = Cell { a: low.a.min(unit.a), b: low.b.min(unit.b) };
+            top = Cell { a: top.a.max(unit.a), b: top.b.max(unit.b) };
+        }
+        let low = Cell { a: low.a - spare, b: low.b - spare };
+        let (wide, high) = (top.a + spare - low.a + 1, top.b + spare - low.b + 1);
+        let mut raster =
+            Raster { grid, low, wide, high, adjacent: Vec::new(), touching: Vec::new() };
+        for from in (0..grid.per).map(|class| cell_of(grid, Cell::default(), class)) {
+            let step = |to| raster.number(to) - raster.number(from);
+            let adjacent = grid.adjacent(from).map(step).collect();
+            let touching = grid.touching(from).map(step).collect();
+            raster.adjacent.push(adjacent);
+            raster.touching.push(touching);
+        }
+        raster
+    }
+
+    /// How many numbers there are.
+    pub fn len(&self) -> usize {
+        self.wide as usize * self.high as usize * self.grid.per
+    }
+
+    pub fn number(&self, c: Cell) -> i32 {
+        let unit = self.grid.unit_of(c);
+        self.shift(unit.a - self.low.a, unit.b - self.low.b)
+            + self.grid.class(c) as i32 * self.wide
+    }
+
+    /// The number of a cell that lies in the raster, and not at its frame.
+    pub fn inner_number(&self, c: Cell) -> Option<i32> {
+        let unit = self.grid.unit_of(c);
+        let (a, b) = (unit.a - self.low.a, unit.b - self.low.b);
+        let is_inner = (1..self.wide - 1).contains(&a) && (1..self.high - 1).contains(&b);
+        (is_inner && is_cell(self.grid, c)).then(|| self.number(c))
+    }
+
+    /// What a translation by so many units adds.
+    pub fn shift(&self, da: i32, db: i32) -> i32 {
+        db * self.grid.per as i32 * self.wide + da
+    }
+
+    pub fn class(&self, number: i32) -> usize {
+        (number / self.wide) as usize % self.grid.per
+    }
+
+    pub fn adjacent(&self, number: i32) -> impl Iterator<Item = i32> + '_ {
+        self.adjacent[self.class(number)].iter().map(move |step| number + step)
+    }
+
+    pub fn touching(&self, number: i32) -> impl Iterator<Item = i32> + '_ {
+        self.touching[self.class(number)].iter().map(move |step| number + step)
+    }
+}
