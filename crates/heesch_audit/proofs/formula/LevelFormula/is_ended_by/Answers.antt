@@ -23,7 +23,7 @@ returns-in_default-2 g c =
     let shape = c.args.shape.now in
     let self = c.args.self.now in
     let proof = c.args.proof.now in
-    let f = c.in-Som (formula_of f) in
+    let f = c.in-Some.formula in
     let at : IsFormulaAt self.limits.version geometry shape self.level self.limits.size (universe_of f) (formula_of f) = search rules in
     let unlawful = subst (λ (o : Option Log). MatchOption o (¬ All (IsLawfulStep geometry shape (universe_of f).level (universe_of f).vars) proof.steps) (IsLogOf geometry shape (universe_of f).level (universe_of f).vars proof)) c.in_default-2.is c.in_ok-log.ensures in
     refused (unlawful_not_ended self.limits geometry g.met.G.Grid.laws shape c.requires.shape.is_shape.polyform self.level (universe_of f) (formula_of f) at proof c.args.end unlawful)
@@ -33,7 +33,7 @@ returns g c =
     let geometry = g.G.Grid.geometry in
     let shape = c.args.shape.now in
     let self = c.args.self.now in
-    let f = c.in-Som (formula_of f) in
+    let f = c.in-Some.formula in
     let at : IsFormulaAt self.limits.version geometry shape self.level self.limits.size (universe_of f) (formula_of f) = search rules in
     let is = subst (λ (o : Option Log). MatchOption o (¬ All (IsLawfulStep geometry shape (universe_of f).level (universe_of f).vars) c.args.proof.now.steps) (IsLogOf geometry shape (universe_of f).level (universe_of f).vars c.args.proof.now)) c.in-Some-2.is c.in_ok-log.ensures in
     let both = ends_coronas self.limits geometry g.met.G.Grid.laws shape c.requires.shape.is_shape.polyform self.level (universe_of f) (formula_of f) at c.args.proof.now c.in-Some-2.log is c.args.end in
