@@ -4,7 +4,6 @@ use Rattle.std.specs.Io.KnownBytes.{IsAtEnd}
 use Rattle.std.specs.IoError.{error_kind}
 use Rattle.std.specs.Vec.Iter.{into_iter_items}
 use Rattle.std.specs.declared.io.Error.{Error}
-use Rattle.std.specs.declared.io.ErrorKind.{ErrorKind}
 use Rattle.std.specs.declared.io.ErrorKind.TheVariants.{OutOfMemory}
 use Rattle.std.specs.declared.vec.IntoIter.{IntoIter}
 use Rattle.heesch_io.specs.Causes.{Rose}
@@ -34,6 +33,8 @@ pub record HasRun {R W : Type 0} (left : R → Option (List ℕ)) (failed : R �
   pub done : status ≡ Done → Writes words (left source) Done (held sink) (held sink_after)
   pub bad_input : status ≡ BadInput → Writes words (left source) BadInput (held sink) (held sink_after)
   pub invalid : status ≡ Invalid → Writes words (left source) Invalid (held sink) (held sink_after)
-  pub read_fault : status ≡ ReadFault → AreReading words × (sink_after ≡ sink) × Rose (failed source) (failed source_after)
-  pub write_fault : status ≡ WriteFault → WritesPrefix words (left source) (held sink) (held sink_after) × Rose (refused sink) (refused sink_after)
+  pub read_fault : status ≡ ReadFault → AreReading words × (sink_after ≡ sink)
+  pub read_cause : status ≡ ReadFault → Rose (failed source) (failed source_after)
+  pub write_fault : status ≡ WriteFault → WritesPrefix words (left source) (held sink) (held sink_after)
+  pub write_cause : status ≡ WriteFault → Rose (refused sink) (refused sink_after)
   pub no_memory : status ≡ NoMemory → WritesPrefix words (left source) (held sink) (held sink_after)

@@ -1,5 +1,5 @@
 -- An input that is answered has no fault.
-use Rattle.std.proofs.Common.{◌≡◌, ◌≢◌, ◌∙◌, ◌⊎◌, ℕ, List, [], ◌∷◌, ◌++◌, refl, sym, subst, arith, append_assoc, append-nil, inl, inr}
+use Rattle.std.proofs.Common.{◌≡◌, ◌≢◌, ◌∙◌, ℕ, List, [], ◌∷◌, ◌++◌, refl, sym, subst, arith, append_assoc, append-nil, inl, inr}
 use Rattle.std.specs.Prelude.{Bool, Contains}
 use Rattle.heesch_grid.specs.declared.Cell.{Cell}
 use Rattle.heesch_grid.specs.Cells.{cell_before, IsCellListOf}
@@ -27,7 +27,7 @@ use Rattle.heesch_exchange.specs.Answers.{HasEndedLine, IsAnswer, HasAnswerFault
 use Rattle.heesch_exchange.specs.Formulas.{IsFormula, HasFormulaFault}
 use Rattle.heesch_given.specs.Given.{IsShapeLine, IsLineFault}
 use Rattle.heesch_exchange.proofs.FirstLines.{as_line, not_endless, one_line}
-use Rattle.heesch_exchange.specs.Shapes.{HasFirstLine, HasFormula, IsEndless, IsInTime, IsShapeFault}
+use Rattle.heesch_exchange.specs.Shapes.{HasFormula, IsShapeFault}
 
 -- ---- the first line
 

@@ -29,7 +29,7 @@ use Rattle.heesch_line.specs.declared.stops.LineStop.{LineStop}
 use Rattle.heesch_line.specs.declared.stops.LineStop.TheVariants.{Fault, NoMemory}
 use Rattle.heesch_place.specs.Universes.{Levels}
 use Rattle.heesch_text.specs.Catalogue.{coronas_text}
-use Rattle.heesch_exchange.specs.Answers.{HasEndedLine, IsAnswer, IsAnswerStop, IsModelStop, IsUnended, TellsCoronas, TellsFalse}
+use Rattle.heesch_exchange.specs.Answers.{HasEndedLine, IsAnswer, IsAnswerStop, IsModelStop, TellsCoronas, TellsFalse}
 use Rattle.heesch_exchange.specs.Formulas.{IsFormula, IsFormulaStop, HasSecondLine}
 use Rattle.heesch_given.specs.Given.{IsShapeLine}
 use Rattle.heesch_exchange.specs.Shapes.{HasFirstLine, HasFormula, IsInTime, IsLineStop, IsShapeStop, EncodesLine}

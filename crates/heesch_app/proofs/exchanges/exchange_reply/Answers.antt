@@ -1,5 +1,4 @@
-use Rattle.std.specs.Io.KnownBytes.{IsAtEnd}
-use Rattle.std.proofs.Common.{◌≤◌, ◌+◌, length, arith}
+use Rattle.std.proofs.Common.{◌≤◌, length, arith}
 use Rattle.heesch_grid.specs.Names.{geometry_of}
 use Rattle.heesch_exchange.specs.Answers.{IsAnswer, IsAnswerStop}
 use Rattle.heesch_exchange.specs.Formulas.{IsFormula, IsFormulaStop}
@@ -20,7 +19,7 @@ pub returns-in-Formula-clause-ok : goal.returns-in-Formula-clause-ok
 returns-in-Formula-clause-ok g c =
     let a = c.args in
     let few : length c.in_ok-input.input.items ≤ input_max = omega (arith, c.len.ensures, c.if-len-gt-INPUT_MAX.false) in
-    rw c.in-Formula.is (told_of_input (IsFormula input_max a.version (geometry_of a.grid) a.level a.size) (IsFormulaStop input_max a.version (geometry_of a.grid) a.level a.size) (g.R.Source.left a.source.now) c.in_ok-input.input.items c.deref.result.now c.formula-text.result c.told.result c.in_ok-input.ensures.ok c.deref.ensures.value few c.formula-text.ensures.ok c.formula-text.ensures.stop c.told.ensures.ok)
+    rw c.in-Formula.is (told_of_input (IsFormula input_max a.version (geometry_of a.grid) a.level a.size) (IsFormulaStop input_max a.version (geometry_of a.grid) a.level a.size) (g.R.Source.left a.source.now) c.in_ok-input.input.items c.deref-in-Formula.result.now c.formula-text.result c.told.result c.in_ok-input.ensures.ok c.deref-in-Formula.ensures.value few c.formula-text.ensures.ok c.formula-text.ensures.stop c.told.ensures.ok)
 
 pub returns-in-Formula-clause-ended : goal.returns-in-Formula-clause-ended
 returns-in-Formula-clause-ended g c =

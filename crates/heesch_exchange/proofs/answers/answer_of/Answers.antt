@@ -13,13 +13,13 @@ returns-then-is_late-clause-stop g c =
     let a = c.args.asked in
     answer_late a.most a.version g.G.Grid.geometry a.level a.size c.args.input.now c.first_line.result.0.now c.first_line.result.1.now c.first_line.ensures (c.is_late.ensures.late c.if-is_late.true)
 
-pub returns-in-None-clause-stop : goal.returns-in-None-clause-stop
-returns-in-None-clause-stop g c =
+pub returns-in_default-clause-stop : goal.returns-in_default-clause-stop
+returns-in_default-clause-stop g c =
     let a = c.args.asked in
     let input = c.args.input.now in
     let some = not_empty input c.is_empty.result c.is_empty.ensures c.if-is_empty.false in
-    let in_time = in_time_of a.most input c.first_line.result.0.now c.first_line.result.1.now input [] c.first_line.ensures (alone input c.in-None.ensures) (c.is_late.ensures.in_time c.if-is_late.false) in
-    unended a.most a.version g.G.Grid.geometry a.level a.size input some c.in-None.ensures in_time
+    let in_time = in_time_of a.most input c.first_line.result.0.now c.first_line.result.1.now input [] c.first_line.ensures (alone input c.in_default.ensures) (c.is_late.ensures.in_time c.if-is_late.false) in
+    unended a.most a.version g.G.Grid.geometry a.level a.size input some c.in_default.ensures in_time
 
 pub returns-in_err-encoded-clause-stop : goal.returns-in_err-encoded-clause-stop
 returns-in_err-encoded-clause-stop g c =
