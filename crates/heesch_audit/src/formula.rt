@@ -1,5 +1,5 @@
-//! The corona formulas that proofs are checked over, by their levels.
-ghost use Rattle.std.specs.Prelude.{◌≡◌, ◌≤◌, ◌↔◌, IsTrue, IfOk, IfSome};
+//! The corona formulas that proofs are checked over.
+ghost use Rattle.std.specs.Prelude.{◌≡◌, ◌≤◌, ◌↔◌, IsTrue, IfOk, IfSome, MatchOption};
 ghost use Rattle.heesch_cert.specs.Limits.{AreLimits};
 ghost use Rattle.heesch_cert.specs.Proofs.{IsTooLarge};
 ghost use Rattle.heesch_cert.specs.TrueEntry.{WallShows};
@@ -8,10 +8,10 @@ ghost use Rattle.heesch_audit.specs.Formulas.{IsLevelFormula};
 ghost use Rattle.heesch_audit.specs.Near.{IsNearProof, IsNearWall};
 ghost use Rattle.heesch_audit.specs.Shapes.{IsCanonicalShape};
 
-use crate::corona_formula::{CoronaFormula, corona_formula};
-use crate::logs::lawful_log;
+use crate::logs::{is_ended, lawful_log};
 use crate::proof_end::ProofEnd;
 use heesch_cert::{Limits, Proof, Wall};
+use heesch_encode::{EncodeStop, FlatEncoded, encode_flat};
 use heesch_grid::Grid;
 use heesch_io::NoMemory;
 use heesch_shape::Shape;
@@ -23,7 +23,7 @@ use std::thread::Threads;
 pub(crate) struct LevelFormula<G: Grid> {
     pub limits: Limits,
     pub level: u32,
-    pub formula: Option<CoronaFormula<G>>,
+    pub encoded: Option<FlatEncoded<G>>,
 }
 
 /// The formula of a level. It is the one at hand where that is of this level; else that one is let go before this is
@@ -39,39 +39,29 @@ pub(crate) fn level_formula<G: Grid>(
     requires limits { AreLimits limits }
     requires level { (1 ≤ level) × (level ≤ 6) }
     requires same { IfSome at_hand (λ f. f.limits ≡ limits) }
-    requires at_hand { IfSome at_hand (λ f. IsLevelFormula G.geometry f.limits shape.now f.level f.formula) }
+    requires at_hand { IfSome at_hand (λ f. IsLevelFormula G.geometry f.limits shape.now f.level f.encoded) }
     ensures limits { IfOk result (λ f. f.limits ≡ limits) }
     ensures level { IfOk result (λ f. f.level ≡ level) }
-    ensures formula { IfOk result (λ f. IsLevelFormula G.geometry limits shape.now level f.formula) }
+    ensures formula { IfOk result (λ f. IsLevelFormula G.geometry limits shape.now level f.encoded) }
 {
     if let Some(formula) = at_hand {
         if formula.level == level {
             return Ok(formula);
         }
     }
-    let formula = corona_formula(alloc, shape, limits, level)?;
+    let encoded = match encode_flat(alloc, shape, level, limits.size, limits.version) {
+        Ok(encoded) => Some(encoded),
+        Err(EncodeStop::TooLarge) => None,
+        Err(EncodeStop::NoMemory) => return Err(NoMemory),
+    };
     Ok(LevelFormula {
         limits,
         level,
-        formula,
+        encoded,
     })
 }
 
 impl<G: Grid> LevelFormula<G> {
-    /// Whether the formula has more literals than the limits allow.
-    pub(crate) fn is_too_large(&self, shape: &Shape<G>) -> bool
-        requires shape { IsCanonicalShape G.geometry shape.now }
-        requires formula { IsLevelFormula G.geometry self.now.limits shape.now self.now.level self.now.formula }
-        ensures { IsTrue result ↔ IsTooLarge self.now.limits.version G.geometry shape.now self.now.level self.now.limits.size }
-    {
-        // Reading the cells tells the proof that they are a polyform.
-        let _cells = shape.cells();
-        match &self.formula {
-            None => true,
-            Some(_) => false,
-        }
-    }
-
     /// Whether the proof refutes the formula, or is spent over it for the limit on turns, and its cuts are lawful.
     pub(crate) fn is_ended_by<R: Threads + Sync>(
         &self,
@@ -82,17 +72,31 @@ impl<G: Grid> LevelFormula<G> {
         proof: &Proof,
     ) -> Result<bool, NoMemory>
         requires shape { IsCanonicalShape G.geometry shape.now }
-        requires formula { IsLevelFormula G.geometry self.now.limits shape.now self.now.level self.now.formula }
+        requires formula { IsLevelFormula G.geometry self.now.limits shape.now self.now.level self.now.encoded }
         requires near { IsNearProof proof.now }
         ensures { IfOk result (λ yes. IsTrue yes ↔ EndsCoronas end G.geometry self.now.limits shape.now self.now.level proof.now) }
     {
-        let Some(formula) = &self.formula else {
+        let Some(encoded) = &self.encoded else {
             return Ok(false);
         };
-        let Some(log) = lawful_log(alloc, shape, formula.universe(), proof)? else {
+        let Some(log) = lawful_log(alloc, shape, &encoded.universe, proof)? else {
             return Ok(false);
         };
-        formula.is_ended(rt, alloc, &log, end, self.limits.turns)
+        is_ended(rt, alloc, &encoded.formula, &log, end, self.limits.turns)
+    }
+
+    /// Whether the formula has more literals than the limits allow.
+    pub(crate) fn is_too_large(&self, shape: &Shape<G>) -> bool
+        requires shape { IsCanonicalShape G.geometry shape.now }
+        requires formula { IsLevelFormula G.geometry self.now.limits shape.now self.now.level self.now.encoded }
+        ensures { IsTrue result ↔ IsTooLarge self.now.limits.version G.geometry shape.now self.now.level self.now.limits.size }
+    {
+        // Reading the cells tells the proof that they are a polyform.
+        let _cells = shape.cells();
+        match &self.encoded {
+            None => true,
+            Some(_) => false,
+        }
     }
 
     /// Whether the search for one corona more, which is over the formula, ended as is written.
@@ -104,7 +108,7 @@ impl<G: Grid> LevelFormula<G> {
         wall: &Wall,
     ) -> Result<bool, NoMemory>
         requires shape { IsCanonicalShape G.geometry shape.now }
-        requires formula { IsLevelFormula G.geometry self.now.limits shape.now self.now.level self.now.formula }
+        requires formula { IsLevelFormula G.geometry self.now.limits shape.now self.now.level self.now.encoded }
         requires near { IsNearWall wall.now }
         ensures { IfOk result (λ yes. IsTrue yes ↔ WallShows G.geometry self.now.limits shape.now self.now.level wall.now) }
     {

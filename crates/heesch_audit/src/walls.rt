@@ -68,7 +68,7 @@ fn bare_holds<G: Grid, R: Threads + Sync>(
 ) -> Result<bool, NoMemory>
     requires shape { IsCanonicalShape G.geometry shape.now }
     requires limits { AreLimits at_hand.limits }
-    requires at_hand { IsLevelFormula G.geometry at_hand.limits shape.now at_hand.level at_hand.formula }
+    requires at_hand { IsLevelFormula G.geometry at_hand.limits shape.now at_hand.level at_hand.encoded }
     requires level { AsksFormula bare.now → (1 ≤ m) × (m ≤ 6) }
     requires near { IsNearBare bare.now }
     ensures { IfOk result (λ yes. IsTrue yes ↔ (SameWhereNoCut wall.now bare.now × BareShows G.geometry at_hand.limits shape.now m bare.now)) }

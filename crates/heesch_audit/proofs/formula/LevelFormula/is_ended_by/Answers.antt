@@ -3,7 +3,7 @@ use Rattle.std.specs.Prelude.{Option, MatchOption}
 use Rattle.std.proofs.lemmas.Result.{IfOk-weaker}
 use Rattle.heesch_cnf.specs.declared.log.Log.{Log}
 use Rattle.heesch_cert.specs.Proofs.{IsLawfulStep, IsTooLarge}
-use Rattle.heesch_audit.specs.Formulas.{formula_of, universe_of, IsFormulaAt}
+use Rattle.heesch_audit.specs.Formulas.{IsFormulaAt}
 use Rattle.heesch_audit.specs.Logs.{IsLogOf}
 use Rattle.heesch_audit.proofs.Equal.{refused, through}
 use Rattle.heesch_audit.proofs.Proofs.{ends_coronas, too_large_not_ended, unlawful_not_ended}
@@ -23,18 +23,18 @@ returns-in_default-2 g c =
     let shape = c.args.shape.now in
     let self = c.args.self.now in
     let proof = c.args.proof.now in
-    let f = c.in-Some.formula in
-    let at : IsFormulaAt self.limits.version geometry shape self.level self.limits.size (universe_of f) (formula_of f) = search rules in
-    let unlawful = subst (λ (o : Option Log). MatchOption o (¬ All (IsLawfulStep geometry shape (universe_of f).level (universe_of f).vars) proof.steps) (IsLogOf geometry shape (universe_of f).level (universe_of f).vars proof)) c.in_default-2.is c.in_ok-log.ensures in
-    refused (unlawful_not_ended self.limits geometry g.met.G.Grid.laws shape c.requires.shape.is_shape.polyform self.level (universe_of f) (formula_of f) at proof c.args.end unlawful)
+    let e = c.in-Some.encoded in
+    let at : IsFormulaAt self.limits.version geometry shape self.level self.limits.size e.universe e.formula = search rules in
+    let unlawful = subst (λ (o : Option Log). MatchOption o (¬ All (IsLawfulStep geometry shape e.universe.level e.universe.vars) proof.steps) (IsLogOf geometry shape e.universe.level e.universe.vars proof)) c.in_default-2.is c.in_ok-log.ensures in
+    refused (unlawful_not_ended self.limits geometry g.met.G.Grid.laws shape c.requires.shape.is_shape.polyform self.level e.universe e.formula at proof c.args.end unlawful)
 
 pub returns : goal.returns
 returns g c =
     let geometry = g.G.Grid.geometry in
     let shape = c.args.shape.now in
     let self = c.args.self.now in
-    let f = c.in-Some.formula in
-    let at : IsFormulaAt self.limits.version geometry shape self.level self.limits.size (universe_of f) (formula_of f) = search rules in
-    let is = subst (λ (o : Option Log). MatchOption o (¬ All (IsLawfulStep geometry shape (universe_of f).level (universe_of f).vars) c.args.proof.now.steps) (IsLogOf geometry shape (universe_of f).level (universe_of f).vars c.args.proof.now)) c.in-Some-2.is c.in_ok-log.ensures in
-    let both = ends_coronas self.limits geometry g.met.G.Grid.laws shape c.requires.shape.is_shape.polyform self.level (universe_of f) (formula_of f) at c.args.proof.now c.in-Some-2.log is c.args.end in
+    let e = c.in-Some.encoded in
+    let at : IsFormulaAt self.limits.version geometry shape self.level self.limits.size e.universe e.formula = search rules in
+    let is = subst (λ (o : Option Log). MatchOption o (¬ All (IsLawfulStep geometry shape e.universe.level e.universe.vars) c.args.proof.now.steps) (IsLogOf geometry shape e.universe.level e.universe.vars c.args.proof.now)) c.in-Some-2.is c.in_ok-log.ensures in
+    let both = ends_coronas self.limits geometry g.met.G.Grid.laws shape c.requires.shape.is_shape.polyform self.level e.universe e.formula at c.args.proof.now c.in-Some-2.log is c.args.end in
     IfOk-weaker c.is_ended.result _ _ (λ yes h. through h both) c.is_ended.ensures

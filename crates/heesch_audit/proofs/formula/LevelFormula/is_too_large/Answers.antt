@@ -1,5 +1,5 @@
 use Rattle.std.proofs.Common.{rules}
-use Rattle.heesch_audit.specs.Formulas.{formula_of, universe_of, IsFormulaAt}
+use Rattle.heesch_audit.specs.Formulas.{IsFormulaAt}
 use Rattle.heesch_audit.proofs.Equal.{refused}
 use Rattle.heesch_audit.proofs.Proofs.{not_too_large}
 use Rattle.heesch_audit.proofs.formula.LevelFormula.is_too_large.Goals as goal
@@ -9,6 +9,6 @@ returns-in-Some g c =
     let geometry = g.G.Grid.geometry in
     let shape = c.args.shape.now in
     let self = c.args.self.now in
-    let f = c.in-Some.field-0 in
-    let at : IsFormulaAt self.limits.version geometry shape self.level self.limits.size (universe_of f) (formula_of f) = search rules in
-    refused (not_too_large self.limits geometry g.met.G.Grid.laws shape c.requires.shape.is_shape.polyform self.level (universe_of f) (formula_of f) at)
+    let e = c.in-Some.field-0 in
+    let at : IsFormulaAt self.limits.version geometry shape self.level self.limits.size e.universe e.formula = search rules in
+    refused (not_too_large self.limits geometry g.met.G.Grid.laws shape c.requires.shape.is_shape.polyform self.level e.universe e.formula at)
