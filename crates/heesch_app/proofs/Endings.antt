@@ -61,9 +61,9 @@ output_is_whole (ClassifyRequest grid Given limits workers brief) left status ou
 output_is_whole (CheckRequest workers) left status output (input, all, (checked, is, same, text)) = whole_if status (check_status checked) same (check_is_whole checked)
 output_is_whole TableRequest left status output (told, is, same, text) = whole_if status (table_status told) same (table_is_whole told)
 output_is_whole (SampleRequest grid n count seed limits workers) left status output (done, is) = whole_if status Done done tt
-output_is_whole (FormulaRequest grid level size version) left status output (input, all, inl (done, is)) = whole_if status Done done tt
+output_is_whole (FormulaRequest grid level size version) left status output (input, all, inl (done, few, is)) = whole_if status Done done tt
 output_is_whole (FormulaRequest grid level size version) left status output (input, all, inr (bad, is)) = whole_if status BadInput bad tt
-output_is_whole (AnswerRequest grid level size version) left status output (input, all, inl (done, is)) = whole_if status Done done tt
+output_is_whole (AnswerRequest grid level size version) left status output (input, all, inl (done, few, is)) = whole_if status Done done tt
 output_is_whole (AnswerRequest grid level size version) left status output (input, all, inr (bad, is)) = whole_if status BadInput bad tt
 output_is_whole (ShareRequest grid n i k limits workers) left status output (done, is) = whole_if status Done done tt
 output_is_whole JoinRequest left status output (input, all, inl (done, few, is)) = whole_if status Done done tt

@@ -32,6 +32,11 @@ told items P Q (Ok t) status written is _ (done, same) = inl (done, subst (λ v.
 told items P Q (Err (Fault line number)) status written _ is (bad, line_is) = inr (bad, (line, number, is, line_is))
 told items P Q (Err NoMemory) status written _ _ none = absurd none
 
+-- the same with one fact more
+with_fact : {A B P Q : Type 0} → P → (A × B) ⊎ Q → (A × P × B) ⊎ Q
+with_fact p (inl (a, b)) = inl (a, p, b)
+with_fact p (inr q) = inr q
+
 -- what is told of all bytes that the source had left
 pub told_of_input : (P : List ℕ → List ℕ → Type 0) (Q : List ℕ → LineStop ℕ → Type 0) (left : Option (List ℕ)) (bytes input : List ℕ) (text : Result (Vec ℕ Global) (LineStop ℕ)) (reply : Result Reply IoStop)
     → IsFrontOf left bytes → input ≡ bytes → length bytes ≤ input_max → IfOk text (λ t. P input t.items) → IfErr text (Q input)
@@ -39,11 +44,7 @@ pub told_of_input : (P : List ℕ → List ℕ → Type 0) (Q : List ℕ → Lin
     → IfOk reply (λ r. OfInput left (λ i. ((r.status ≡ Done) × (length i ≤ input_max) × P i r.text.items) ⊎ ((r.status ≡ BadInput) × ((line : ℕ) × (number : ℕ) × Q i (Fault line number) × (r.text.items ≡ bad_input_text line number)))))
 told_of_input P Q left bytes input text (Ok r) front same few ok stop is =
     let short : length input ≤ input_max = subst (λ i. length i ≤ input_max) (sym same) few in
-    (input, subst (λ i. IsAllOf left i) (sym same) (whole_front left bytes front few), told (λ v. v.items) (λ t. (length input ≤ input_max) × P input t) (Q input) text r.status r.text (both text ok short) stop is)
-  where
-    both : (text : Result (Vec ℕ Global) (LineStop ℕ)) → IfOk text (λ t. P input t.items) → length input ≤ input_max → IfOk text (λ t. (length input ≤ input_max) × P input t.items)
-    both (Ok t) is short = (short, is)
-    both (Err e) is short = tt
+    (input, subst (λ i. IsAllOf left i) (sym same) (whole_front left bytes front few), with_fact short (told (λ v. v.items) (P input) (Q input) text r.status r.text ok stop is))
 told_of_input P Q left bytes input text (Err e) front same few ok stop is = tt
 
 -- what is told of a front whose first line doesn't end in time
@@ -69,8 +70,8 @@ done_anyhow P (Ok r) is = λ done. is
 done_anyhow P (Err e) is = tt
 
 -- of what is told with Done
-told_done : {P Q : Type 0} → ((Done ≡ Done) × P) ⊎ ((Done ≡ BadInput) × Q) → P
-told_done (inl (_, is)) = is
+told_done : {F P Q : Type 0} → ((Done ≡ Done) × F × P) ⊎ ((Done ≡ BadInput) × Q) → F × P
+told_done (inl (_, few, is)) = (few, is)
 told_done (inr (bad, _)) = absurd (let no : Done ≡ BadInput = bad in cc)
 
 -- where the words ask for a formula, what was written is one
