@@ -1,5 +1,4 @@
 //! A module for each crate that is tried.
-mod beyond;
 mod claims;
 mod effort;
 mod exact;
