@@ -2,9 +2,11 @@
 mod catalogues;
 mod checks;
 mod exchanges;
+mod gates;
 mod given;
 mod hostile;
 mod lists;
+mod orders;
 mod plains;
 mod running;
 mod shares;

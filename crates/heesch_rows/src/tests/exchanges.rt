@@ -1,5 +1,6 @@
-//! `heesch formula`: a formula with an empty clause.
+//! `heesch formula`: a formula with an empty clause. `heesch answer`: a long model text.
 use super::running::{bytes_of, written_over};
+use heesch_io::MemorySource;
 use std::test::Fail;
 
 /// A cell that the shape encloses is covered by no tile: the ninth clause is empty.
@@ -10,5 +11,25 @@ fn an_empty_clause_is_written(rt: HostRuntime) -> Result<(), Fail> {
     let held = written_over(&rt, alloc, "formula square 1", shape)?;
     let line = held.as_slice().split(|byte| *byte == b'\n').nth(9);
     assert_eq!(rt; line, Some(b"0".as_slice()));
+    Ok(())
+}
+
+/// A line of 70 bytes.
+const COMMENT: &[u8] = b"c a solver tells here, in a line of its own, how far its search is no\n";
+
+/// A model text of more than 70,000 bytes is read to its end.
+#[test]
+fn a_long_model_text_is_read(rt: HostRuntime) -> Result<(), Fail> {
+    let alloc = rt.alloc();
+    let mut text = b"0,0\n".to_vec(alloc)?;
+    for _ in 0..1_000 {
+        text.extend_from_slice(COMMENT)?;
+    }
+    text.extend_from_slice(b"s SATISFIABLE\nv 1 2 3 4 5 6 7 8 0\n")?;
+    assert!(rt; text.len() > 70_000);
+    let source = MemorySource::new(text, 4096, Vec::new(alloc));
+    let held = written_over(&rt, alloc, "answer square 1", source)?;
+    let coronas = b"coronas 1\nlayer 0,-1,-1 0,0,-1 0,1,-1 0,-1,0 0,1,0 0,-1,1 0,0,1 0,1,1\n";
+    assert_eq!(rt; held.as_slice(), coronas.as_slice());
     Ok(())
 }

@@ -1,0 +1,82 @@
+//! `heesch check` uses the workers and the gate that it is given.
+use super::FIVE_TETROMINOES;
+use super::running::{bytes_of, room, run_past, written_over};
+use heesch_app::Status;
+use heesch_io::MemorySource;
+use heesch_pool::Gate;
+use std::sync::atomic::{AtomicU64, Ordering};
+use std::test::Fail;
+use std::thread;
+
+/// Holds ticket 0 until another has passed, for so many turns at most, and counts the others.
+struct Hold {
+    turns: u64,
+    others: AtomicU64,
+    expired: AtomicU64,
+}
+
+impl Hold {
+    fn new(turns: u64) -> Hold {
+        Hold {
+            turns,
+            others: AtomicU64::new(0),
+            expired: AtomicU64::new(0),
+        }
+    }
+
+    fn others(&self) -> u64 {
+        self.others.load(Ordering::SeqCst)
+    }
+
+    fn has_expired(&self) -> bool {
+        self.expired.load(Ordering::SeqCst) != 0
+    }
+}
+
+impl Gate for Hold {
+    fn pass(&self, _worker: u32, ticket: u32) {
+        if ticket != 0 {
+            self.others.fetch_add(1, Ordering::SeqCst);
+            return;
+        }
+        for _ in 0..self.turns {
+            if self.others() != 0 {
+                return;
+            }
+            thread::yield_now();
+        }
+        self.expired.store(1, Ordering::SeqCst);
+    }
+}
+
+impl Drop for Hold {
+    fn drop(self) {
+        let Self {
+            turns: _,
+            others: _,
+            expired: _,
+        } = self;
+    }
+}
+
+/// Two workers audit five entries, each once: one of them comes to another entry while the gate holds the first. One
+/// worker alone lets the gate expire.
+#[test]
+fn check_uses_its_workers_and_its_gate(rt: HostRuntime) -> Result<(), Fail> {
+    let alloc = rt.alloc();
+    let shapes = bytes_of(alloc, FIVE_TETROMINOES)?;
+    let catalogue = written_over(&rt, alloc, "classify square given", shapes)?;
+    for (line, turns, expires) in [
+        ("check --workers 2", 200_000_000, false),
+        ("check", 1_000, true),
+    ] {
+        let gate = Hold::new(turns);
+        let source = MemorySource::new(catalogue.clone()?, 4096, Vec::new(alloc));
+        let (status, sink) = run_past(&rt, alloc, line, source, room(alloc, 100)?, &gate)?;
+        assert_eq!(rt; status, Status::Done, "{line}");
+        assert_eq!(rt; sink.held.as_slice(), b"valid 5\n".as_slice(), "{line}");
+        assert_eq!(rt; gate.others(), 4, "{line}");
+        assert_eq!(rt; gate.has_expired(), expires, "{line}");
+    }
+    Ok(())
+}
