@@ -1,5 +1,5 @@
 //! The growable list of this program, which contracts see as its items.
-ghost use Rattle.std.specs.Prelude.{◌≡◌, ◌-◌, [], ◌∷◌, ◌++◌, length, take, IsTrue, ◌↔◌, OnOk, OnErr, option_to_list};
+ghost use Rattle.std.specs.Prelude.{◌≡◌, ◌-◌, [], ◌∷◌, ◌++◌, length, take, IsTrue, ◌↔◌, IfOk, OnOk, OnErr, option_to_list};
 
 use crate::NoMemory;
 use std::alloc::Global;
@@ -34,6 +34,15 @@ impl<T> Seq<T> {
         ensures { result ≡ items.items }
     {
         Seq { items }
+    }
+
+    /// A list of these items. The cost is their number.
+    pub fn from_slice(alloc: Global, items: &[T]) -> Result<Seq<T>, NoMemory>
+    where
+        T: Copy,
+        ensures { IfOk result (λ copy. copy ≡ items.now) }
+    {
+        Ok(Seq::from_vec(Vec::from_slice(alloc, items)?))
     }
 
     /// The items by value. It takes no memory.

@@ -11,7 +11,6 @@ ghost use Rattle.heesch_outer.specs.Proofs.{LeavesOuterOpen};
 ghost use Rattle.heesch_outer.specs.Statements.{TellsNumber};
 
 use crate::OuterAnswer;
-use crate::copies::copy_proof;
 use heesch_cert::{Bare, Entry, Evidence, Limits, Wall};
 use heesch_grid::{Cell, Grid};
 use heesch_io::NoMemory;
@@ -77,7 +76,7 @@ pub fn outer<G: Grid>(alloc: Global, entry: &Entry, limits: Limits) -> Result<Ou
         return Ok(OuterAnswer::Unknown);
     };
     if let Bare::Same = bare {
-        let proof = copy_proof(alloc, proof)?;
+        let proof = proof.copy(alloc)?;
         return Ok(OuterAnswer::Same { proof });
     }
     let shape = shape_of::<G>(entry.cells.as_slice());

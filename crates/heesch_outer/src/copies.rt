@@ -1,4 +1,4 @@
-//! Copies of proofs and layers, and whether two proofs are the same.
+//! Copies of layers, and whether two proofs are the same.
 ghost use Rattle.std.specs.Prelude.{◌≡◌, ◌↔◌, IfOk, IsTrue};
 
 use heesch_cert::{Cut, Isos, Layers, Proof, Step};
@@ -7,79 +7,13 @@ use heesch_grid::Cell;
 use heesch_io::{NoMemory, Seq};
 use std::alloc::Global;
 
-/// A list of the same items.
-pub(crate) fn copy_items<T: Copy>(alloc: Global, items: &[T]) -> Result<Seq<T>, NoMemory>
-    ensures { IfOk result (λ copy. copy ≡ items.now) }
-{
-    Ok(Seq::from_vec(Vec::from_slice(alloc, items)?))
-}
-
-fn copy_cut(alloc: Global, cut: &Cut) -> Result<Cut, NoMemory>
-    ensures { IfOk result (λ copy. copy ≡ cut.now) }
-{
-    let hole = copy_items(alloc, cut.hole.as_slice())?;
-    let border = copy_items(alloc, cut.border.as_slice())?;
-    Ok(Cut {
-        level: cut.level,
-        hole,
-        border,
-    })
-}
-
-fn copy_step(alloc: Global, step: &Step) -> Result<Step, NoMemory>
-    ensures { IfOk result (λ copy. copy ≡ step.now) }
-{
-    match step {
-        Step::Learn { clause, hints } => {
-            let clause = copy_items(alloc, clause.as_slice())?;
-            let hints = copy_items(alloc, hints.as_slice())?;
-            Ok(Step::Learn { clause, hints })
-        }
-        Step::Cut { cut } => {
-            let cut = copy_cut(alloc, cut)?;
-            Ok(Step::Cut { cut })
-        }
-    }
-}
-
-fn copy_last(alloc: Global, last: &Option<Hints>) -> Result<Option<Hints>, NoMemory>
-    ensures { IfOk result (λ copy. copy ≡ last.now) }
-{
-    match last {
-        None => Ok(None),
-        Some(hints) => {
-            let copy = copy_items(alloc, hints.as_slice())?;
-            Ok(Some(copy))
-        }
-    }
-}
-
-fn copy_steps(alloc: Global, steps: &[Step]) -> Result<Seq<Step>, NoMemory>
-    ensures { IfOk result (λ copy. copy ≡ steps.now) }
-{
-    let mut copy = Seq::new(alloc);
-    for step in steps {
-        copy.push(copy_step(alloc, step)?)?;
-    }
-    Ok(copy)
-}
-
-/// An equal proof. The cost is its size.
-pub(crate) fn copy_proof(alloc: Global, proof: &Proof) -> Result<Proof, NoMemory>
-    ensures { IfOk result (λ copy. copy ≡ proof.now) }
-{
-    let steps = copy_steps(alloc, proof.steps.as_slice())?;
-    let last = copy_last(alloc, &proof.last)?;
-    Ok(Proof { steps, last })
-}
-
 /// The same layers.
 pub(crate) fn copy_layers(alloc: Global, layers: &[Isos]) -> Result<Layers, NoMemory>
     ensures { IfOk result (λ copy. copy.layers ≡ layers.now) }
 {
     let mut copy = Seq::new(alloc);
     for layer in layers {
-        copy.push(copy_items(alloc, layer.as_slice())?)?;
+        copy.push(Seq::from_slice(alloc, layer.as_slice())?)?;
     }
     Ok(Layers { layers: copy })
 }

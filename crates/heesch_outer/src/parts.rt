@@ -8,7 +8,7 @@ ghost use Rattle.heesch_cert.specs.Proofs.{RefutesCoronas};
 ghost use Rattle.heesch_outer.specs.Answer.{SpellsOuterCoronas};
 ghost use Rattle.heesch_outer.specs.Found.{IsFound, ended_entry, free_entry, open_entry, search_entry, with_levels};
 
-use crate::copies::{copy_items, copy_layers, copy_proof};
+use crate::copies::copy_layers;
 use crate::sought::Sought;
 use heesch_audit::{EntryAnswer, ProofEnd, audit};
 use heesch_cert::{Bare, Entry, Evidence, Isos, Layers, Limits, Phase, Proof, Verdict, Wall};
@@ -63,7 +63,7 @@ fn search_entry(
         triples: Seq::new(alloc),
     };
     Ok(Entry {
-        cells: copy_items(alloc, cells)?,
+        cells: Seq::from_slice(alloc, cells)?,
         verdict,
         evidence,
     })
@@ -81,7 +81,7 @@ pub(crate) fn ended_entry(
     ensures { IfOk result (λ entry. entry ≡ ended_entry end cells.now free.now proof.now) }
 {
     let h = free.len() as u32;
-    let proof = copy_proof(alloc, proof)?;
+    let proof = proof.copy(alloc)?;
     match end {
         ProofEnd::Refuted => {
             let verdict = Verdict::Heesch { h, m: h + 1 };
@@ -112,7 +112,7 @@ fn open_entry(
     ensures { IfOk result (λ entry. entry ≡ open_entry cells.now free.now wall.now wider.now) }
 {
     let h = free.len() as u32;
-    let proof = copy_proof(alloc, wall)?;
+    let proof = wall.copy(alloc)?;
     let wall = Wall::Refuted { proof };
     let wider = copy_layers(alloc, wider)?;
     search_entry(
