@@ -14,9 +14,9 @@ use Rattle.heesch_text.specs.Catalogue.{catalogue_text, begun_text}
 use Rattle.heesch_words.specs.declared.requests.Request.{Request}
 use Rattle.heesch_words.specs.declared.requests.Request.TheVariants.{List as ListRequest, Plain as PlainRequest, Classify as ClassifyRequest, Check as CheckRequest, Table as TableRequest, Sample as SampleRequest, Formula as FormulaRequest, Answer as AnswerRequest, Share as ShareRequest, Join as JoinRequest, Outer as OuterRequest}
 use Rattle.heesch_catalogue.specs.Catalogues.{AreEntries, IsCatalogue, IsBegunCatalogue}
-use Rattle.heesch_outers.specs.declared.answers.OuterEntry.{OuterEntry}
-use Rattle.heesch_outers.specs.Outers.{AreOuterEntries, IsOuters, IsBegunOuters, begun_outers_text, entries_in, outers_text}
-use Rattle.heesch_share.specs.Written.{shapes_of_share}
+use Rattle.heesch_outer.specs.declared.answers.OuterEntry.{OuterEntry}
+use Rattle.heesch_outer.specs.Outers.{AreOuterEntries, IsOuters, IsBegunOuters, begun_outers_text, entries_in, outers_text}
+use Rattle.heesch_parts.specs.Written.{shapes_of_share}
 use Rattle.heesch_app.specs.declared.status.Status.{Status}
 use Rattle.heesch_app.specs.Outputs.{IsOutput, IsBegunOutput, IsGivenAnswer, IsBegunGivenAnswer, header_of}
 

@@ -14,9 +14,9 @@ use Rattle.heesch_grid.specs.declared.Cell.{Cell}
 use Rattle.heesch_grid.specs.declared.GridName.{GridName}
 use Rattle.heesch_grid.specs.Geometry.{Geometry}
 use Rattle.heesch_grid.specs.Names.{geometry_of}
-use Rattle.heesch_outers.specs.Outers.{IsBegunOuters, IsBegunOutersOfSize, IsOuters, IsOutersOfSize}
-use Rattle.heesch_share.specs.Written.{IsBegunShareOfSize, IsShareOfSize}
-use Rattle.heesch_stream.specs.Taking.{input_max}
+use Rattle.heesch_outer.specs.Outers.{IsBegunOuters, IsBegunOutersOfSize, IsOuters, IsOutersOfSize}
+use Rattle.heesch_parts.specs.Written.{IsBegunShareOfSize, IsShareOfSize}
+use Rattle.heesch_reader.specs.Taking.{input_max}
 use Rattle.heesch_words.specs.declared.requests.Request.{Request}
 use Rattle.heesch_words.specs.declared.requests.Request.TheVariants.{Share as ShareRequest, Outer as OuterRequest}
 use Rattle.heesch_app.specs.declared.reply.Reply.{Reply}

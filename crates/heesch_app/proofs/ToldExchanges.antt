@@ -18,7 +18,7 @@ use Rattle.heesch_app.specs.declared.status.Status.TheVariants.{Done, BadInput}
 use Rattle.heesch_app.specs.declared.exchanges.Exchange.{Exchange}
 use Rattle.heesch_app.specs.declared.exchanges.Exchange.TheVariants.{Formula, Answer}
 use Rattle.heesch_app.specs.Exchanges.{IsExchangeAnswer, IsFaultTold, WritesFormula, WritesAnswer}
-use Rattle.heesch_stream.specs.Taking.{input_max}
+use Rattle.heesch_reader.specs.Taking.{input_max}
 use Rattle.heesch_app.specs.Inputs.{IsFrontOf, bad_input_text}
 use Rattle.heesch_app.specs.Outputs.{OfInput, Writes}
 use Rattle.heesch_app.proofs.Endings.{asked_output}

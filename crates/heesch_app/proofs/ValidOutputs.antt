@@ -35,7 +35,7 @@ use Rattle.heesch_app.specs.declared.status.Status.TheVariants.{Done, Invalid, B
 use Rattle.heesch_app.specs.Checks.{check_status}
 use Rattle.heesch_app.specs.Tables.{table_status}
 use Rattle.heesch_given.specs.Given.{AreGiven, IsCanonicalOf}
-use Rattle.heesch_stream.specs.Taking.{input_max}
+use Rattle.heesch_reader.specs.Taking.{input_max}
 use Rattle.heesch_app.specs.Outputs.{IsOutput, IsAnswer, header_of, Writes, WritesValid}
 use Rattle.heesch_app.proofs.Endings.{asked_output}
 

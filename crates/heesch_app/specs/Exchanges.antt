@@ -8,7 +8,7 @@ use Rattle.heesch_line.specs.declared.stops.LineStop.{LineStop}
 use Rattle.heesch_line.specs.declared.stops.LineStop.TheVariants.{Fault, NoMemory}
 use Rattle.heesch_grid.specs.Geometry.{Geometry}
 use Rattle.heesch_io.specs.Input.{IsAllOf}
-use Rattle.heesch_stream.specs.Taking.{input_max}
+use Rattle.heesch_reader.specs.Taking.{input_max}
 use Rattle.heesch_app.specs.declared.exchanges.Exchange.{Exchange}
 use Rattle.heesch_app.specs.declared.exchanges.Exchange.TheVariants.{Formula, Answer}
 use Rattle.heesch_app.specs.declared.status.Status.{Status}

@@ -5,7 +5,7 @@ use Rattle.heesch_grid.specs.declared.Cell.{Cell}
 use Rattle.heesch_grid.specs.Geometry.{Geometry}
 use Rattle.heesch_cert.specs.declared.limits.Limits.{Limits}
 use Rattle.heesch_catalogue.specs.Catalogues.{IsCatalogue, IsBegunCatalogue}
-use Rattle.heesch_outers.specs.Outers.{IsOuters, IsBegunOuters}
+use Rattle.heesch_outer.specs.Outers.{IsOuters, IsBegunOuters}
 use Rattle.heesch_app.specs.declared.given.GivenText.{GivenText}
 use Rattle.heesch_app.specs.declared.given.GivenText.TheVariants.{Catalogue, Outers}
 use Rattle.heesch_app.specs.declared.status.Status.{Status}

@@ -2,7 +2,7 @@
 use Rattle.std.specs.Prelude.{◌≡◌, ℕ, ◌+◌, List, ◌++◌, take, Option, codes, decimal}
 use Rattle.std.specs.Io.KnownBytes.{Consumes}
 use Rattle.heesch_io.specs.Input.{IsAllOf}
-use Rattle.heesch_stream.specs.Taking.{input_max}
+use Rattle.heesch_reader.specs.Taking.{input_max}
 
 -- some bytes were read, from the first on, or none
 abbrev pub ConsumesSome : (before now : Option (List ℕ)) → Type 0

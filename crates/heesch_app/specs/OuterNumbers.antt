@@ -9,9 +9,9 @@ use Rattle.heesch_cert.specs.declared.header.Subject.{Subject}
 use Rattle.heesch_cert.specs.declared.header.Subject.TheVariants.{Size, Given}
 use Rattle.heesch_cert.specs.declared.limits.Limits.{Limits}
 use Rattle.heesch_given.specs.Given.{GivesShapes}
-use Rattle.heesch_outers.specs.declared.answers.OuterEntry.{OuterEntry}
-use Rattle.heesch_outers.specs.Outers.{AreOuterEntries, outers_text}
-use Rattle.heesch_stream.specs.Taking.{input_max}
+use Rattle.heesch_outer.specs.declared.answers.OuterEntry.{OuterEntry}
+use Rattle.heesch_outer.specs.Outers.{AreOuterEntries, outers_text}
+use Rattle.heesch_reader.specs.Taking.{input_max}
 
 -- the shapes that are asked for: those of the free list of the size; or the canonical lists of the lines, in their order, of the list text that the source had left
 abbrev pub AreAskedShapes : GridName → Subject → Option (List ℕ) → List (List Cell) → Type 0

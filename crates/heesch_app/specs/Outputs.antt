@@ -34,13 +34,13 @@ use Rattle.heesch_app.specs.Tables.{table_status, table_text}
 use Rattle.heesch_app.specs.Tilings.{ArePlain}
 use Rattle.heesch_check.specs.Answers.{IsChecked, IsValid}
 use Rattle.heesch_check.specs.declared.answers.Checked.{Checked}
-use Rattle.heesch_outers.specs.Outers.{IsOuters, IsBegunOuters, IsOutersOfSize, IsBegunOutersOfSize}
+use Rattle.heesch_outer.specs.Outers.{IsOuters, IsBegunOuters, IsOutersOfSize, IsBegunOutersOfSize}
 use Rattle.heesch_sample.specs.Samples.{IsSample}
-use Rattle.heesch_share.specs.Written.{IsShareOfSize, IsBegunShareOfSize}
-use Rattle.heesch_share.specs.Joined.{IsJoined}
+use Rattle.heesch_parts.specs.Written.{IsShareOfSize, IsBegunShareOfSize}
+use Rattle.heesch_parts.specs.Joined.{IsJoined}
 use Rattle.heesch_parts.specs.Faults.{HasFault as HasJoinFault}
 use Rattle.heesch_io.specs.Input.{IsAllOf}
-use Rattle.heesch_stream.specs.Taking.{input_max}
+use Rattle.heesch_reader.specs.Taking.{input_max}
 use Rattle.heesch_tabulate.specs.declared.answers.Tabulated.{Tabulated}
 use Rattle.heesch_tabulate.specs.Tabulating.{IsTabulated}
 

@@ -16,7 +16,7 @@ use heesch_exchange::{answer, formula, is_endless};
 use heesch_grid::GridName;
 use heesch_io::{IoStop, Source};
 use heesch_line::LineStop;
-use heesch_stream::INPUT_MAX;
+use heesch_reader::INPUT_MAX;
 use std::alloc::Global;
 
 /// The fault of a first line on which the input goes on beyond the most bytes that are read.

@@ -17,10 +17,10 @@ use heesch_grid::{Grid, GridName};
 use heesch_io::{IoStop, Sink, Source};
 use heesch_kite::on_grid;
 use heesch_line::InputStop;
-use heesch_outers::write_outers;
+use heesch_outer::write_outers;
 use heesch_pool::{Crew, Gate};
 use heesch_shape::Shape;
-use heesch_stream::INPUT_MAX;
+use heesch_reader::INPUT_MAX;
 use std::thread::Threads;
 
 /// What is written of given shapes.

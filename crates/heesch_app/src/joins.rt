@@ -10,8 +10,8 @@ use crate::bad_input::bad_input;
 use crate::reply::Reply;
 use heesch_io::{IoStop, Source};
 use heesch_line::InputStop;
-use heesch_share::joined_text;
-use heesch_stream::INPUT_MAX;
+use heesch_parts::joined_text;
+use heesch_reader::INPUT_MAX;
 use std::alloc::Global;
 
 /// The catalogue text that the share texts are joined to which the source has left, or their first fault.

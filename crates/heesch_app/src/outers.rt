@@ -14,7 +14,7 @@ use crate::given::{GivenText, write_given_text};
 use heesch_cert::{Limits, Subject};
 use heesch_grid::GridName;
 use heesch_io::{Sink, Source};
-use heesch_outers::write_outers_of_size;
+use heesch_outer::write_outers_of_size;
 use heesch_pool::{Crew, Gate};
 use std::thread::Threads;
 

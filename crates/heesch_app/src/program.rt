@@ -32,7 +32,7 @@ use heesch_cert::{Header, Subject};
 use heesch_io::{IoStop, Sink, Source};
 use heesch_pool::{Crew, Gate};
 use heesch_sample::sample;
-use heesch_share::write_share;
+use heesch_parts::write_share;
 use heesch_words::{Request, Usage, parse};
 use std::alloc::Global;
 use std::thread::Threads;

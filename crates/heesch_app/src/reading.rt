@@ -2,11 +2,11 @@
 ghost use Rattle.std.specs.Prelude.{◌≡◌, ◌≤◌, Err, IfOk, length};
 ghost use Rattle.std.specs.Io.KnownBytes.{IsAtEnd};
 ghost use Rattle.heesch_io.specs.Causes.{Rose};
-ghost use Rattle.heesch_stream.specs.Taking.{input_max};
+ghost use Rattle.heesch_reader.specs.Taking.{input_max};
 ghost use Rattle.heesch_app.specs.Inputs.{ConsumesSome, IsFrontOf};
 
 use heesch_io::{IoStop, Source};
-use heesch_stream::INPUT_MAX;
+use heesch_reader::INPUT_MAX;
 use std::alloc::Global;
 
 /// The most bytes of a piece.

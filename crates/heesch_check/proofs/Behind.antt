@@ -6,7 +6,7 @@ use Rattle.heesch_cert.specs.declared.header.Header.{Header}
 use Rattle.heesch_reader.specs.declared.item.Item.{Item}
 use Rattle.heesch_reader.specs.declared.item.Item.TheVariants as items
 use Rattle.heesch_reader.specs.declared.item.Part.TheVariants as parts
-use Rattle.heesch_stream.specs.Taking.{Streamed, HasRead, Begins, TakesPiece, TakesEnd, TellsFault, TellsTooLong, TakesOnePiece}
+use Rattle.heesch_reader.specs.Taking.{Streamed, HasRead, Begins, TakesPiece, TakesEnd, TellsFault, TellsTooLong, TakesOnePiece}
 use Rattle.heesch_io.proofs.KnownBytes.{consumes_both}
 use Rattle.heesch_reader.specs.declared.item.Part.{Part}
 use Rattle.heesch_reader.specs.declared.progress.AtHand.{AtHand}

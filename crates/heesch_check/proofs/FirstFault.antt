@@ -13,7 +13,7 @@ use Rattle.heesch_reader.specs.declared.item.Part.{Part}
 use Rattle.heesch_reader.specs.Items.{none_appended}
 use Rattle.heesch_reader.specs.Feeding.{Refuses, FallsShort}
 use Rattle.heesch_io.specs.Input.{IsAllOf}
-use Rattle.heesch_stream.specs.Taking.{Streamed, HasFault}
+use Rattle.heesch_reader.specs.Taking.{Streamed, HasFault}
 use Rattle.heesch_check.specs.declared.answers.Checked.{Checked}
 use Rattle.heesch_check.specs.declared.answers.Checked.TheVariants as answers
 use Rattle.heesch_check.specs.declared.reading.Reading.{Reading}

@@ -23,8 +23,8 @@ use Rattle.heesch_reader.specs.Endings.{ending_of}
 use Rattle.heesch_reader.specs.Faults.{begins}
 use Rattle.heesch_reader.specs.Feeding.{Refuses, FallsShort}
 use Rattle.heesch_io.specs.Input.{IsAllOf}
-use Rattle.heesch_stream.specs.Input.{IsWholeCatalogue}
-use Rattle.heesch_stream.specs.Taking.{Streamed, HasRead, Begins, HasFault, HasTooMany}
+use Rattle.heesch_reader.specs.Input.{IsWholeCatalogue}
+use Rattle.heesch_reader.specs.Taking.{Streamed, HasRead, Begins, HasFault, HasTooMany}
 use Rattle.heesch_check.specs.declared.answers.Checked.{Checked}
 use Rattle.heesch_check.specs.declared.answers.Checked.TheVariants as answers
 use Rattle.heesch_check.specs.declared.reading.Reading.{Reading}

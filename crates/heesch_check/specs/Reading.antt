@@ -14,7 +14,7 @@ use Rattle.heesch_reader.specs.declared.progress.AtHand.{AtHand}
 use Rattle.heesch_reader.specs.declared.progress.AtHand.TheVariants as endings
 use Rattle.heesch_reader.specs.Endings.{ending_of}
 use Rattle.heesch_io.specs.Input.{IsAllOf, ReadsNoFurther, piece_max}
-use Rattle.heesch_stream.specs.Taking.{Streamed, Begins, HasRead, IsCatalogue, HasFault, HasTooMany}
+use Rattle.heesch_reader.specs.Taking.{Streamed, Begins, HasRead, IsCatalogue, HasFault, HasTooMany}
 use Rattle.heesch_check.specs.declared.answers.Checked.{Checked}
 use Rattle.heesch_check.specs.declared.answers.Checked.TheVariants as answers
 use Rattle.heesch_io.specs.declared.fault.IoStop.{IoStop}

@@ -14,7 +14,7 @@ use heesch_grid::Grid;
 use heesch_io::{IoStop, NoMemory, Seq, Source};
 use heesch_pool::{Crew, Gate, run_beside};
 use heesch_reader::Item;
-use heesch_stream::Stream;
+use heesch_reader::Stream;
 use std::thread::Threads;
 
 /// How many items of a round are gathered before the first of them are audited.

@@ -21,7 +21,7 @@ use heesch_kite::on_grid;
 use heesch_listing::all_shapes;
 use heesch_pool::{Crew, Gate};
 use heesch_reader::Item;
-use heesch_stream::Stream;
+use heesch_reader::Stream;
 use std::thread::Threads;
 
 /// Whether what the source has left is a valid catalogue, else its first invalid part.

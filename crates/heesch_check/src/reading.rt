@@ -4,11 +4,11 @@ ghost use Rattle.heesch_io.specs.Causes.{Rose};
 ghost use Rattle.heesch_reader.specs.declared.item.Item.{Item as ItemOf};
 ghost use Rattle.heesch_io.specs.Input.{ReadsNoFurther};
 ghost use Rattle.heesch_check.specs.Reading.{Reads, Gathers, FirstReads, MayRead, MayGather, IsReading, DecideNothing, StopsGathering};
-ghost use Rattle.heesch_stream.specs.Taking.{HasRead, TakesOnePiece};
+ghost use Rattle.heesch_reader.specs.Taking.{HasRead, TakesOnePiece};
 
 use heesch_io::{IoStop, Seq, Source};
 use heesch_reader::{AtHand, Item, Part};
-use heesch_stream::{Stream, StreamStop, Taken};
+use heesch_reader::{Stream, StreamStop, Taken};
 
 /// What one step of reading came to.
 #[derive(Clone, Copy, Debug, PartialEq, Eq)]

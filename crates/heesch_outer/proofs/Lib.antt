@@ -4,3 +4,6 @@ pub mod OuterRight
 pub mod Entries
 pub mod OuterLayers
 pub mod OuterAnswers
+mod OuterLists
+mod OuterReadable
+pub mod OuterTexts

@@ -4,3 +4,5 @@ pub mod Answer
 pub mod Found
 pub mod Record
 pub mod Statements
+pub mod Outers
+pub mod Answers

@@ -14,3 +14,7 @@ pub mod Spans
 pub mod Stepping
 pub mod Taking
 pub mod WholeShares
+mod ShareTexts
+mod JoinedTexts
+pub mod Together
+pub mod AllShares

@@ -5,3 +5,6 @@ pub mod PartLines
 pub mod Shares
 pub mod Spans
 pub mod Stages
+pub mod Written
+pub mod Joined
+pub mod AllShares

@@ -1,4 +1,5 @@
 //! What holds of shares and of joined texts, each the contract of a function that does nothing.
+ghost use Rattle.heesch_parts.specs.AllShares.{JoinedSharesAreCatalogues, ShareOutputsAreShares};
 ghost use Rattle.heesch_parts.specs.Faults.{SharesHaveNoFault, OneFault};
 ghost use Rattle.heesch_parts.specs.Shares.{OneJoin, JoinedAreCatalogues};
 ghost use Rattle.heesch_parts.specs.Spans.{SpansFollow, SpansCoverOnce, SpansStayWithin, SharesAreTheList};
@@ -40,4 +41,15 @@ pub fn one_join()
 /// under the header of the shares.
 pub fn joined_are_catalogues()
     ensures { JoinedAreCatalogues }
+{}
+
+/// The outputs of `share` 1 to K, one behind the other, are share texts, so that joining them tells no fault.
+pub fn share_outputs_are_shares()
+    ensures { ShareOutputsAreShares }
+{}
+
+/// And what they are joined to is the catalogue of the size: the catalogue text of true entries, with right verdicts, of
+/// every free polyform of n cells, each once and in order.
+pub fn joined_shares_are_catalogues()
+    ensures { JoinedSharesAreCatalogues }
 {}

@@ -16,3 +16,5 @@ pub mod SameLines
 pub mod Settling
 pub mod Walking
 pub mod Whole
+mod Joining
+pub mod Reading

@@ -5,3 +5,6 @@ pub mod Items
 pub mod Parts
 pub mod Progress
 pub mod Scanning
+pub mod Answers
+pub mod Input
+pub mod Taking

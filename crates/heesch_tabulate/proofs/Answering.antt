@@ -16,12 +16,12 @@ use Rattle.heesch_reader.specs.Progress.{Lead, walk}
 use Rattle.heesch_reader.specs.declared.item.Item.TheVariants as items
 use Rattle.heesch_reader.specs.Items.{lines_of, with_items, none_appended}
 use Rattle.heesch_reader.specs.Feeding.{ItemsLead, Stands, IsShown, IsShownAtEnd}
-use Rattle.heesch_stream.specs.declared.answers.Taken.{Taken}
-use Rattle.heesch_stream.specs.declared.answers.Taken.TheVariants as takens
-use Rattle.heesch_stream.specs.declared.answers.StreamStop.{StreamStop}
-use Rattle.heesch_stream.specs.declared.answers.StreamStop.TheVariants as stream_stops
-use Rattle.heesch_stream.specs.Input.{IsWholeCatalogue}
-use Rattle.heesch_stream.specs.Taking.{Streamed, HasRead, TakeResult, TakesOnePiece}
+use Rattle.heesch_reader.specs.declared.answers.Taken.{Taken}
+use Rattle.heesch_reader.specs.declared.answers.Taken.TheVariants as takens
+use Rattle.heesch_reader.specs.declared.answers.StreamStop.{StreamStop}
+use Rattle.heesch_reader.specs.declared.answers.StreamStop.TheVariants as stream_stops
+use Rattle.heesch_reader.specs.Input.{IsWholeCatalogue}
+use Rattle.heesch_reader.specs.Taking.{Streamed, HasRead, TakeResult, TakesOnePiece}
 use Rattle.heesch_io.proofs.KnownBytes.{consumes_both}
 use Rattle.heesch_table.specs.Counts.{counts_of}
 use Rattle.heesch_table.specs.Texts.{tally_text}

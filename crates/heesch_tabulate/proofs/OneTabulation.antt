@@ -23,8 +23,8 @@ use Rattle.heesch_reader.proofs.FirstWords.{begins_next_cut}
 use Rattle.heesch_reader.proofs.NoFault.{no_fault}
 use Rattle.heesch_reader.proofs.SameLines.{along, one_first_line, no_first_line, front_on, same_front}
 use Rattle.heesch_reader.proofs.Walking.{shows_more}
-use Rattle.heesch_stream.specs.Input.{newlines, IsWholeCatalogue}
-use Rattle.heesch_stream.specs.Taking.{HasTooMany}
+use Rattle.heesch_reader.specs.Input.{newlines, IsWholeCatalogue}
+use Rattle.heesch_reader.specs.Taking.{HasTooMany}
 use Rattle.heesch_tabulate.specs.Entries.{entries_of, IsOfGrid, AreShapes}
 use Rattle.heesch_tabulate.specs.Tabulating.{IsTallied, AreWholeAt, HasShapeFault, HasTextFault, HasLengthFault, IsFaulty}
 use Rattle.heesch_tabulate.proofs.Cuts.{Cut, same_cut, before_cut}

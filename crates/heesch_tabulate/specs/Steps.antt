@@ -12,10 +12,10 @@ use Rattle.heesch_shape.specs.Faults.{IsFault, IsFaultless, number_of}
 use Rattle.heesch_reader.specs.declared.item.Item.{Item}
 use Rattle.heesch_reader.specs.declared.item.Item.TheVariants as items
 use Rattle.heesch_reader.specs.declared.item.Part.{Part}
-use Rattle.heesch_stream.specs.declared.answers.Taken.{Taken}
-use Rattle.heesch_stream.specs.declared.answers.Taken.TheVariants as takens
-use Rattle.heesch_stream.specs.declared.answers.StreamStop.{StreamStop}
-use Rattle.heesch_stream.specs.declared.answers.StreamStop.TheVariants as stream_stops
+use Rattle.heesch_reader.specs.declared.answers.Taken.{Taken}
+use Rattle.heesch_reader.specs.declared.answers.Taken.TheVariants as takens
+use Rattle.heesch_reader.specs.declared.answers.StreamStop.{StreamStop}
+use Rattle.heesch_reader.specs.declared.answers.StreamStop.TheVariants as stream_stops
 use Rattle.heesch_table.specs.Counts.{Counts, counts_of}
 use Rattle.heesch_table.specs.Holed.{IsHoled}
 use Rattle.heesch_tabulate.specs.declared.answers.EntryFault.{EntryFault}

@@ -17,7 +17,7 @@ use Rattle.heesch_reader.specs.Progress.{Lead, may_end}
 use Rattle.heesch_reader.specs.Faults.{begins_next}
 use Rattle.heesch_reader.specs.Items.{lines_of, AreItemsAt}
 use Rattle.heesch_io.specs.Input.{IsAllOf}
-use Rattle.heesch_stream.specs.Taking.{Begins, IsCatalogue, HasFault, HasTooMany, input_max}
+use Rattle.heesch_reader.specs.Taking.{Begins, IsCatalogue, HasFault, HasTooMany, input_max}
 use Rattle.heesch_table.specs.Texts.{tally_text}
 use Rattle.heesch_tabulate.specs.declared.answers.Tabulated.{Tabulated}
 use Rattle.heesch_tabulate.specs.declared.answers.Tabulated.TheVariants as answers

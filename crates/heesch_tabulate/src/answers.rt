@@ -1,7 +1,7 @@
 //! What tabulating a catalogue answers.
 
 use heesch_io::{IoStop, NoMemory};
-use heesch_stream::{StreamStop, Taken};
+use heesch_reader::{StreamStop, Taken};
 
 /// What a catalogue's entries tell.
 #[derive(Debug, PartialEq, Eq, Drop)]

@@ -7,7 +7,7 @@ ghost use Rattle.heesch_tabulate.specs.Tabulating.{IsTabulated, DecideNothing, E
 use crate::answers::{EntryFault, Onward, Tabulated};
 use crate::table::Table;
 use heesch_io::{IoStop, Seq, Source};
-use heesch_stream::Stream;
+use heesch_reader::Stream;
 use std::alloc::Global;
 
 /// Reads a catalogue, full or brief, to its end: the text of the tally of its entries, or the first fault.

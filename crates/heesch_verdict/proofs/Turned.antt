@@ -6,7 +6,7 @@ use Rattle.heesch_grid.specs.declared.Cell.{Cell}
 use Rattle.heesch_grid.specs.Geometry.{Geometry, IsGrid}
 use Rattle.heesch_grid.specs.Lattice.{Triple}
 use Rattle.heesch_grid.proofs.ListFacts.{any_member}
-use Rattle.heesch_turned.proofs.Covers.{covers_turn}
+use Rattle.heesch_lattice.proofs.Covers.{covers_turn}
 use Rattle.heesch_verdict.specs.Alike.{IsAlikeOne}
 use Rattle.heesch_verdict.specs.Earliest.{HasNoCover}
 

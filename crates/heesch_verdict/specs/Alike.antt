@@ -2,7 +2,7 @@
 use Rattle.std.specs.Prelude.{ℕ, ◌<◌, List, Contains}
 use Rattle.heesch_grid.specs.Geometry.{Geometry}
 use Rattle.heesch_grid.specs.Lattice.{Triple, IsTriple}
-use Rattle.heesch_turned.specs.Turned.{TurnsOnto}
+use Rattle.heesch_lattice.specs.Turned.{TurnsOnto}
 
 -- a turn carries the lattice of the triple onto that of one of these
 pub record IsAlikeOne (g : Geometry) (t : Triple) (others : List Triple) : Type 0 where

@@ -4,7 +4,7 @@ ghost use Rattle.heesch_verdict.specs.Alike.{IsAlikeOne};
 
 use heesch_grid::{Cell, Grid};
 use heesch_lattice::Triple;
-use heesch_turned::{first_vector, is_turned, second_vector};
+use heesch_lattice::{first_vector, is_turned, second_vector};
 
 /// The pair less so many times another.
 fn less(u: Cell, times: i32, v: Cell) -> Cell {

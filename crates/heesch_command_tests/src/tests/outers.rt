@@ -4,7 +4,7 @@ use heesch_cnf::Version;
 use heesch_grid::GridName;
 use heesch_io::{IoStop, MemorySink};
 use heesch_made::LIMITS;
-use heesch_outers::write_outers_of_size;
+use heesch_outer::write_outers_of_size;
 use heesch_pool::{Crew, Open};
 use std::test::Fail;
 

@@ -1,7 +1,7 @@
 //! Lattices turned by hand.
 use heesch_grid::{Hex, Square};
 use heesch_lattice::Triple;
-use heesch_turned::is_turned;
+use heesch_lattice::is_turned;
 use std::test::Fail;
 
 /// The turns of the square grid that exchange the coordinates carry (1, 0) and (0, 2) onto (2, 0) and (0, 1); four turns of the

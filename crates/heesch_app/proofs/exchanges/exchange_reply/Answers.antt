@@ -2,7 +2,7 @@ use Rattle.std.proofs.Common.{◌≤◌, length, arith}
 use Rattle.heesch_grid.specs.Names.{geometry_of}
 use Rattle.heesch_exchange.specs.Answers.{IsAnswer, IsAnswerStop}
 use Rattle.heesch_exchange.specs.Formulas.{IsFormula, IsFormulaStop}
-use Rattle.heesch_stream.specs.Taking.{input_max}
+use Rattle.heesch_reader.specs.Taking.{input_max}
 use Rattle.heesch_app.proofs.ToldExchanges.{bad_not_done, done_anyhow, told_endless, told_of_input}
 use Rattle.heesch_app.proofs.exchanges.exchange_reply.Goals as goal
 

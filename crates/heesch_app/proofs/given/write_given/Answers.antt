@@ -4,7 +4,7 @@ use Rattle.std.proofs.Common.{◌≡◌, ◌∙◌, sym, subst}
 use Rattle.std.proofs.lemmas.Result.{IfOk-weaker}
 use Rattle.heesch_grid.specs.Polyform.{IsCanonicalListOf}
 use Rattle.heesch_given.specs.Given.{DecideNothing, GivesFault, GivesShapes}
-use Rattle.heesch_stream.specs.Taking.{input_max}
+use Rattle.heesch_reader.specs.Taking.{input_max}
 use Rattle.heesch_app.specs.declared.status.Status.TheVariants.{BadInput, Done}
 use Rattle.heesch_app.specs.GivenTexts.{IsBegunTextOf, IsTextOf}
 use Rattle.heesch_app.specs.Inputs.{ConsumesSome}

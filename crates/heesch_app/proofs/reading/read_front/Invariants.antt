@@ -1,6 +1,6 @@
 use Rattle.std.proofs.Common.{◌≤◌, ◌+◌, ◌-◌, length}
 use Rattle.std.specs.Io.KnownBytes.{Consumes}
-use Rattle.heesch_stream.specs.Taking.{input_max}
+use Rattle.heesch_reader.specs.Taking.{input_max}
 use Rattle.heesch_app.proofs.reading.read_front.Given as goal
 
 abbrev pub invariant-loop-piece : goal.invariant-loop-piece

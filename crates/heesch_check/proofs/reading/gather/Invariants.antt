@@ -1,6 +1,6 @@
 use Rattle.std.proofs.Common.{◌≡◌, ◌⊎◌, ◌++◌, ℕ, ◌-◌, ◌<◌, ◌≤◌, List, Option}
 use Rattle.heesch_reader.specs.declared.item.Item.{Item}
-use Rattle.heesch_stream.specs.Taking.{HasRead}
+use Rattle.heesch_reader.specs.Taking.{HasRead}
 use Rattle.heesch_check.specs.Reading.{IsReading, StopsGathering}
 use Rattle.heesch_check.proofs.reading.gather.Given as goal
 

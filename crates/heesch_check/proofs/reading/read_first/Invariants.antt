@@ -1,5 +1,5 @@
 use Rattle.std.proofs.Common.{◌≡◌, ℕ, ◌-◌, ◌≤◌, List, [], Option}
-use Rattle.heesch_stream.specs.Taking.{HasRead}
+use Rattle.heesch_reader.specs.Taking.{HasRead}
 use Rattle.heesch_check.proofs.reading.read_first.Given as goal
 
 abbrev pub invariant-pieces : goal.invariant-pieces

@@ -1,5 +1,5 @@
 use Rattle.std.proofs.Common.{◌≡◌, None, inl, inr, sym, subst, rules, arith}
-use Rattle.heesch_stream.specs.Taking.{TakeResult}
+use Rattle.heesch_reader.specs.Taking.{TakeResult}
 use Rattle.heesch_tabulate.specs.Steps.{AreReady, CountsItems}
 use Rattle.heesch_io.specs.Input.{ReadsNoFurther}
 use Rattle.heesch_tabulate.specs.Tabulating.{DecideNothing}

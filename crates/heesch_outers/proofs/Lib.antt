@@ -1,3 +1,0 @@
-mod OuterLists
-mod OuterReadable
-pub mod OuterTexts

@@ -1,2 +1,0 @@
-pub mod Outers
-pub mod Answers

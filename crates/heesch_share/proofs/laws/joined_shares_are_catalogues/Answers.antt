@@ -1,5 +1,0 @@
-use Rattle.heesch_share.proofs.AllShares.{joined_are_catalogues}
-use Rattle.heesch_share.proofs.laws.joined_shares_are_catalogues.Goals as goal
-
-pub returns : goal.returns
-returns c = joined_are_catalogues

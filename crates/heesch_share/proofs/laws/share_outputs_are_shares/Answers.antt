@@ -1,5 +1,0 @@
-use Rattle.heesch_share.proofs.AllShares.{outputs_are_shares}
-use Rattle.heesch_share.proofs.laws.share_outputs_are_shares.Goals as goal
-
-pub returns : goal.returns
-returns c = outputs_are_shares

@@ -1,3 +1,0 @@
-pub mod Written
-pub mod Joined
-pub mod AllShares

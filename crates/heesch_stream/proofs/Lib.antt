@@ -1,2 +1,0 @@
-mod Joining
-pub mod Reading

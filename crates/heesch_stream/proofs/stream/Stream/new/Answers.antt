@@ -1,5 +1,0 @@
-use Rattle.heesch_stream.proofs.Reading.{nothing_read}
-use Rattle.heesch_stream.proofs.stream.Stream.new.Goals as goal
-
-pub returns : goal.returns
-returns c = rw c.new.ensures (λ left. nothing_read left)

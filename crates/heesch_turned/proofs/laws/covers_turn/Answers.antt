@@ -1,5 +1,0 @@
-use Rattle.heesch_turned.proofs.Covers.{covers_turn}
-use Rattle.heesch_turned.proofs.laws.covers_turn.Goals as goal
-
-pub returns : goal.returns
-returns c = covers_turn
