@@ -53,8 +53,8 @@ fn all_words(alloc: Global, args: Args) -> Result<Vec<String>, Status>
     }
 }
 
-/// Runs over the words, and ends with the number of the run's status; with that of the status that stands in place of the
-/// words, and with that of `NoMemory` where there is no source or no sink.
+/// Runs over the words, and ends with the number of the run's status; with that of the status that stands in place of
+/// the words, and with that of `NoMemory` where there is no source or no sink.
 fn end<T: Threads + Sync, R: Source + Drop, W: Sink + Drop>(
     rt: &T,
     alloc: Global,

@@ -16,10 +16,13 @@ use Rattle.heesch_cert.specs.declared.limits.Limits.{Limits}
 use Rattle.heesch_cert.specs.TrueEntry.{IsTrueEntry}
 use Rattle.heesch_line.specs.Forms.{IsLine}
 use Rattle.heesch_text.specs.declared.line.Line.TheVariants as lines
-use Rattle.heesch_words.specs.declared.requests.Request.TheVariants.{Classify as ClassifyRequest, Check as CheckRequest, Table as TableRequest}
+use Rattle.heesch_words.specs.declared.requests.Request.TheVariants.{Classify as ClassifyRequest, Check as CheckRequest, Table as TableRequest, Join as JoinRequest}
 use Rattle.heesch_words.specs.Requests.{Asks}
 use Rattle.heesch_words.proofs.Ranges.{asked_in_range}
 use Rattle.heesch_catalogue.specs.Catalogues.{AreReadable, IsCatalogue}
+use Rattle.heesch_parts.specs.AllShares.{AreAllShares, together}
+use Rattle.heesch_parts.specs.Joined.{IsJoined}
+use Rattle.heesch_parts.proofs.AllShares.{joined_are_catalogues}
 use Rattle.heesch_check.specs.declared.answers.Checked.{Checked}
 use Rattle.heesch_check.specs.declared.answers.Checked.TheVariants as answers
 use Rattle.heesch_tabulate.specs.declared.answers.Tabulated.{Tabulated}
@@ -118,6 +121,25 @@ pub writes_valid : (words : List (List ℕ)) (left old new : Option (List ℕ)) 
 writes_valid words left old new grid subject workers limits asks (text, is, appends) =
     let valid = answer_valid words left text grid subject limits workers asks (asked_output words (ClassifyRequest grid subject limits workers false) left Done text asks is) in
     (text, valid.0, valid.1, appends)
+
+-- ---- what the outputs of all shares are joined to is valid
+
+joined_valid : (grid : GridName) (n : ℕ) (limits : Limits) (outputs : List (List ℕ)) (text : List ℕ) → AreAllShares (geometry_of grid) (header_of grid (Size n) limits false) n outputs → IsJoined (together outputs) text
+    → (count : ℕ) × IsValid text count
+joined_valid grid n limits outputs text all joined =
+    let (shapes, free, is) = joined_are_catalogues (geometry_of grid) (header_of grid (Size n) limits false) n outputs text all joined in
+    size_valid grid n limits shapes text all.is_header.form free is
+
+-- where the source had left the outputs of all shares, what was written is valid
+pub joins_valid : (words : List (List ℕ)) (left old new : Option (List ℕ)) (grid : GridName) (n : ℕ) (limits : Limits) (outputs : List (List ℕ)) → Asks words JoinRequest
+    → AreAllShares (geometry_of grid) (header_of grid (Size n) limits false) n outputs → left ≡ Some (together outputs) → Writes words left Done old new → WritesValid old new
+joins_valid words left old new grid n limits outputs asks all told (text, is, appends) = by_output (asked_output words JoinRequest (Some (together outputs)) Done text asks (subst (λ l. IsAnswer words l Done text) told is))
+  where
+    by_output : IsOutput JoinRequest (Some (together outputs)) Done text → WritesValid old new
+    by_output (input, same, inl (_, short, joined)) =
+        let valid = joined_valid grid n limits outputs text all (subst (λ bytes. IsJoined bytes text) same joined) in
+        (text, valid.0, valid.1, appends)
+    by_output (input, same, inr (other, _)) = absurd cc
 
 -- ---- what is valid passes
 

@@ -16,8 +16,8 @@ use heesch_io::{Sink, Source};
 use heesch_pool::{Crew, Gate};
 use std::thread::Threads;
 
-/// Writes the catalogue text, under the header, of the polyforms of its size, or of the shapes of the list text that the
-/// source has left; or the first fault of the list text.
+/// Writes the catalogue text, under the header, of the polyforms of its size, or of the shapes of the list text that
+/// the source has left; or the first fault of the list text.
 #[tactic(auto, using(crate::proofs::Consumed::none_consumed))]
 pub fn write_asked_catalogue<T: Threads + Sync, R: Source, W: Sink, H: Gate + Sync>(
     crew: &Crew<'_, T, H>,
@@ -30,7 +30,8 @@ pub fn write_asked_catalogue<T: Threads + Sync, R: Source, W: Sink, H: Gate + Sy
     ensures ends { EndsAs (IsOutput (classify_of header.now crew.now.workers) (R.left source.old))
         (IsBegunOutput (classify_of header.now crew.now.workers) (R.left source.old))
         (W.held sink.old) (W.held sink.new) result }
-    ensures ended { result ≡ Status.Done → ReadsToEnd (classify_of header.now crew.now.workers) → IsAtEnd (R.left source.new) }
+    ensures ended { result ≡ Status.Done → ReadsToEnd (classify_of header.now crew.now.workers)
+        → IsAtEnd (R.left source.new) }
     ensures consumed { ConsumesSome (R.left source.old) (R.left source.new) }
     ensures read_fault { result ≡ Status.ReadFault
         → Reads (classify_of header.now crew.now.workers) × Rose (R.faults source.old) (R.faults source.new) }

@@ -44,7 +44,9 @@ pub fn exchange_reply<R: Source>(
 ) -> Result<Reply, IoStop>
     requires level { (1 ≤ level) × (level ≤ 6) }
     requires size { (1 ≤ size) × (size ≤ 60000000) }
-    ensures ok { IfOk result (λ r. OfInput (R.left source.old) (IsExchangeAnswer asked version (geometry_of grid) level size r.status r.text.items)) }
+    ensures ok { IfOk result
+        (λ r. OfInput (R.left source.old)
+        (IsExchangeAnswer asked version (geometry_of grid) level size r.status r.text.items)) }
     ensures ended { IfOk result (λ r. r.status ≡ Status.Done → IsAtEnd (R.left source.new)) }
     ensures consumed { ConsumesSome (R.left source.old) (R.left source.new) }
     ensures failed { result ≡ Err IoStop.Failed → Rose (R.faults source.old) (R.faults source.new) }

@@ -19,8 +19,8 @@ use heesch_kite::on_grid;
 use heesch_line::InputStop;
 use heesch_outer::write_outers;
 use heesch_pool::{Crew, Gate};
-use heesch_shape::Shape;
 use heesch_reader::INPUT_MAX;
+use heesch_shape::Shape;
 use std::thread::Threads;
 
 /// What is written of given shapes.
@@ -55,9 +55,9 @@ impl GivenText {
     }
 }
 
-/// Writes the text of the shapes of the list text that the source has left, in their order, each by its canonical list;
-/// or the first fault of the list text. That is read as `shapes_given` reads it before anything is written, and the text
-/// is written as `write_catalogue` or `write_outers` writes it.
+/// Writes the text of the shapes of the list text that the source has left, in their order, each by its canonical
+/// list; or the first fault of the list text. That is read as `shapes_given` reads it before anything is written, and
+/// the text is written as `write_catalogue` or `write_outers` writes it.
 pub fn write_given_text<T: Threads + Sync, R: Source, W: Sink, H: Gate + Sync>(
     crew: &Crew<'_, T, H>,
     grid: GridName,

@@ -18,8 +18,8 @@ use heesch_outer::write_outers_of_size;
 use heesch_pool::{Crew, Gate};
 use std::thread::Threads;
 
-/// Writes the outer text of the polyforms of a size, or of the shapes of the list text that the source has left; or the
-/// first fault of the list text.
+/// Writes the outer text of the polyforms of a size, or of the shapes of the list text that the source has left; or
+/// the first fault of the list text.
 #[tactic(auto, using(crate::proofs::Consumed::none_consumed))]
 pub fn write_outer_numbers<T: Threads + Sync, R: Source, W: Sink, H: Gate + Sync>(
     crew: &Crew<'_, T, H>,
@@ -38,7 +38,8 @@ pub fn write_outer_numbers<T: Threads + Sync, R: Source, W: Sink, H: Gate + Sync
         → IsAtEnd (R.left source.new) }
     ensures consumed { ConsumesSome (R.left source.old) (R.left source.new) }
     ensures read_fault { result ≡ Status.ReadFault
-        → Reads (OuterRequest grid subject limits crew.now.workers) × Rose (R.faults source.old) (R.faults source.new) }
+        → Reads (OuterRequest grid subject limits crew.now.workers)
+        × Rose (R.faults source.old) (R.faults source.new) }
     ensures unwritten { result ≡ Status.ReadFault → sink.new ≡ sink.old }
     ensures write_fault { result ≡ Status.WriteFault → Rose (W.faults sink.old) (W.faults sink.new) }
     ensures unread { ¬ Reads (OuterRequest grid subject limits crew.now.workers) → source.new ≡ source.old }

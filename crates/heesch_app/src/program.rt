@@ -1,6 +1,8 @@
 //! What the words of the command line ask for, done over a source and a sink.
-ghost use Rattle.std.specs.Prelude.{◌≡◌, ◌≢◌, ◌≤◌, ◌<◌, ◌^◌, ◌⊎◌, ℕ, List, length, map, string_bytes, false, Some, IfOk, Err};
+ghost use Rattle.std.specs.Prelude.{◌≡◌, ◌≢◌, ◌≤◌, ◌<◌, ◌^◌, ◌⊎◌, ℕ, List, length, map, string_bytes, false, Some};
+ghost use Rattle.std.specs.Prelude.{IfOk, Err};
 ghost use Rattle.heesch_cert.specs.declared.header.Subject.{Subject};
+ghost use Rattle.heesch_cert.specs.declared.header.Subject.TheVariants.{Size};
 ghost use Rattle.heesch_cert.specs.declared.limits.Limits.{Limits};
 ghost use Rattle.heesch_check.specs.Answers.{IsValid};
 ghost use Rattle.heesch_cnf.specs.declared.version.Version.{Version};
@@ -9,10 +11,18 @@ ghost use Rattle.heesch_grid.specs.Names.{geometry_of};
 ghost use Rattle.std.specs.Io.KnownBytes.{IsAtEnd};
 ghost use Rattle.heesch_io.specs.Causes.{Rose};
 ghost use Rattle.heesch_words.specs.declared.requests.Request.{Request as RequestOf};
-ghost use Rattle.heesch_words.specs.declared.requests.Request.TheVariants.{Classify as ClassifyRequest, Check as CheckRequest, Table as TableRequest, Formula as FormulaRequest, Answer as AnswerRequest, Outer as OuterRequest};
+ghost use Rattle.heesch_words.specs.declared.requests.Request.TheVariants.{Classify as ClassifyRequest};
+ghost use Rattle.heesch_words.specs.declared.requests.Request.TheVariants.{Check as CheckRequest};
+ghost use Rattle.heesch_words.specs.declared.requests.Request.TheVariants.{Table as TableRequest};
+ghost use Rattle.heesch_words.specs.declared.requests.Request.TheVariants.{Formula as FormulaRequest};
+ghost use Rattle.heesch_words.specs.declared.requests.Request.TheVariants.{Answer as AnswerRequest};
+ghost use Rattle.heesch_words.specs.declared.requests.Request.TheVariants.{Outer as OuterRequest, Join as JoinRequest};
+ghost use Rattle.heesch_parts.specs.AllShares.{AreAllShares, together};
 ghost use Rattle.heesch_tabulate.specs.Tabulating.{IsTallied};
 ghost use Rattle.heesch_words.specs.Requests.{Asks};
-ghost use Rattle.heesch_app.specs.Outputs.{IsAccepted, IsOutput, IsBegunOutput, HasOneText, Reads, ReadsToEnd, AreReading, Writes, WritesPrefix, AsksForCatalogue, IsCatalogued, WritesValid};
+ghost use Rattle.heesch_app.specs.Outputs.{IsAccepted, IsOutput, IsBegunOutput, HasOneText, Reads, ReadsToEnd};
+ghost use Rattle.heesch_app.specs.Outputs.{AreReading, Writes, WritesPrefix, AsksForCatalogue, IsCatalogued};
+ghost use Rattle.heesch_app.specs.Outputs.{WritesValid, header_of};
 ghost use Rattle.heesch_app.specs.Endings.{EndsAs};
 ghost use Rattle.heesch_app.specs.Inputs.{ConsumesSome};
 ghost use Rattle.heesch_app.specs.Exchanges.{WritesFormula, WritesAnswer};
@@ -30,9 +40,9 @@ use crate::reply::{Reply, put_reply};
 use crate::tables::table_reply;
 use heesch_cert::{Header, Subject};
 use heesch_io::{IoStop, Sink, Source};
+use heesch_parts::write_share;
 use heesch_pool::{Crew, Gate};
 use heesch_sample::sample;
-use heesch_parts::write_share;
 use heesch_words::{Request, Usage, parse};
 use std::alloc::Global;
 use std::thread::Threads;
@@ -66,8 +76,9 @@ pub fn run<T: Threads + Sync, R: Source, W: Sink, H: Gate + Sync>(
 
     ensures done { result ≡ Status.Done →
         Writes (map string_bytes words.now) (R.left source.old) Status.Done (W.held sink.old) (W.held sink.new) }
-    // The headline: whatever the grid, the size, the limits, the workers and the order of their steps, a full catalogue
-    // that ends Done has every free polyform of the size once and in order, each with a true entry and a right verdict.
+    // The headline: whatever the grid, the size, the limits, the workers and the order of their steps, a full
+    // catalogue that ends Done has every free polyform of the size once and in order, each with a true entry and a
+    // right verdict.
     ensures headline { result ≡ Status.Done → (grid : GridName) (n workers : ℕ) (limits : Limits)
         → AsksForCatalogue (map string_bytes words.now) grid n limits workers
         → IsCatalogued grid n limits (W.held sink.old) (W.held sink.new) }
@@ -75,6 +86,11 @@ pub fn run<T: Threads + Sync, R: Source, W: Sink, H: Gate + Sync>(
     ensures checkable { result ≡ Status.Done → (grid : GridName) (subject : Subject) (workers : ℕ) (limits : Limits)
         → Asks (map string_bytes words.now) (ClassifyRequest grid subject limits workers false)
         → WritesValid (W.held sink.old) (W.held sink.new) }
+    // So is what the outputs of `share` 1 to K of a size are joined to.
+    ensures joinable { result ≡ Status.Done → (grid : GridName) (n : ℕ) (limits : Limits) (outputs : List (List ℕ))
+        → Asks (map string_bytes words.now) JoinRequest
+        → AreAllShares (geometry_of grid) (header_of grid (Size n) limits false) n outputs
+        → R.left source.old ≡ Some (together outputs) → WritesValid (W.held sink.old) (W.held sink.new) }
     // No valid catalogue of at most 2^40 bytes is refused by `check`.
     ensures passes { (input : List ℕ) (workers count : ℕ) → R.left source.old ≡ Some input → length input ≤ 2 ^ 40
         → Asks (map string_bytes words.now) (CheckRequest workers) → IsValid input count
@@ -84,18 +100,20 @@ pub fn run<T: Threads + Sync, R: Source, W: Sink, H: Gate + Sync>(
         → Asks (map string_bytes words.now) (CheckRequest workers) → result ≡ Status.BadInput → 2 ^ 40 < length input }
     ensures tables { (input tally : List ℕ) → R.left source.old ≡ Some input
         → Asks (map string_bytes words.now) TableRequest → IsTallied (Some input) tally → result ≢ Status.BadInput }
-    // A formula that was written is E(S, J), which is satisfiable exactly where J coronas of the given shape S exist; and what
-    // was written of a model of it is J coronas of S, or the least clause that it makes false.
+    // A formula that was written is E(S, J), which is satisfiable exactly where J coronas of the given shape S exist;
+    // and what was written of a model of it is J coronas of S, or the least clause that it makes false.
     ensures formulas { result ≡ Status.Done → (grid : GridName) (level size : ℕ) (version : Version)
         → Asks (map string_bytes words.now) (FormulaRequest grid level size version)
         → WritesFormula version (geometry_of grid) level size (R.left source.old) (W.held sink.old) (W.held sink.new) }
     ensures answers { result ≡ Status.Done → (grid : GridName) (level size : ℕ) (version : Version)
         → Asks (map string_bytes words.now) (AnswerRequest grid level size version)
         → WritesAnswer version (geometry_of grid) level size (R.left source.old) (W.held sink.old) (W.held sink.new) }
-    // What was written of outer numbers: for each of these shapes in order (those of the free list of the size, or the canonical
-    // lists of the lines of the list text) the text of a true entry with a right verdict under the limits, and then the record
-    // of an answer that `check_outer` accepts for this entry; it tells the outer number. At last comes `end COUNT`.
-    ensures outer_numbers { result ≡ Status.Done → (grid : GridName) (subject : Subject) (limits : Limits) (workers : ℕ)
+    // What was written of outer numbers: for each of these shapes in order (those of the free list of the size, or the
+    // canonical lists of the lines of the list text) the text of a true entry with a right verdict under the limits,
+    // and then the record of an answer that `check_outer` accepts for this entry; it tells the outer number. At last
+    // comes `end COUNT`.
+    ensures outer_numbers { result ≡ Status.Done
+        → (grid : GridName) (subject : Subject) (limits : Limits) (workers : ℕ)
         → Asks (map string_bytes words.now) (OuterRequest grid subject limits workers)
         → WritesOuters grid subject limits (R.left source.old) (W.held sink.old) (W.held sink.new) }
     ensures bad_input { result ≡ Status.BadInput →

@@ -28,7 +28,8 @@ impl<'a, G: Grid> Answer<Option<Plain>> for PlainOf<'a, G> {
 
     ghost accepts = { λ s number. nat_lt number (length s.shapes.now) && are_small s.shapes.now };
 
-    ghost gives = { λ s number tiling. IfOk tiling (λ t. (d : List Cell) → IsPlain G.geometry (slice_index_or s.shapes.now number d) (answered t)) };
+    ghost gives = { λ s number tiling. IfOk tiling
+        (λ t. (d : List Cell) → IsPlain G.geometry (slice_index_or s.shapes.now number d) (answered t)) };
 
     ghost ready = { λ _. ⊤ };
 

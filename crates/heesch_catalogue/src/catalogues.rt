@@ -21,8 +21,8 @@ use heesch_text::write_header;
 use std::alloc::Global;
 use std::thread::Threads;
 
-/// Writes the catalogue text, under the header, of all free polyforms of n cells: `write_catalogue` of their list. n is
-/// 1 to 31.
+/// Writes the catalogue text, under the header, of all free polyforms of n cells: `write_catalogue` of their list. n
+/// is 1 to 31.
 ///
 /// Errors: as of `write_catalogue`; where memory was refused for the list of the shapes, nothing was written. Beside
 /// that list it keeps the entries of one round.

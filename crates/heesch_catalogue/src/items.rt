@@ -45,7 +45,8 @@ impl<'a, G: Grid, R: ShapeText> Answer<R::Item> for ItemOf<'a, G, R> {
 
     ghost accepts = { λ s number. nat_lt number (length s.shapes.now) };
 
-    ghost gives = { λ s number item. IfOk item (R.is_of s.texts.now G.geometry (slice_index_or s.shapes.now number [])) };
+    ghost gives = { λ s number item. IfOk item
+        (R.is_of s.texts.now G.geometry (slice_index_or s.shapes.now number [])) };
 
     ghost ready = { λ _. ⊤ };
 
@@ -54,8 +55,9 @@ impl<'a, G: Grid, R: ShapeText> Answer<R::Item> for ItemOf<'a, G, R> {
     }
 }
 
-/// The items of those shapes that stand from the place `from` to before `until`, in their order. One ticket of the pool
-/// is one shape, the gate is told its place, and what a shape took beside its item is freed as soon as that is made.
+/// The items of those shapes that stand from the place `from` to before `until`, in their order. One ticket of the
+/// pool is one shape, the gate is told its place, and what a shape took beside its item is freed as soon as that is
+/// made.
 ///
 /// Errors: `NoMemory` alone.
 pub fn items_between<G: Grid + Send + Sync, R: ShapeText + Sync, T: Threads + Sync, H: Gate + Sync>(

@@ -18,8 +18,8 @@ use std::thread::Threads;
 /// How many shapes are made into items before their texts are written.
 pub const ROUND: u32 = 256;
 
-/// Writes the head, then the texts of the shapes, after each 256 of them are made, in the shapes' order, then the end's
-/// text with their number, each by one `put`. The gate is told of each shape's number in the list.
+/// Writes the head, then the texts of the shapes, after each 256 of them are made, in the shapes' order, then the
+/// end's text with their number, each by one `put`. The gate is told of each shape's number in the list.
 ///
 /// Errors: `Failed` only where the sink's count of faults rose; `NoMemory` also where there are 2^32 shapes or more.
 /// What was written is then a beginning of such a text. It keeps the items and the text of one round, and takes nearly

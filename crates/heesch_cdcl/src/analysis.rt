@@ -38,8 +38,10 @@ pub struct Resolution {
 fn begin(trail: &Trail, conflict: u32, marks: &mut Marks) -> Result<(), NoMemory>
     requires lower { LowerFixpoints trail.now }
     requires conflict { IsConflict trail.now conflict }
-    requires clear { AreClear trail.now.vars marks.old.seen.items marks.old.here.items marks.old.touched.items marks.old.pending }
-    ensures begun { OnOk result (IsBegun trail.now conflict marks.new.seen.items marks.new.here.items marks.new.pending) }
+    requires clear { AreClear trail.now.vars marks.old.seen.items marks.old.here.items marks.old.touched.items
+        marks.old.pending }
+    ensures begun { OnOk result
+        (IsBegun trail.now conflict marks.new.seen.items marks.new.here.items marks.new.pending) }
     ensures listed { AreListed trail.now.vars marks.new.seen.items marks.new.here.items marks.new.touched.items }
 {
     let clause = trail.clause(conflict);
@@ -79,7 +81,8 @@ fn back_of(trail: &Trail, clause: &[Lit]) -> u32
 impl Resolution {
     /// Nothing is marked.
     pub fn new(alloc: Global, vars: u32) -> Result<Resolution, NoMemory>
-        ensures { IfOk result (λ r. AreClear vars r.marks.seen.items r.marks.here.items r.marks.touched.items r.marks.pending) }
+        ensures { IfOk result
+            (λ r. AreClear vars r.marks.seen.items r.marks.here.items r.marks.touched.items r.marks.pending) }
     {
         Ok(Resolution {
             marks: Marks::new(alloc, vars)?,
@@ -91,11 +94,18 @@ impl Resolution {
     /// The assignment at the place is left out, resolved with its reason where it is marked.
     fn resolve_at(&mut self, trail: &Trail, place: usize) -> Result<(), NoMemory>
         requires place { place < length trail.now.steps }
-        requires many { (2 ≤ self.old.marks.pending) ⊎ ((1 ≤ self.old.marks.pending) × (level_of trail.now.steps ≡ 0)) }
-        requires resolving { IsResolving trail.now (place + 1) self.old.marks.seen.items self.old.marks.here.items self.old.marks.pending (reverse self.old.hints.items) }
-        requires listed { AreListed trail.now.vars self.old.marks.seen.items self.old.marks.here.items self.old.marks.touched.items }
-        ensures resolving { OnOk result (IsResolving trail.now place self.new.marks.seen.items self.new.marks.here.items self.new.marks.pending (reverse self.new.hints.items)) }
-        ensures listed { AreListed trail.now.vars self.new.marks.seen.items self.new.marks.here.items self.new.marks.touched.items }
+        requires many { (2 ≤ self.old.marks.pending)
+            ⊎ ((1 ≤ self.old.marks.pending) × (level_of trail.now.steps ≡ 0)) }
+        requires resolving { IsResolving trail.now
+            (place + 1) self.old.marks.seen.items self.old.marks.here.items self.old.marks.pending
+            (reverse self.old.hints.items) }
+        requires listed { AreListed trail.now.vars self.old.marks.seen.items self.old.marks.here.items
+            self.old.marks.touched.items }
+        ensures resolving { OnOk result
+            (IsResolving trail.now place self.new.marks.seen.items self.new.marks.here.items self.new.marks.pending
+            (reverse self.new.hints.items)) }
+        ensures listed { AreListed trail.now.vars self.new.marks.seen.items self.new.marks.here.items
+            self.new.marks.touched.items }
         ensures one { OnOk result (self.old.marks.pending ≤ self.new.marks.pending + 1) }
     {
         let var = trail.made()[place].var;
@@ -116,10 +126,16 @@ impl Resolution {
     /// follows from the other marked ones and from level 0. Whether it was marked and of a lower level is answered.
     fn shorten_at(&mut self, trail: &Trail, place: usize) -> Result<bool, NoMemory>
         requires place { place < length trail.now.steps }
-        requires derived { IsDerived trail.now (place + 1) self.old.marks.seen.items self.old.marks.here.items self.old.marks.pending (reverse self.old.hints.items) }
-        requires listed { AreListed trail.now.vars self.old.marks.seen.items self.old.marks.here.items self.old.marks.touched.items }
-        ensures derived { OnOk result (IsDerived trail.now place self.new.marks.seen.items self.new.marks.here.items self.new.marks.pending (reverse self.new.hints.items)) }
-        ensures listed { AreListed trail.now.vars self.new.marks.seen.items self.new.marks.here.items self.new.marks.touched.items }
+        requires derived { IsDerived trail.now
+            (place + 1) self.old.marks.seen.items self.old.marks.here.items self.old.marks.pending
+            (reverse self.old.hints.items) }
+        requires listed { AreListed trail.now.vars self.old.marks.seen.items self.old.marks.here.items
+            self.old.marks.touched.items }
+        ensures derived { OnOk result
+            (IsDerived trail.now place self.new.marks.seen.items self.new.marks.here.items self.new.marks.pending
+            (reverse self.new.hints.items)) }
+        ensures listed { AreListed trail.now.vars self.new.marks.seen.items self.new.marks.here.items
+            self.new.marks.touched.items }
         ensures same { OnOk result (self.new.marks.pending ≡ self.old.marks.pending) }
     {
         let var = trail.made()[place].var;
@@ -144,10 +160,15 @@ impl Resolution {
     /// marked is either passed by then or resolved before, which the hints count, or the one of the present level that
     /// stays.
     fn shorten(&mut self, trail: &Trail, from: usize) -> Result<(), NoMemory>
-        requires derived { IsDerived trail.now from self.old.marks.seen.items self.old.marks.here.items self.old.marks.pending (reverse self.old.hints.items) }
-        requires listed { AreListed trail.now.vars self.old.marks.seen.items self.old.marks.here.items self.old.marks.touched.items }
-        ensures derived { OnOk result (IsDerived trail.now 0 self.new.marks.seen.items self.new.marks.here.items self.new.marks.pending (reverse self.new.hints.items)) }
-        ensures listed { AreListed trail.now.vars self.new.marks.seen.items self.new.marks.here.items self.new.marks.touched.items }
+        requires derived { IsDerived trail.now from self.old.marks.seen.items self.old.marks.here.items
+            self.old.marks.pending (reverse self.old.hints.items) }
+        requires listed { AreListed trail.now.vars self.old.marks.seen.items self.old.marks.here.items
+            self.old.marks.touched.items }
+        ensures derived { OnOk result
+            (IsDerived trail.now 0 self.new.marks.seen.items self.new.marks.here.items self.new.marks.pending
+            (reverse self.new.hints.items)) }
+        ensures listed { AreListed trail.now.vars self.new.marks.seen.items self.new.marks.here.items
+            self.new.marks.touched.items }
         ensures same { OnOk result (self.new.marks.pending ≡ self.old.marks.pending) }
     {
         let mut place = from;
@@ -168,9 +189,13 @@ impl Resolution {
         requires lower { LowerFixpoints trail.now }
         requires conflict { IsConflict trail.now conflict }
         requires stop { (1 ≤ stop) ⊎ (level_of trail.now.steps ≡ 0) }
-        requires clear { AreClear trail.now.vars self.old.marks.seen.items self.old.marks.here.items self.old.marks.touched.items self.old.marks.pending }
-        ensures resolved { OnOk result (IsResolved trail.now stop self.new.marks.seen.items self.new.marks.here.items self.new.marks.pending self.new.hints.items) }
-        ensures listed { AreListed trail.now.vars self.new.marks.seen.items self.new.marks.here.items self.new.marks.touched.items }
+        requires clear { AreClear trail.now.vars self.old.marks.seen.items self.old.marks.here.items
+            self.old.marks.touched.items self.old.marks.pending }
+        ensures resolved { OnOk result
+            (IsResolved trail.now stop self.new.marks.seen.items self.new.marks.here.items self.new.marks.pending
+            self.new.hints.items) }
+        ensures listed { AreListed trail.now.vars self.new.marks.seen.items self.new.marks.here.items
+            self.new.marks.touched.items }
     {
         begin(trail, conflict, &mut self.marks)?;
         self.hints.clear();
@@ -195,9 +220,11 @@ impl Resolution {
         requires lower { LowerFixpoints trail.now }
         requires conflict { IsConflict trail.now conflict }
         requires level { 1 ≤ level_of trail.now.steps }
-        requires clear { AreClear trail.now.vars self.old.marks.seen.items self.old.marks.here.items self.old.marks.touched.items self.old.marks.pending }
+        requires clear { AreClear trail.now.vars self.old.marks.seen.items self.old.marks.here.items
+            self.old.marks.touched.items self.old.marks.pending }
         ensures learnt { IfOk result (IsLearnt trail.now) }
-        ensures listed { AreListed trail.now.vars self.new.marks.seen.items self.new.marks.here.items self.new.marks.touched.items }
+        ensures listed { AreListed trail.now.vars self.new.marks.seen.items self.new.marks.here.items
+            self.new.marks.touched.items }
     {
         self.resolve(trail, conflict, 1)?;
         let clause = clause_of_marks(alloc, trail, &self.marks, &mut self.kept)?;
@@ -216,9 +243,11 @@ impl Resolution {
         requires lower { LowerFixpoints trail.now }
         requires conflict { IsConflict trail.now conflict }
         requires level { 1 ≤ level_of trail.now.steps }
-        requires clear { AreClear trail.now.vars self.old.marks.seen.items self.old.marks.here.items self.old.marks.touched.items self.old.marks.pending }
+        requires clear { AreClear trail.now.vars self.old.marks.seen.items self.old.marks.here.items
+            self.old.marks.touched.items self.old.marks.pending }
         ensures learnt { IfOk result (IsLearnt trail.now) }
-        ensures clear { AreClear trail.now.vars self.new.marks.seen.items self.new.marks.here.items self.new.marks.touched.items self.new.marks.pending }
+        ensures clear { AreClear trail.now.vars self.new.marks.seen.items self.new.marks.here.items
+            self.new.marks.touched.items self.new.marks.pending }
     {
         let learnt = self.learnt_from(alloc, trail, conflict);
         self.marks.clear(trail.vars());
@@ -230,9 +259,11 @@ impl Resolution {
         requires lower { LowerFixpoints trail.now }
         requires conflict { IsConflict trail.now conflict }
         requires level { level_of trail.now.steps ≡ 0 }
-        requires clear { AreClear trail.now.vars self.old.marks.seen.items self.old.marks.here.items self.old.marks.touched.items self.old.marks.pending }
+        requires clear { AreClear trail.now.vars self.old.marks.seen.items self.old.marks.here.items
+            self.old.marks.touched.items self.old.marks.pending }
         ensures last { IfOk result (FinalHolds trail.now.clauses) }
-        ensures clear { AreClear trail.now.vars self.new.marks.seen.items self.new.marks.here.items self.new.marks.touched.items self.new.marks.pending }
+        ensures clear { AreClear trail.now.vars self.new.marks.seen.items self.new.marks.here.items
+            self.new.marks.touched.items self.new.marks.pending }
     {
         let resolved = self.resolve(trail, conflict, 0);
         self.marks.clear(trail.vars());

@@ -20,7 +20,8 @@ fn false_literal(trail: &Trail, var: u32) -> Lit
     }
 }
 
-/// The clause of the marked variables, whose literals are false. They are sorted, since the variables of a clause rise.
+/// The clause of the marked variables, whose literals are false. They are sorted, since the variables of a clause
+/// rise.
 pub fn clause_of_marks(
     alloc: Global,
     trail: &Trail,

@@ -8,8 +8,8 @@ use heesch_io::NoMemory;
 use std::alloc::Global;
 use std::marker::Model;
 
-/// The clauses of a formula with at most one negative literal: where its variable, the guard, is true, one of the others
-/// has to be. Those without a guard stand first, and then those of each guard.
+/// The clauses of a formula with at most one negative literal: where its variable, the guard, is true, one of the
+/// others has to be. Those without a guard stand first, and then those of each guard.
 #[derive(Drop)]
 pub struct Covers {
     vars: u32,

@@ -8,9 +8,9 @@ use crate::covers::Covers;
 use heesch_cnf::Lit;
 use heesch_trail::Trail;
 
-/// Which literal is decided next. Of the clauses with at most one negative literal, whose guard is true, and which have no
-/// true literal, the first with the fewest open ones is taken, and its last open literal is made true. Where there is none,
-/// the first open variable is made false. All of this is a heuristic: no answer rests on it.
+/// Which literal is decided next. Of the clauses with at most one negative literal, whose guard is true, and which
+/// have no true literal, the first with the fewest open ones is taken, and its last open literal is made true. Where
+/// there is none, the first open variable is made false. All of this is a heuristic: no answer rests on it.
 #[derive(Drop)]
 pub struct Decisions {
     pub covers: Covers,

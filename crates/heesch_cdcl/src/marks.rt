@@ -1,5 +1,6 @@
 //! The marks of an analysis.
-ghost use Rattle.std.specs.Prelude.{◌≡◌, ◌<◌, ◌≤◌, ◌+◌, IfOk, OnOk, IsTrue, ◌↔◌, Some, true, false, slice_set, filter, length};
+ghost use Rattle.std.specs.Prelude.{◌≡◌, ◌<◌, ◌≤◌, ◌+◌, IfOk, OnOk, IsTrue, ◌↔◌, Some, true, false, slice_set, filter};
+ghost use Rattle.std.specs.Prelude.{length};
 ghost use Rattle.heesch_cnf.specs.Clauses.{IsClause};
 ghost use Rattle.heesch_trail.specs.State.{level_of};
 ghost use Rattle.heesch_cdcl.specs.Marking.{AreMarks, AreListed, AreClear, MarksClause, marked, level_in};
@@ -11,8 +12,8 @@ use heesch_io::NoMemory;
 use heesch_trail::Trail;
 use std::alloc::Global;
 
-/// The variables of a clause that is being derived: all of them, and those of the present level, with their count. Each
-/// variable that was ever marked is listed, so that the marks can be taken back without a look at the others.
+/// The variables of a clause that is being derived: all of them, and those of the present level, with their count.
+/// Each variable that was ever marked is listed, so that the marks can be taken back without a look at the others.
 #[derive(Drop)]
 pub struct Marks {
     pub seen: Vec<bool>,
@@ -54,9 +55,11 @@ impl Marks {
     fn mark_one(&mut self, trail: &Trail, level: u32, var: u32) -> Result<(), NoMemory>
         requires low { 1 ≤ var }
         requires range { var ≤ trail.now.vars }
-        requires marks { AreMarks trail.now.vars level trail.now.steps self.old.seen.items self.old.here.items self.old.pending }
+        requires marks { AreMarks trail.now.vars level trail.now.steps self.old.seen.items self.old.here.items
+            self.old.pending }
         requires listed { AreListed trail.now.vars self.old.seen.items self.old.here.items self.old.touched.items }
-        ensures marks { AreMarks trail.now.vars level trail.now.steps self.new.seen.items self.new.here.items self.new.pending }
+        ensures marks { AreMarks trail.now.vars level trail.now.steps self.new.seen.items self.new.here.items
+            self.new.pending }
         ensures listed { AreListed trail.now.vars self.new.seen.items self.new.here.items self.new.touched.items }
         ensures seen { OnOk result (self.new.seen.items ≡ slice_set self.old.seen.items var true) }
         ensures more { self.old.pending ≤ self.new.pending }
@@ -79,9 +82,11 @@ impl Marks {
     /// The variables of the clause are marked too.
     pub fn mark(&mut self, trail: &Trail, level: u32, clause: &[PackedLit]) -> Result<(), NoMemory>
         requires form { IsClause trail.now.vars clause.now }
-        requires marks { AreMarks trail.now.vars level trail.now.steps self.old.seen.items self.old.here.items self.old.pending }
+        requires marks { AreMarks trail.now.vars level trail.now.steps self.old.seen.items self.old.here.items
+            self.old.pending }
         requires listed { AreListed trail.now.vars self.old.seen.items self.old.here.items self.old.touched.items }
-        ensures marks { AreMarks trail.now.vars level trail.now.steps self.new.seen.items self.new.here.items self.new.pending }
+        ensures marks { AreMarks trail.now.vars level trail.now.steps self.new.seen.items self.new.here.items
+            self.new.pending }
         ensures listed { AreListed trail.now.vars self.new.seen.items self.new.here.items self.new.touched.items }
         ensures seen { OnOk result (MarksClause self.old.seen.items self.new.seen.items clause.now) }
         ensures more { self.old.pending ≤ self.new.pending }
@@ -95,9 +100,11 @@ impl Marks {
     /// A variable is marked no more.
     pub fn unmark(&mut self, trail: &Trail, level: u32, var: u32)
         requires range { var ≤ trail.now.vars }
-        requires marks { AreMarks trail.now.vars level trail.now.steps self.old.seen.items self.old.here.items self.old.pending }
+        requires marks { AreMarks trail.now.vars level trail.now.steps self.old.seen.items self.old.here.items
+            self.old.pending }
         requires listed { AreListed trail.now.vars self.old.seen.items self.old.here.items self.old.touched.items }
-        ensures marks { AreMarks trail.now.vars level trail.now.steps self.new.seen.items self.new.here.items self.new.pending }
+        ensures marks { AreMarks trail.now.vars level trail.now.steps self.new.seen.items self.new.here.items
+            self.new.pending }
         ensures listed { AreListed trail.now.vars self.new.seen.items self.new.here.items self.new.touched.items }
         ensures seen { self.new.seen.items ≡ slice_set self.old.seen.items var false }
         ensures less { marked self.old.here.items var ≡ true → self.new.pending + 1 ≡ self.old.pending }
@@ -116,7 +123,8 @@ impl Marks {
     pub fn is_below(&self, var: u32) -> bool
         requires seen_room { var < length self.now.seen.items }
         requires here_room { var < length self.now.here.items }
-        ensures { IsTrue result ↔ ((marked self.now.seen.items var ≡ true) × (marked self.now.here.items var ≡ false)) }
+        ensures { IsTrue result
+            ↔ ((marked self.now.seen.items var ≡ true) × (marked self.now.here.items var ≡ false)) }
     {
         self.seen[var as usize] && !self.here[var as usize]
     }

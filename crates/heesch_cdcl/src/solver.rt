@@ -1,5 +1,6 @@
 //! The solver: its public calls.
-ghost use Rattle.std.specs.Prelude.{◌≡◌, ◌≢◌, ℕ, ◌+◌, ◌<◌, ◌≤◌, ◌^◌, [], ◌∷◌, ◌++◌, length, None, IfOk, OnOk, OnErr, IsSomeAnd, MatchOption};
+ghost use Rattle.std.specs.Prelude.{◌≡◌, ◌≢◌, ℕ, ◌+◌, ◌<◌, ◌≤◌, ◌^◌, [], ◌∷◌, ◌++◌, length, None, IfOk, OnOk, OnErr};
+ghost use Rattle.std.specs.Prelude.{IsSomeAnd, MatchOption};
 ghost use Rattle.heesch_cnf.specs.Clauses.{IsClause, AreClauses, assignment_of};
 ghost use Rattle.heesch_cnf.specs.Lines.{FinalHolds};
 ghost use Rattle.heesch_trail.specs.State.{values_of};
@@ -27,8 +28,8 @@ pub enum Found {
     Spent,
 }
 
-/// A formula, the log of what was learnt from it and given to it, and the state of the search. The clauses of the formula
-/// are those of the trail before those of the log.
+/// A formula, the log of what was learnt from it and given to it, and the state of the search. The clauses of the
+/// formula are those of the trail before those of the log.
 #[derive(Drop)]
 pub struct Solver {
     turns: u32,
@@ -67,7 +68,14 @@ impl Solver {
     pub fn open(alloc: Global, formula: Formula, turns: u32) -> Result<Solver, NoMemory>
         requires turns { 1 ≤ turns }
         requires room { length formula.clauses + turns < 2 ^ 31 }
-        ensures opened { IfOk result (λ s. s ≡ record { vars = formula.vars; clauses = formula.clauses; turns = turns; log = record { lines = []; last = None }; model = None }) }
+        ensures opened { IfOk result
+            (λ s. s ≡ record {
+              vars = formula.vars;
+              clauses = formula.clauses;
+              turns = turns;
+              log = record { lines = []; last = None };
+              model = None;
+            }) }
         ensures valid { IfOk result IsSolver }
     {
         Solver::over(alloc, FlatFormula::of(alloc, &formula)?, turns)
@@ -78,7 +86,14 @@ impl Solver {
     pub fn over(alloc: Global, formula: FlatFormula, turns: u32) -> Result<Solver, NoMemory>
         requires turns { 1 ≤ turns }
         requires room { length formula.clauses + turns < 2 ^ 31 }
-        ensures opened { IfOk result (λ s. s ≡ record { vars = formula.vars; clauses = formula.clauses; turns = turns; log = record { lines = []; last = None }; model = None }) }
+        ensures opened { IfOk result
+            (λ s. s ≡ record {
+              vars = formula.vars;
+              clauses = formula.clauses;
+              turns = turns;
+              log = record { lines = []; last = None };
+              model = None;
+            }) }
         ensures valid { IfOk result IsSolver }
     {
         let empty = first_empty(&formula);
@@ -98,21 +113,24 @@ impl Solver {
         })
     }
 
-    /// A model, with one value for each variable in number order, which the solver keeps; a refutation, where the final
-    /// line stands in the log; or Spent, where the log has `turns` lines and no final line holds over it. Learn lines alone
-    /// may be appended, also before want of memory, after which the solver may be asked again. An empty clause of the
-    /// formula refutes at once, and the final line has the least number of one. With more turns than 3 to the power of the
-    /// number of variables the search is never spent. The same formula, turns and given clauses give the same log.
+    /// A model, with one value for each variable in number order, which the solver keeps; a refutation, where the
+    /// final line stands in the log; or Spent, where the log has `turns` lines and no final line holds over it. Learn
+    /// lines alone may be appended, also before want of memory, after which the solver may be asked again. An empty
+    /// clause of the formula refutes at once, and the final line has the least number of one. With more turns than 3
+    /// to the power of the number of variables the search is never spent. The same formula, turns and given clauses
+    /// give the same log.
     ///
     /// The cost is that of the search: for an assignment the clauses watched by the literal made false; for a decision
-    /// the clauses with at most one negative literal, whose variable is true, each up to a true literal or to as many open
-    /// ones as the best has; for a conflict the clauses resolved or looked at to shorten the learnt clause, the assignments
-    /// after the earliest of its variables, the assignments taken back, the sorting of the learnt clause, and a look at
-    /// each clause learnt since the level gone back to was left. All variables are looked at once, for a model.
+    /// the clauses with at most one negative literal, whose variable is true, each up to a true literal or to as many
+    /// open ones as the best has; for a conflict the clauses resolved or looked at to shorten the learnt clause, the
+    /// assignments after the earliest of its variables, the assignments taken back, the sorting of the learnt clause,
+    /// and a look at each clause learnt since the level gone back to was left. All variables are looked at once, for a
+    /// model.
     pub fn next(&mut self) -> Result<Found, NoMemory>
         ensures found { IfOk result (IsFound self.new) }
         ensures ends { 3 ^ self.old.vars < self.old.turns → IfOk result (λ found. found ≢ Found.Spent) }
-        ensures at_once { (n : ℕ) → IsFirstEmpty self.old.clauses n → IfOk result (IsRefutedAtOnce n self.old self.new) }
+        ensures at_once { (n : ℕ) → IsFirstEmpty self.old.clauses n
+            → IfOk result (IsRefutedAtOnce n self.old self.new) }
         ensures learns { LearnsMore self.old.log.lines self.new.log.lines }
         ensures same { SameProblem self.old self.new }
         ensures err { OnErr result (IsLeftOpen self.old self.new) }
@@ -177,12 +195,21 @@ impl Solver {
     }
 
     /// The clause, which the kept model makes false, stands in a Given line, and the model is kept no more; at want of
-    /// memory nothing has changed. The cost is the clause's length and the number of the assignments, which are taken back.
+    /// memory nothing has changed. The cost is the clause's length and the number of the assignments, which are taken
+    /// back.
     pub fn give(&mut self, clause: Lits) -> Result<(), NoMemory>
         requires form { IsClause self.old.vars clause }
         requires refuted { IsSomeAnd self.old.model (λ values. IsMadeFalse (assignment_of values) clause) }
         requires room { length self.old.log.lines < self.old.turns }
-        ensures ok { OnOk result (self.new ≡ record self.old { log = record { lines = self.old.log.lines ++ Line.Given clause ∷ []; last = self.old.log.last }; model = None }) }
+        ensures ok { OnOk result
+            (self.new ≡ record self.old {
+              log = record {
+                lines = self.old.log.lines ++ Line.Given clause
+                    ∷ [];
+                last = self.old.log.last;
+              };
+              model = None;
+            }) }
         ensures err { OnErr result (self.new ≡ self.old) }
         ensures valid { IsSolver self.new }
     {

@@ -7,8 +7,8 @@ use heesch_io::NoMemory;
 use heesch_trail::Trail;
 use std::alloc::Global;
 
-/// For the variables that were asked about, whether they follow from the marked ones: each other variable of the reason
-/// is marked, was assigned at level 0, or follows in turn. All of this is a heuristic: no answer rests on it.
+/// For the variables that were asked about, whether they follow from the marked ones: each other variable of the
+/// reason is marked, was assigned at level 0, or follows in turn. All of this is a heuristic: no answer rests on it.
 #[derive(Drop)]
 pub struct Verdicts {
     known: Vec<Option<bool>>,
@@ -57,8 +57,8 @@ impl Verdicts {
         Ok(verdict)
     }
 
-    /// Whether the variable follows from those that are seen, by at most `depth` reasons in a row. The cost is the lengths
-    /// of the reasons of the variables that weren't asked about before.
+    /// Whether the variable follows from those that are seen, by at most `depth` reasons in a row. The cost is the
+    /// lengths of the reasons of the variables that weren't asked about before.
     pub fn follows(
         &mut self,
         trail: &Trail,

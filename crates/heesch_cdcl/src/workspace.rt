@@ -20,7 +20,9 @@ impl Workspace {
     /// Nothing is marked.
     pub fn new(alloc: Global, covers: Covers, vars: u32) -> Result<Workspace, NoMemory>
         ensures covers { IfOk result (λ w. w.decisions.covers ≡ covers) }
-        ensures clear { IfOk result (λ w. AreClear vars w.resolution.marks.seen.items w.resolution.marks.here.items w.resolution.marks.touched.items w.resolution.marks.pending) }
+        ensures clear { IfOk result
+            (λ w. AreClear vars w.resolution.marks.seen.items w.resolution.marks.here.items
+            w.resolution.marks.touched.items w.resolution.marks.pending) }
     {
         Ok(Workspace {
             decisions: Decisions::new(covers),

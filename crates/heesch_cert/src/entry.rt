@@ -40,7 +40,8 @@ pub enum Bare {
     Open,
 }
 
-/// How the search for a periodic cover of one triple ended: with a refutation, or with as many steps as the limit on turns.
+/// How the search for a periodic cover of one triple ended: with a refutation, or with as many steps as the limit on
+/// turns.
 #[derive(Drop)]
 pub struct TripleProof {
     pub triple: Triple,

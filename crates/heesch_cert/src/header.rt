@@ -12,8 +12,8 @@ pub enum Subject {
     Given,
 }
 
-/// The first line of a catalogue: whether it is brief (verdicts without evidence), of which grid and polyforms, and under
-/// which limits.
+/// The first line of a catalogue: whether it is brief (verdicts without evidence), of which grid and polyforms, and
+/// under which limits.
 #[derive(Clone, Copy, Debug, PartialEq, Eq)]
 pub struct Header {
     pub brief: bool,

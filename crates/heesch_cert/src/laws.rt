@@ -1,5 +1,6 @@
 //! What certificates mean, each the contract of a function that does nothing.
-ghost use Rattle.heesch_cert.specs.Statements.{ModelWhereCoronas, ModelsAreCoronas, RefutedMeansNone, RefutedTorusMeansNoCover, TrueEntriesAreRight, PlainTilingsAreKept};
+ghost use Rattle.heesch_cert.specs.Statements.{ModelWhereCoronas, ModelsAreCoronas, RefutedMeansNone};
+ghost use Rattle.heesch_cert.specs.Statements.{RefutedTorusMeansNoCover, TrueEntriesAreRight, PlainTilingsAreKept};
 ghost use Rattle.heesch_cert.specs.Examples.{AreAsExpected};
 
 /// The chosen layers of a model of the corona formula are coronas.
@@ -27,13 +28,14 @@ pub fn true_entries_are_right()
     ensures { TrueEntriesAreRight }
 {}
 
-/// A true entry of a shape whose plain tiling the limit on domains admits is a tiling of that kind, and never undecided.
+/// A true entry of a shape whose plain tiling the limit on domains admits is a tiling of that kind, and never
+/// undecided.
 pub fn plain_tilings_are_kept()
     ensures { PlainTilingsAreKept }
 {}
 
-/// On the square grid the entry of the single square, which tiles by translations, is true under the default limits; on
-/// the grid of triangles that of the single triangle, which is undecided by size, under the least limits.
+/// On the square grid the entry of the single square, which tiles by translations, is true under the default limits;
+/// on the grid of triangles that of the single triangle, which is undecided by size, under the least limits.
 pub fn small_entries_are_true()
     ensures { AreAsExpected }
 {}

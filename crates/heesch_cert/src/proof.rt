@@ -9,9 +9,9 @@ use std::alloc::Global;
 /// Cells in order.
 pub type Cells = Seq<Cell>;
 
-/// A cut of a corona formula: at this level and below, the placements of the border, all chosen, would enclose the hole, so
-/// one of them isn't chosen, or a placement of the level or below that fills some of the hole is. The hole's cells are in
-/// cell order, the border is by numbers of variables, rising.
+/// A cut of a corona formula: at this level and below, the placements of the border, all chosen, would enclose the
+/// hole, so one of them isn't chosen, or a placement of the level or below that fills some of the hole is. The hole's
+/// cells are in cell order, the border is by numbers of variables, rising.
 #[derive(Drop)]
 pub struct Cut {
     pub level: u32,

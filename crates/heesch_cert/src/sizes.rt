@@ -5,8 +5,8 @@ ghost use Rattle.heesch_cert.specs.Sizes.{most_cells, HasGrid};
 use heesch_cnf::Version;
 use heesch_grid::GridName;
 
-/// The greatest size of a catalogue of this version: the number of cells of its polyforms. It is 0 where the version has no
-/// catalogue of the grid.
+/// The greatest size of a catalogue of this version: the number of cells of its polyforms. It is 0 where the version
+/// has no catalogue of the grid.
 pub fn most_cells(version: Version, grid: GridName) -> u32
     ensures { result ≡ most_cells version grid }
 {

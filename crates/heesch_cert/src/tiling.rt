@@ -7,7 +7,8 @@ use std::marker::Model;
 /// Isometries in order.
 pub type Isos = Seq<Iso>;
 
-/// A lattice, and the isometries that carry a polyform to the tiles whose translates by lattice vectors are the tiling.
+/// A lattice, and the isometries that carry a polyform to the tiles whose translates by lattice vectors are the
+/// tiling.
 #[derive(Drop)]
 pub struct Tiling {
     pub triple: Triple,

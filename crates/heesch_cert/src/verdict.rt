@@ -31,7 +31,8 @@ pub enum Verdict {
         domain: u32,
         classes: u32,
     },
-    /// Its Heesch number is h, and m is the least number of coronas, holes allowed, that it doesn't have. It doesn't tile.
+    /// Its Heesch number is h, and m is the least number of coronas, holes allowed, that it doesn't have. It doesn't
+    /// tile.
     Heesch {
         h: u32,
         m: u32,

@@ -13,8 +13,7 @@ use crate::reading::{Reading, gather};
 use heesch_grid::Grid;
 use heesch_io::{IoStop, NoMemory, Seq, Source};
 use heesch_pool::{Crew, Gate, run_beside};
-use heesch_reader::Item;
-use heesch_reader::Stream;
+use heesch_reader::{Item, Stream};
 use std::thread::Threads;
 
 /// How many items of a round are gathered before the first of them are audited.
@@ -46,8 +45,8 @@ fn first_few(lacking: usize) -> usize
     FIRST.min(lacking)
 }
 
-/// Whether others are gathered while these items are audited: there are several workers, more may follow, and these are
-/// entries in their places, so many, and fewer than are lacking.
+/// Whether others are gathered while these items are audited: there are several workers, more may follow, and these
+/// are entries in their places, so many, and fewer than are lacking.
 fn goes_on_beside(
     front: &[Item],
     placed: u32,
@@ -108,22 +107,32 @@ fn audit_and_gather<G: Grid + Send + Sync, T: Threads + Sync, R: Source, H: Gate
     requires may { MayGather (R.left source.old) stream.old [] Reading.More }
     ensures len { IfOk result.0 (λ audits. before + vec_len audits ≡ until) }
     ensures fronts { IfOk result.0 (λ audits. AreAuditsBehind judge.now.header before front.now audits.items) }
-    ensures gathers { IfOk result.1 (λ r. Gathers (R.left source.old) (R.left source.new) stream.old stream.new [] r.items left Reading.More r.reading) }
+    ensures gathers { IfOk result.1
+        (λ r. Gathers (R.left source.old)
+        (R.left source.new) stream.old stream.new [] r.items left Reading.More r.reading) }
     ensures audits { IfOk result.1 (λ r. AreAuditsBehind judge.now.header until r.items r.audits.items) }
     ensures no_further { StopsInTime (R.left source.old) (R.left source.new) stream.old [] Reading.More left }
     ensures failed { result.1 ≡ Err IoStop.Failed → Rose (R.faults source.old) (R.faults source.new) }
     ensures later { R.faults source.old ≤ R.faults source.new }
 {
     let mut fronts = || -> Result<Vec<bool>, NoMemory>
-        requires { (geometry_of judge.now.header.grid ≡ G.geometry) × AreLimits judge.now.header.limits × AllByRecursion IsFit front.now × (before ≤ until) × (until ≤ before + length front.now) × ArePlaced judge.now.header before (take (until - before) front.now) }
+        requires { (geometry_of judge.now.header.grid ≡ G.geometry) × AreLimits judge.now.header.limits
+            × AllByRecursion IsFit front.now × (before ≤ until) × (until ≤ before + length front.now)
+            × ArePlaced judge.now.header before (take (until - before) front.now) }
         ensures len { IfOk result (λ audits. before + vec_len audits ≡ until) }
-        ensures audits { IfOk result (λ audits. AreAuditsBehind judge.entry.now.header before front.entry.now audits.items) }
+        ensures audits { IfOk result
+            (λ audits. AreAuditsBehind judge.entry.now.header before front.entry.now audits.items) }
     { judge.audits_between(crew, before, until, front) };
     let mut others = || -> Result<Round, IoStop>
-        requires { (geometry_of judge.now.header.grid ≡ G.geometry) × HasShapes judge.now.header judge.now.header.subject judge.now.shapes × AreLimits judge.now.header.limits × MayGather (R.left source.now) stream.now [] readings.More }
-        ensures gathers { IfOk result (λ r. Gathers (R.left source.entry.now) (R.left source.exit.now) stream.entry.now stream.exit.now [] r.items left readings.More r.reading) }
+        requires { (geometry_of judge.now.header.grid ≡ G.geometry)
+            × HasShapes judge.now.header judge.now.header.subject judge.now.shapes × AreLimits judge.now.header.limits
+            × MayGather (R.left source.now) stream.now [] readings.More }
+        ensures gathers { IfOk result
+            (λ r. Gathers (R.left source.entry.now)
+            (R.left source.exit.now) stream.entry.now stream.exit.now [] r.items left readings.More r.reading) }
         ensures audits { IfOk result (λ r. AreAuditsBehind judge.entry.now.header until r.items r.audits.items) }
-        ensures no_further { StopsInTime (R.left source.entry.now) (R.left source.exit.now) stream.entry.now [] readings.More left }
+        ensures no_further { StopsInTime (R.left source.entry.now)
+            (R.left source.exit.now) stream.entry.now [] readings.More left }
         ensures failed { result ≡ Err IoStop.Failed → Rose (R.faults source.entry.now) (R.faults source.exit.now) }
         ensures later { R.faults source.entry.now ≤ R.faults source.exit.now }
     {
@@ -155,7 +164,9 @@ pub(crate) fn round_from<G: Grid + Send + Sync, T: Threads + Sync, R: Source, H:
     requires shapes { HasShapes judge.now.header judge.now.header.subject judge.now.shapes }
     requires limits { AreLimits judge.now.header.limits }
     requires may { MayGather (R.left source.old) stream.old items came_to }
-    ensures gathers { IfOk result (λ r. Gathers (R.left source.old) (R.left source.new) stream.old stream.new items r.items lacking came_to r.reading) }
+    ensures gathers { IfOk result
+        (λ r. Gathers (R.left source.old)
+        (R.left source.new) stream.old stream.new items r.items lacking came_to r.reading) }
     ensures audits { IfOk result (λ r. AreAuditsBehind judge.now.header before r.items r.audits.items) }
     ensures no_further { StopsInTime (R.left source.old) (R.left source.new) stream.old items came_to lacking }
     ensures failed { result ≡ Err IoStop.Failed → Rose (R.faults source.old) (R.faults source.new) }

@@ -8,7 +8,8 @@ ghost use Rattle.heesch_cert.specs.Sizes.{IsSubject};
 ghost use Rattle.heesch_io.specs.Input.{IsAllOf, ReadsNoFurther};
 ghost use Rattle.heesch_check.specs.Answers.{IsChecked};
 ghost use Rattle.heesch_check.specs.Judging.{HasShapes};
-ghost use Rattle.heesch_check.specs.Reading.{AnswersInTime, FaultsFirst, IsUnderway, BeginWith, IsOpened, DecideNothing};
+ghost use Rattle.heesch_check.specs.Reading.{AnswersInTime, FaultsFirst, IsUnderway, BeginWith, IsOpened};
+ghost use Rattle.heesch_check.specs.Reading.{DecideNothing};
 
 use crate::ahead::{FIRST, round_from, round_size};
 use crate::answers::Checked;
@@ -20,27 +21,26 @@ use heesch_io::{IoStop, NoMemory, Seq, Source};
 use heesch_kite::on_grid;
 use heesch_listing::all_shapes;
 use heesch_pool::{Crew, Gate};
-use heesch_reader::Item;
-use heesch_reader::Stream;
+use heesch_reader::{Item, Stream};
 use std::thread::Threads;
 
 /// Whether what the source has left is a valid catalogue, else its first invalid part.
 ///
 /// `TooLong` comes where the first 2^40 bytes decide no invalid part and more follow.
 ///
-/// Entries are judged by rounds: items are gathered from as many pieces as that takes until there are 256, the input is
-/// at fault or ends, or as much is read as may be; the entries that are in their places are audited by the workers,
-/// each once, and the answer is that of the first item at fault. By one worker a round has 64 items. By more, the first
-/// 64 of a round are audited while the caller's thread gathers the others, which are audited beside them, so that there
-/// may be twice as many threads as workers.
+/// Entries are judged by rounds: items are gathered from as many pieces as that takes until there are 256, the input
+/// is at fault or ends, or as much is read as may be; the entries that are in their places are audited by the workers,
+/// each once, and the answer is that of the first item at fault. By one worker a round has 64 items. By more, the
+/// first 64 of a round are audited while the caller's thread gathers the others, which are audited beside them, so
+/// that there may be twice as many threads as workers.
 ///
-/// The gate is told of each entry's number, from 0. Where one of the entries that are audited at once has the proofs of
-/// several triples, these are audited in portions, and the gate is told of the portions' numbers, from that of the
+/// The gate is told of each entry's number, from 0. Where one of the entries that are audited at once has the proofs
+/// of several triples, these are audited in portions, and the gate is told of the portions' numbers, from that of the
 /// first of them on. Two threads that audit the two parts of a round may tell it of the same worker.
 ///
-/// Reading stops with the round that decides the answer, and no more is held than the items of a round and those of one
-/// piece. The free list of a size is made once, by the workers, before the first round, but where the input is at fault
-/// with nothing whole behind its header, or with a brief entry.
+/// Reading stops with the round that decides the answer, and no more is held than the items of a round and those of
+/// one piece. The free list of a size is made once, by the workers, before the first round, but where the input is at
+/// fault with nothing whole behind its header, or with a brief entry.
 ///
 /// Errors: `Failed` only where the source's count of faults rose; `NoMemory` where memory was refused. At an error too
 /// the source has given the bytes of some pieces, front first, and no piece beyond the round at hand.
@@ -117,7 +117,8 @@ fn check_named<T: Threads + Sync, R: Source, H: Gate + Sync>(
     opening: Opening,
 ) -> Result<Checked, IoStop>
     requires opened { IsOpened (R.left source.old) opening.header opening.items opening.stream opening.reading }
-    ensures in_time { AnswersInTime (R.left source.old) (R.left source.new) opening.items opening.stream opening.reading result }
+    ensures in_time { AnswersInTime (R.left source.old)
+        (R.left source.new) opening.items opening.stream opening.reading result }
     ensures failed { result ≡ Err IoStop.Failed → Rose (R.faults source.old) (R.faults source.new) }
     ensures later { R.faults source.old ≤ R.faults source.new }
 {
@@ -135,7 +136,8 @@ fn check_under<G: Grid + Send + Sync, T: Threads + Sync, R: Source, H: Gate + Sy
 ) -> Result<Checked, IoStop>
     requires grid { geometry_of opening.header.grid ≡ G.geometry }
     requires opened { IsOpened (R.left source.old) opening.header opening.items opening.stream opening.reading }
-    ensures in_time { AnswersInTime (R.left source.old) (R.left source.new) opening.items opening.stream opening.reading result }
+    ensures in_time { AnswersInTime (R.left source.old)
+        (R.left source.new) opening.items opening.stream opening.reading result }
     ensures failed { result ≡ Err IoStop.Failed → Rose (R.faults source.old) (R.faults source.new) }
     ensures later { R.faults source.old ≤ R.faults source.new }
 {

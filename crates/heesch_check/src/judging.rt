@@ -51,7 +51,8 @@ impl<G: Grid + Send + Sync> Judge<G> {
     /// Whether a shape of these cells may stand behind so many entries.
     fn is_in_place(&self, entries: u32, cells: &[Cell]) -> bool
         requires { HasShapes self.now.header self.now.header.subject self.now.shapes }
-        ensures place { IsTrue result ↔ IsInPlace (geometry_of self.now.header.grid) self.now.header.subject entries cells.now }
+        ensures place { IsTrue result
+            ↔ IsInPlace (geometry_of self.now.header.grid) self.now.header.subject entries cells.now }
         ensures room { IsTrue result → entries + 1 < 2 ^ 32 }
     {
         let Some(shapes) = &self.shapes else {
@@ -189,8 +190,8 @@ impl<G: Grid + Send + Sync> Judge<G> {
         self.audits_between(crew, before, until, items)
     }
 
-    /// The answer where a line begins as the last one does in an input that is longer than is read. It comes too early,
-    /// with this answer, unless the entries so far are all.
+    /// The answer where a line begins as the last one does in an input that is longer than is read. It comes too
+    /// early, with this answer, unless the entries so far are all.
     fn answer_early(&self, line: u64, early: Checked) -> Checked
         requires { HasShapes self.now.header self.now.header.subject self.now.shapes }
         ensures { AnswersEarly self.now.header self.now.entries line early result }
@@ -242,7 +243,8 @@ impl<G: Grid + Send + Sync> Judge<G> {
         requires limits { AreLimits self.old.header.limits }
         requires fit { AllByRecursion IsFit items.now }
         requires audits { AreAuditsBehind self.old.header self.old.entries items.now audits.now }
-        ensures judges { IfOk result (JudgesRound self.old.header self.old.entries self.new.entries items.now reading) }
+        ensures judges { IfOk result
+            (JudgesRound self.old.header self.old.entries self.new.entries items.now reading) }
         ensures kept { self.new ≡ record self.old { entries = self.new.entries } }
     {
         let good = leading(audits);

@@ -3,12 +3,12 @@ ghost use Rattle.std.specs.Prelude.{◌≡◌, ◌≢◌, ◌≤◌, ◌++◌, �
 ghost use Rattle.heesch_io.specs.Causes.{Rose};
 ghost use Rattle.heesch_reader.specs.declared.item.Item.{Item as ItemOf};
 ghost use Rattle.heesch_io.specs.Input.{ReadsNoFurther};
-ghost use Rattle.heesch_check.specs.Reading.{Reads, Gathers, FirstReads, MayRead, MayGather, IsReading, DecideNothing, StopsGathering};
+ghost use Rattle.heesch_check.specs.Reading.{Reads, Gathers, FirstReads, MayRead, MayGather, IsReading, DecideNothing};
+ghost use Rattle.heesch_check.specs.Reading.{StopsGathering};
 ghost use Rattle.heesch_reader.specs.Taking.{HasRead, TakesOnePiece};
 
 use heesch_io::{IoStop, Seq, Source};
-use heesch_reader::{AtHand, Item, Part};
-use heesch_reader::{Stream, StreamStop, Taken};
+use heesch_reader::{AtHand, Item, Part, Stream, StreamStop, Taken};
 
 /// What one step of reading came to.
 #[derive(Clone, Copy, Debug, PartialEq, Eq)]
@@ -29,7 +29,8 @@ pub(crate) fn read<R: Source>(
     source: &mut R,
     items: &mut Seq<Item>,
 ) -> Result<Reading, IoStop>
-    ensures ok { IfOk result (Reads (R.left source.old) (R.left source.new) stream.old stream.new items.old items.new) }
+    ensures ok { IfOk result
+        (Reads (R.left source.old) (R.left source.new) stream.old stream.new items.old items.new) }
     ensures one_piece { TakesOnePiece (R.left source.old) (R.left source.new) }
     ensures failed { result ≡ Err IoStop.Failed → Rose (R.faults source.old) (R.faults source.new) }
     ensures later { R.faults source.old ≤ R.faults source.new }
@@ -56,8 +57,11 @@ pub(crate) fn gather<R: Source>(
     enough: usize,
 ) -> Result<Reading, IoStop>
     requires may { MayGather (R.left source.old) stream.old items.old came_to }
-    ensures ok { IfOk result (Gathers (R.left source.old) (R.left source.new) stream.old stream.new items.old items.new enough came_to) }
-    ensures no_further { (first : Option (List ℕ)) (found : List ItemOf) → IsReading first (R.left source.old) (found ++ items.old) stream.old came_to → StopsGathering first (R.left source.old) (R.left source.new) found items.old enough }
+    ensures ok { IfOk result
+        (Gathers (R.left source.old) (R.left source.new) stream.old stream.new items.old items.new enough came_to) }
+    ensures no_further { (first : Option (List ℕ)) (found : List ItemOf)
+        → IsReading first (R.left source.old) (found ++ items.old) stream.old came_to
+        → StopsGathering first (R.left source.old) (R.left source.new) found items.old enough }
     ensures failed { result ≡ Err IoStop.Failed → Rose (R.faults source.old) (R.faults source.new) }
     ensures later { R.faults source.old ≤ R.faults source.new }
 {
@@ -83,7 +87,8 @@ pub(crate) fn read_first<R: Source>(
     requires may { MayRead (R.left source.old) stream.old }
     ensures ok { IfOk result (FirstReads (R.left source.old) (R.left source.new) stream.old stream.new items.new) }
     ensures some { IfOk result (λ reading. reading ≡ Reading.More → items.new ≢ []) }
-    ensures no_further { (first : Option (List ℕ)) → HasRead first (R.left source.old) [] stream.old → ReadsNoFurther DecideNothing first (R.left source.new) }
+    ensures no_further { (first : Option (List ℕ)) → HasRead first (R.left source.old) [] stream.old
+        → ReadsNoFurther DecideNothing first (R.left source.new) }
     ensures failed { result ≡ Err IoStop.Failed → Rose (R.faults source.old) (R.faults source.new) }
     ensures later { R.faults source.old ≤ R.faults source.new }
 {

@@ -42,7 +42,8 @@ impl<'a, G: Grid, R: Threads + Sync + Copy> Answer<bool> for PortionOf<'a, G, R>
 
     ghost accepts = { λ s _. nat_lt 0 s.portions };
 
-    ghost gives = { λ s number holds. IfOk holds (IsPortionOf G.geometry s.limits s.items.now s.portions (number - s.first)) };
+    ghost gives = { λ s number holds. IfOk holds
+        (IsPortionOf G.geometry s.limits s.items.now s.portions (number - s.first)) };
 
     ghost ready = { λ s. IsSync R.row × AreLimits s.limits × AllByRecursion IsFit s.items.now };
 
@@ -100,7 +101,9 @@ fn all_hold(portions: &[bool]) -> bool
 fn joined(alloc: Global, answers: &[bool], portions: usize) -> Result<Vec<bool>, NoMemory>
     requires { 0 < portions }
     ensures len { IfOk result (λ audits. vec_len audits ≡ chunk_count (length answers.now) portions) }
-    ensures each { IfOk result (λ audits. (i : ℕ) (holds : Bool) → slice_get audits.items i ≡ Some holds → holds ≡ list_all (λ x. x) (slice_chunk answers.now portions i)) }
+    ensures each { IfOk result
+        (λ audits. (i : ℕ) (holds : Bool) → slice_get audits.items i ≡ Some holds
+        → holds ≡ list_all (λ x. x) (slice_chunk answers.now portions i)) }
 {
     Ok(answers.chunks(portions).map(all_hold).collect(alloc)?)
 }

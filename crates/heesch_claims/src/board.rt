@@ -1,5 +1,6 @@
 //! The board that runs the machine among threads.
-ghost use Rattle.std.specs.Prelude.{◌≡◌, ◌<◌, ◌≤◌, ◌+◌, ◌-◌, ◌^◌, ◌||◌, ℕ, [], ◌∷◌, ◌++◌, IfOk, OnErr, IfSome, IfNone, IsNone, true, false};
+ghost use Rattle.std.specs.Prelude.{◌≡◌, ◌<◌, ◌≤◌, ◌+◌, ◌-◌, ◌^◌, ◌||◌, ℕ, [], ◌∷◌, ◌++◌, IfOk, OnErr, IfSome, IfNone};
+ghost use Rattle.std.specs.Prelude.{IsNone, true, false};
 ghost use Rattle.heesch_claims.specs.Machine.{times};
 ghost use Rattle.heesch_claims.specs.Board.{BelongsTo, IsSamePlace, DrawsAsMachine, EachOnceBelow};
 
@@ -34,7 +35,8 @@ impl Model for Board {
 
     ghost view = { λ b. board_view b.table.shared.table_id b.count b.made };
 
-    ghost invariant = { λ b. (b.table.shared.table_id.words ≡ 1) × (b.table.shared.table_id.slots ≡ 0) × (b.table.shared.key ≡ b.count) };
+    ghost invariant = { λ b. (b.table.shared.table_id.words ≡ 1) × (b.table.shared.table_id.slots ≡ 0)
+        × (b.table.shared.key ≡ b.count) };
 }
 
 /// A place at a board. Contracts see the numbers that were claimed from it, its shares, and whether it is ended.
@@ -54,9 +56,11 @@ impl Model for Seat {
 
     ghost Value = { SeatView };
 
-    ghost view = { λ s. seat_view s.token.table_id s.token.me.0.count s.token.id s.token.me.0.tickets s.shares s.ended };
+    ghost view = { λ s. seat_view s.token.table_id s.token.me.0.count s.token.id s.token.me.0.tickets s.shares
+        s.ended };
 
-    ghost invariant = { λ s. (s.token.me.1 ≡ []) × (s.token.me.0.shares ≡ s.shares) × (s.token.me.0.ended ≡ s.ended) × (0 < s.shares) };
+    ghost invariant = { λ s. (s.token.me.1 ≡ []) × (s.token.me.0.shares ≡ s.shares) × (s.token.me.0.ended ≡ s.ended)
+        × (0 < s.shares) };
 }
 
 /// What a seat had when its board was closed.
@@ -70,7 +74,8 @@ impl Board {
     /// A board whose word is 0, and its first seat, which has 64 shares and no number.
     pub fn new(alloc: Global, count: u32) -> Result<(Board, Seat), NoMemory>
         ensures board { IfOk result (λ b. (b.0.count ≡ count) × (b.0.made ≡ 1)) }
-        ensures seat { IfOk result (λ b. BelongsTo b.1 b.0 × (b.1.tickets ≡ []) × (b.1.shares ≡ ALL_SHARES) × (b.1.ended ≡ false)) }
+        ensures seat { IfOk result
+            (λ b. BelongsTo b.1 b.0 × (b.1.tickets ≡ []) × (b.1.shares ≡ ALL_SHARES) × (b.1.ended ≡ false)) }
     {
         let (table, token) = Table::of_words(alloc, &[0], &count)?;
         let board = Board {
@@ -93,8 +98,8 @@ impl Board {
         self.count
     }
 
-    /// A new seat with one of the shares of `seat`, which isn't ended and has at least 2. A board makes 64 seats at most.
-    /// It is one load.
+    /// A new seat with one of the shares of `seat`, which isn't ended and has at least 2. A board makes 64 seats at
+    /// most. It is one load.
     pub fn split(&mut self, seat: &mut Seat) -> Result<Seat, NoMemory>
         requires seat { BelongsTo seat.old self.old }
         requires open { seat.old.ended ≡ false }
@@ -123,7 +128,9 @@ impl Board {
     pub fn draw(&self, seat: &mut Seat) -> Option<u32>
         requires { BelongsTo seat.old self.now }
         ensures place { IsSamePlace seat.old seat.new × (seat.new.shares ≡ seat.old.shares) }
-        ensures ticket { IfSome result (λ t. (t < self.now.count) × ((x : ℕ) → 0 < times x seat.old.tickets → x < t) × (seat.new.tickets ≡ seat.old.tickets ++ t ∷ []) × (seat.old.ended ≡ false) × (seat.new.ended ≡ false)) }
+        ensures ticket { IfSome result
+            (λ t. (t < self.now.count) × ((x : ℕ) → 0 < times x seat.old.tickets → x < t)
+            × (seat.new.tickets ≡ seat.old.tickets ++ t ∷ []) × (seat.old.ended ≡ false) × (seat.new.ended ≡ false)) }
         ensures end { IfNone result ((seat.new.tickets ≡ seat.old.tickets) × (seat.new.ended ≡ true)) }
         ensures ended { seat.old.ended ≡ true → IsNone result }
         // what is told, and what becomes of the seat, is a draw of the machine from a state that it reaches
@@ -148,7 +155,11 @@ impl Board {
         requires into { BelongsTo into.old self.old }
         requires from { BelongsTo from self.old }
         ensures board { self.new ≡ self.old }
-        ensures into { into.new ≡ record into.old { tickets = into.old.tickets ++ from.tickets; shares = into.old.shares + from.shares; ended = into.old.ended || from.ended } }
+        ensures into { into.new ≡ record into.old {
+          tickets = into.old.tickets ++ from.tickets;
+          shares = into.old.shares + from.shares;
+          ended = into.old.ended || from.ended;
+        } }
     {
         let Seat {
             token,

@@ -1,7 +1,8 @@
 //! The machine, a step at a time.
 ghost use Rattle.std.specs.Prelude.{◌≡◌, ◌↔◌, ◌<◌, ◌+◌, ◌^◌, ℕ, IfOk, OnOk, OnErr, IsTrue, IsSome, Some, [], false};
 ghost use Rattle.heesch_claims.specs.declared.event.Event.TheVariants.{Split, Draw, Join};
-ghost use Rattle.heesch_claims.specs.Machine.{worker, merged, first_claims, worker_at, after, told, IsLawful, HasRoom, ClaimsEachOnce, SharesTheWhole, EveryRunIsSound};
+ghost use Rattle.heesch_claims.specs.Machine.{worker, merged, first_claims, worker_at, after, told, IsLawful, HasRoom};
+ghost use Rattle.heesch_claims.specs.Machine.{ClaimsEachOnce, SharesTheWhole, EveryRunIsSound};
 
 use crate::event::{Event, Told};
 use heesch_io::NoMemory;
@@ -52,7 +53,8 @@ impl Model for Claimant {
 
 /// The machine in which workers claim the numbers below a count. Each step is one event.
 ///
-/// The type keeps that some list of lawful events led to its state, so that what `every_run_is_sound` says holds of it.
+/// The type keeps that some list of lawful events led to its state, so that what `every_run_is_sound` says holds of
+/// it.
 #[derive(Drop)]
 pub struct ClaimCore {
     count: u32,
@@ -167,7 +169,8 @@ impl ClaimCore {
 
     fn join(&mut self, into: u32, from: u32) -> Result<Told, NoMemory>
         requires { IsLawful self.old (Join into from) }
-        ensures ok { IfOk result (λ t. (self.new ≡ after self.old (Join into from)) × (t ≡ told self.old (Join into from))) }
+        ensures ok { IfOk result
+            (λ t. (self.new ≡ after self.old (Join into from)) × (t ≡ told self.old (Join into from))) }
         ensures err { OnErr result (self.new ≡ self.old) }
     {
         let Some(mut giver) = self.workers[from as usize].take() else {

@@ -71,7 +71,9 @@ impl Play<(), View> for Look {
 /// reaches. Making the table gives the first state of the machine, and each split, draw and join, from whatever state
 /// it finds, keeps the rule and is the machine's event for its own seats.
 pub fn board_is_machine()
-    ensures points { (count : ℕ) (s : TableState) → ⟦<Claiming as TableRule<(), View, u32>>⟧.holds count s → MeetsSixPoints count (word_of s) s.views }
-    ensures reached { (count : ℕ) (s : TableState) → ⟦<Claiming as TableRule<(), View, u32>>⟧.holds count s → IsReached (shown_by count s) }
+    ensures points { (count : ℕ) (s : TableState) → ⟦<Claiming as TableRule<(), View, u32>>⟧.holds count s
+        → MeetsSixPoints count (word_of s) s.views }
+    ensures reached { (count : ℕ) (s : TableState) → ⟦<Claiming as TableRule<(), View, u32>>⟧.holds count s
+        → IsReached (shown_by count s) }
     ensures machine { BoardIsMachine }
 {}

@@ -1,5 +1,6 @@
 //! A formula in one array.
-ghost use Rattle.std.specs.Prelude.{◌≡◌, ◌<◌, ◌≤◌, ◌^◌, [], ◌∷◌, ◌++◌, All, length, take, IfOk, OnOk, OnErr, slice_index_or};
+ghost use Rattle.std.specs.Prelude.{◌≡◌, ◌<◌, ◌≤◌, ◌^◌, [], ◌∷◌, ◌++◌, All, length, take, IfOk, OnOk, OnErr};
+ghost use Rattle.std.specs.Prelude.{slice_index_or};
 ghost use Rattle.heesch_cnf.specs.Clauses.{IsClause, AreClauses};
 ghost use Rattle.heesch_io.specs.Pieces.{AreEnds, start_at};
 
@@ -8,8 +9,9 @@ use heesch_io::{NoMemory, Seq};
 use std::alloc::Global;
 use std::marker::Model;
 
-/// At most 2^31 clauses over the variables 1 to `vars`, fewer than 2^31, as a `Formula` has them, but one after another in
-/// one array of packed literals, with the place where each of them ends: a literal takes four bytes, a clause four more.
+/// At most 2^31 clauses over the variables 1 to `vars`, fewer than 2^31, as a `Formula` has them, but one after
+/// another in one array of packed literals, with the place where each of them ends: a literal takes four bytes, a
+/// clause four more.
 #[derive(Drop)]
 pub struct FlatFormula {
     vars: u32,
@@ -77,8 +79,8 @@ impl FlatFormula {
         }
     }
 
-    /// The clauses of the formula, copied. A formula of 2^31 variables or more counts as want of memory. The cost is the
-    /// number of the clauses and that of their literals.
+    /// The clauses of the formula, copied. A formula of 2^31 variables or more counts as want of memory. The cost is
+    /// the number of the clauses and that of their literals.
     pub fn of(alloc: Global, formula: &Formula) -> Result<FlatFormula, NoMemory>
         ensures { IfOk result (λ f. f ≡ record { vars = formula.now.vars; clauses = formula.now.clauses }) }
     {
@@ -92,7 +94,8 @@ impl FlatFormula {
         Ok(flat)
     }
 
-    /// The clauses, copied, each without room to spare. The cost is the number of the clauses and that of their literals.
+    /// The clauses, copied, each without room to spare. The cost is the number of the clauses and that of their
+    /// literals.
     pub fn to_formula(&self, alloc: Global) -> Result<Formula, NoMemory>
         ensures vars { IfOk result (λ f. f.vars ≡ self.now.vars) }
         ensures clauses { IfOk result (λ f. f.clauses ≡ self.now.clauses) }
@@ -131,8 +134,8 @@ impl FlatFormula {
         &self.literals[start..end]
     }
 
-    /// The clause stands last, or nothing has changed. More than 2^32 literals in all count as want of memory. The cost is
-    /// the clause's length, as an average over many calls.
+    /// The clause stands last, or nothing has changed. More than 2^32 literals in all count as want of memory. The
+    /// cost is the clause's length, as an average over many calls.
     pub fn add(&mut self, clause: &[Lit]) -> Result<(), NoMemory>
         requires form { IsClause self.old.vars clause.now }
         requires room { length self.old.clauses < 2 ^ 31 }

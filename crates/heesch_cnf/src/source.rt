@@ -34,8 +34,8 @@ pub trait ClauseSource {
 
 /// Clauses of which it can be told whether a further one is new.
 pub trait NewnessSource: ClauseSource {
-    /// Whether a clause contains, as a set of literals, none of the clauses. The values make its literals false, and no others. It
-    /// takes no memory.
+    /// Whether a clause contains, as a set of literals, none of the clauses. The values make its literals false, and
+    /// no others. It takes no memory.
     fn is_new(&self, clause: &[Lit], values: &[Option<bool>]) -> bool
         requires form { IsClause (Self.listed self.now).vars clause.now }
         requires room { (Self.listed self.now).vars < length values.now }

@@ -25,7 +25,8 @@ pub enum CoronaAnswer {
     Meets { i: usize, j: usize },
     /// The least tile that touches no tile of an earlier layer, the polyform included.
     Loose { i: usize },
-    /// The least level at which a cell around the patch before it lies in no tile up to that level, and the least such cell.
+    /// The least level at which a cell around the patch before it lies in no tile up to that level, and the least such
+    /// cell.
     Uncovered { level: u32, cell: Cell },
     /// The least level whose patch has a hole, with its greatest hole.
     Hole { level: u32, cells: Cells },
@@ -33,12 +34,13 @@ pub enum CoronaAnswer {
     Holds,
 }
 
-/// Whether the tiles of the layers surround the polyform, layer by layer, and where `hole_free` is asked without holes;
-/// else the first of what is amiss.
+/// Whether the tiles of the layers surround the polyform, layer by layer, and where `hole_free` is asked without
+/// holes; else the first of what is amiss.
 ///
-/// The cells of the shape lie within 100,000 of 0, each isometry's turn is below TURNS and its translation within 100,000,
-/// and there are at most six layers. It takes a few look-ups for each neighbour of each cell of each tile, at each of the
-/// levels, and for the holes a flood of each patch (`Region::hole`). More than 2^32 tiles count as want of memory.
+/// The cells of the shape lie within 100,000 of 0, each isometry's turn is below TURNS and its translation within
+/// 100,000, and there are at most six layers. It takes a few look-ups for each neighbour of each cell of each tile, at
+/// each of the levels, and for the holes a flood of each patch (`Region::hole`). More than 2^32 tiles count as want of
+/// memory.
 pub fn check_coronas<G: Grid>(
     alloc: Global,
     shape: &Shape<G>,
@@ -48,9 +50,11 @@ pub fn check_coronas<G: Grid>(
     requires near { (c : Cell) → has shape.now c ≡ true → IsWithin 100000 c }
     requires isometries { All (All (IsInRange G.geometry)) layers.now.layers }
     requires few { length layers.now.layers ≤ 6 }
-    ensures tiles { IfOk result (λ _. (tiles : List (List (List Cell))) × AreTilesOf G.geometry shape.now layers.now.layers tiles) }
+    ensures tiles { IfOk result
+        (λ _. (tiles : List (List (List Cell))) × AreTilesOf G.geometry shape.now layers.now.layers tiles) }
     ensures answer { IfOk result (λ answer. (tiles : List (List (List Cell)))
-        → AreTilesOf G.geometry shape.now layers.now.layers tiles → IsAnswer G.geometry shape.now tiles hole_free answer) }
+        → AreTilesOf G.geometry shape.now layers.now.layers tiles
+        → IsAnswer G.geometry shape.now tiles hole_free answer) }
     ensures holds { IfOk result (λ answer. (tiles : List (List (List Cell)))
         → AreTilesOf G.geometry shape.now layers.now.layers tiles
         → (answer ≡ CoronaAnswer.Holds) ↔ AreAsked G.geometry shape.now hole_free tiles) }

@@ -1,5 +1,6 @@
 //! Cells around a patch that the next layer leaves uncovered.
-ghost use Rattle.std.specs.Prelude.{◌≡◌, ◌<◌, ◌≤◌, ◌-◌, ℕ, Bool, true, false, not, ◌&&◌, ◌||◌, All, length, take, slice_index, MatchOption};
+ghost use Rattle.std.specs.Prelude.{◌≡◌, ◌<◌, ◌≤◌, ◌-◌, ℕ, Bool, true, false, not, ◌&&◌, ◌||◌, All, length, take};
+ghost use Rattle.std.specs.Prelude.{slice_index, MatchOption};
 ghost use Rattle.std.specs.List.{list_any};
 ghost use Rattle.heesch_grid.specs.declared.Cell.{Cell};
 ghost use Rattle.heesch_grid.specs.Cells.{has, cell_before, same_cell, set_of};
@@ -35,7 +36,8 @@ fn least_beside<G: Grid>(
     requires cell { IsCell G.geometry c }
     requires within { IsWithin 1000000 c }
     ensures { (test : Cell → Bool) → IsLeastWith test so_far
-        → IsLeastWith (λ d. test d || (has (G.geometry.touching c) d && not (has (cells_of (take outer index.now)) d))) result }
+        → IsLeastWith (λ d. test d ||
+        (has (G.geometry.touching c) d && not (has (cells_of (take outer index.now)) d))) result }
 {
     let mut least = so_far;
     for i in 0..G::TOUCHING {
@@ -86,7 +88,8 @@ pub(crate) fn first_gap<G: Grid>(index: &CellIndex, ends: &[u32]) -> Option<(u32
     requires shapes { All (IsShape G.geometry) index.now }
     requires ends { All (λ end. end ≤ length index.now) ends.now }
     requires few { length ends.now ≤ 7 }
-    ensures { MatchOption result ((level : ℕ) → 1 ≤ level → level < length ends.now → HasNoGap G.geometry index.now ends.now level)
+    ensures { MatchOption result
+        ((level : ℕ) → 1 ≤ level → level < length ends.now → HasNoGap G.geometry index.now ends.now level)
         (IsFirstGap G.geometry index.now ends.now) }
 {
     for level in 1..ends.len() {

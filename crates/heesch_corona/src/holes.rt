@@ -1,5 +1,6 @@
 //! Holes of patches.
-ghost use Rattle.std.specs.Prelude.{◌≡◌, ◌<◌, ◌≤◌, ◌≤ℤ◌, ◌+ℤ◌, pos, ℕ, true, All, length, take, slice_index, IfOk, MatchOption};
+ghost use Rattle.std.specs.Prelude.{◌≡◌, ◌<◌, ◌≤◌, ◌≤ℤ◌, ◌+ℤ◌, pos, ℕ, true, All, length, take, slice_index, IfOk};
+ghost use Rattle.std.specs.Prelude.{MatchOption};
 ghost use Rattle.heesch_grid.specs.declared.Cell.{Cell};
 ghost use Rattle.heesch_grid.specs.Cells.{has};
 ghost use Rattle.heesch_grid.specs.Corona.{cells_of};
@@ -52,7 +53,9 @@ pub(crate) fn first_hole<G: Grid>(
     requires close { AreClose index.now }
     requires ends { All (λ end. end ≤ length index.now) ends.now }
     requires few { length ends.now ≤ 7 }
-    ensures { IfOk result (λ holed. MatchOption holed ((level : ℕ) → 1 ≤ level → level < length ends.now → IsWhole G.geometry index.now ends.now level)
+    ensures { IfOk result
+        (λ holed. MatchOption holed
+        ((level : ℕ) → 1 ≤ level → level < length ends.now → IsWhole G.geometry index.now ends.now level)
         (IsFirstHole G.geometry index.now ends.now)) }
 {
     for level in 1..ends.len() {

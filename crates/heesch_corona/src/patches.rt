@@ -55,7 +55,8 @@ pub(crate) fn patches_of<G: Grid>(
 ) -> Result<Patches, NoMemory>
     requires near { (c : Cell) → has shape.now c ≡ true → IsWithin 100000 c }
     requires isometries { All (All (IsInRange G.geometry)) layers.now.layers }
-    ensures { IfOk result (λ patches. IsBuilt G.geometry shape.now layers.now.layers patches.index patches.ends.items) }
+    ensures { IfOk result
+        (λ patches. IsBuilt G.geometry shape.now layers.now.layers patches.index patches.ends.items) }
 {
     let mut index = CellIndex::new(alloc);
     index.add(shape.cells())?;

@@ -60,7 +60,8 @@ fn loose_among<G: Grid>(index: &CellIndex, inner: u32, outer: u32) -> Option<u32
 pub(crate) fn first_loose<G: Grid>(index: &CellIndex, ends: &[u32]) -> Option<u32>
     requires shapes { All (IsShape G.geometry) index.now }
     requires ends { All (λ end. end ≤ length index.now) ends.now }
-    ensures { MatchOption result ((level : ℕ) → 1 ≤ level → level < length ends.now → DoReach G.geometry index.now ends.now level)
+    ensures { MatchOption result
+        ((level : ℕ) → 1 ≤ level → level < length ends.now → DoReach G.geometry index.now ends.now level)
         (IsFirstLoose G.geometry index.now ends.now) }
 {
     for level in 1..ends.len() {

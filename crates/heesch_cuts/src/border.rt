@@ -54,7 +54,8 @@ fn mark_over<G: Grid>(
     requires chosen { AreChosen universe.now.vars model.now level marks.old }
     ensures chosen { AreChosen universe.now.vars model.now level marks.new }
     ensures grows { Grows marks.old marks.new }
-    ensures covered { list_any (assignment_of model.now) (covering universe.now.vars level d) ≡ true → is_covered universe.now.vars level marks.new d ≡ true }
+    ensures covered { list_any (assignment_of model.now) (covering universe.now.vars level d) ≡ true
+        → is_covered universe.now.vars level marks.new d ≡ true }
 {
     if let Some(n) = first_chosen(model, universe.covered_by(d, level)) {
         marks[n as usize] = true;
@@ -63,12 +64,14 @@ fn mark_over<G: Grid>(
 
 /// Marks the first true variable over the cell, if it is in the patch and outside the shape.
 fn mark_at<G: Grid>(marks: &mut [bool], patch: &LevelPatch<G>, d: Cell)
-    requires patch { IsPatchOf patch.now.universe.now patch.now.shape.now patch.now.model.now patch.now.level patch.now.cells.now }
+    requires patch { IsPatchOf patch.now.universe.now patch.now.shape.now patch.now.model.now patch.now.level
+        patch.now.cells.now }
     requires room { length patch.now.universe.now.vars < length marks.old }
     requires chosen { AreChosen patch.now.universe.now.vars patch.now.model.now patch.now.level marks.old }
     ensures chosen { AreChosen patch.now.universe.now.vars patch.now.model.now patch.now.level marks.new }
     ensures grows { Grows marks.old marks.new }
-    ensures bordered { IsBordered patch.now.shape.now patch.now.universe.now.vars patch.now.level patch.now.cells.now marks.new d }
+    ensures bordered { IsBordered patch.now.shape.now patch.now.universe.now.vars patch.now.level patch.now.cells.now
+        marks.new d }
 {
     if patch.cells.has(d) && !patch.shape.has(d) {
         mark_over::<G>(marks, patch.universe, patch.model, patch.level, d);
@@ -78,14 +81,16 @@ fn mark_at<G: Grid>(marks: &mut [bool], patch: &LevelPatch<G>, d: Cell)
 /// Marks, for each cell of the patch that is adjacent to c and outside the shape, the first true
 /// variable over it.
 fn mark_beside<G: Grid>(marks: &mut [bool], patch: &LevelPatch<G>, c: Cell)
-    requires patch { IsPatchOf patch.now.universe.now patch.now.shape.now patch.now.model.now patch.now.level patch.now.cells.now }
+    requires patch { IsPatchOf patch.now.universe.now patch.now.shape.now patch.now.model.now patch.now.level
+        patch.now.cells.now }
     requires room { length patch.now.universe.now.vars < length marks.old }
     requires chosen { AreChosen patch.now.universe.now.vars patch.now.model.now patch.now.level marks.old }
     requires cell { IsCell G.geometry c }
     requires within { IsWithin 1000000 c }
     ensures chosen { AreChosen patch.now.universe.now.vars patch.now.model.now patch.now.level marks.new }
     ensures grows { Grows marks.old marks.new }
-    ensures beside { All (IsBordered patch.now.shape.now patch.now.universe.now.vars patch.now.level patch.now.cells.now marks.new) (G.geometry.adjacent c) }
+    ensures beside { All (IsBordered patch.now.shape.now patch.now.universe.now.vars patch.now.level
+        patch.now.cells.now marks.new) (G.geometry.adjacent c) }
 {
     for i in 0..G::ADJACENT {
         mark_at::<G>(marks, patch, G::adjacent(c, i));
@@ -94,13 +99,16 @@ fn mark_beside<G: Grid>(marks: &mut [bool], patch: &LevelPatch<G>, c: Cell)
 
 /// Marks these beside each cell of the hole.
 fn mark_border<G: Grid>(marks: &mut [bool], patch: &LevelPatch<G>, hole: &[Cell])
-    requires patch { IsPatchOf patch.now.universe.now patch.now.shape.now patch.now.model.now patch.now.level patch.now.cells.now }
+    requires patch { IsPatchOf patch.now.universe.now patch.now.shape.now patch.now.model.now patch.now.level
+        patch.now.cells.now }
     requires room { length patch.now.universe.now.vars < length marks.old }
     requires chosen { AreChosen patch.now.universe.now.vars patch.now.model.now patch.now.level marks.old }
     requires cells { All (IsCell G.geometry) hole.now }
     requires within { All (IsWithin 1000000) hole.now }
     ensures chosen { AreChosen patch.now.universe.now.vars patch.now.model.now patch.now.level marks.new }
-    ensures beside { All (λ c. All (IsBordered patch.now.shape.now patch.now.universe.now.vars patch.now.level patch.now.cells.now marks.new) (G.geometry.adjacent c)) hole.now }
+    ensures beside { All (λ c. All
+        (IsBordered patch.now.shape.now patch.now.universe.now.vars patch.now.level patch.now.cells.now marks.new)
+        (G.geometry.adjacent c)) hole.now }
 {
     for c in hole {
         mark_beside::<G>(marks, patch, *c);
@@ -114,7 +122,8 @@ pub(crate) fn border_of<G: Grid>(
     patch: &LevelPatch<G>,
     hole: &[Cell],
 ) -> Result<Seq<u32>, NoMemory>
-    requires patch { IsPatchOf patch.now.universe.now patch.now.shape.now patch.now.model.now patch.now.level patch.now.cells.now }
+    requires patch { IsPatchOf patch.now.universe.now patch.now.shape.now patch.now.model.now patch.now.level
+        patch.now.cells.now }
     requires cells { All (IsCell G.geometry) hole.now }
     requires within { All (IsWithin 1000000) hole.now }
     ensures { IfOk result (IsBorderOf G.geometry patch.now.universe.now patch.now.model.now patch.now.level hole.now) }

@@ -161,7 +161,8 @@ pub fn lawful<G: Grid>(
     requires universe { IsUniverseOf G.geometry universe.now }
     requires shape { universe.now.shape ≡ shape.now }
     requires near { All (IsWithin 100000) cut.now.hole }
-    ensures { IfOk result (λ answer. IsTrue answer ↔ IsLawful G.geometry shape.now universe.now.level universe.now.vars cut.now) }
+    ensures { IfOk result
+        (λ answer. IsTrue answer ↔ IsLawful G.geometry shape.now universe.now.level universe.now.vars cut.now) }
 {
     let hole = cut.hole.as_slice();
     let border = cut.border.as_slice();

@@ -16,7 +16,8 @@ use std::alloc::Global;
 /// Marks the variables of level at most `level` whose placements have one of the cells.
 fn mark_fillers<G: Grid>(marks: &mut [bool], universe: &Universe<G>, level: u32, cells: &[Cell])
     requires { length universe.now.vars < length marks.old }
-    ensures { (n : ℕ) → is_marked marks.new n ≡ (is_marked marks.old n || list_any (λ c. is_in (covering universe.now.vars level c) n) cells.now) }
+    ensures { (n : ℕ) → is_marked marks.new n ≡
+        (is_marked marks.old n || list_any (λ c. is_in (covering universe.now.vars level c) n) cells.now) }
 {
     for c in cells {
         mark_all(marks, universe.covered_by(*c, level));
@@ -31,7 +32,9 @@ fn fillers_of<G: Grid>(
     cells: &[Cell],
 ) -> Result<Vec<bool>, NoMemory>
     ensures size { IfOk result (λ marks. length marks.items ≡ length universe.now.vars + 1) }
-    ensures marks { IfOk result (λ marks. (n : ℕ) → is_marked marks.items n ≡ list_any (λ c. is_in (covering universe.now.vars level c) n) cells.now) }
+    ensures marks { IfOk result
+        (λ marks. (n : ℕ) → is_marked marks.items n ≡ list_any
+        (λ c. is_in (covering universe.now.vars level c) n) cells.now) }
 {
     let mut marks = no_marks(alloc, universe.count())?;
     mark_fillers::<G>(&mut marks, universe, level, cells);
@@ -56,7 +59,8 @@ fn push_literal(clause: &mut Lits, negated: bool, asserted: bool, n: u32) -> Res
     Ok(())
 }
 
-/// The clause of the numbers from 1 to count that are marked as negated, and of the others that are marked as asserted.
+/// The clause of the numbers from 1 to count that are marked as negated, and of the others that are marked as
+/// asserted.
 fn literals(
     alloc: Global,
     negated: &[bool],
@@ -65,7 +69,9 @@ fn literals(
 ) -> Result<Lits, NoMemory>
     requires negated { count < length negated.now }
     requires asserted { count < length asserted.now }
-    ensures { IfOk result (λ clause. clause ≡ filter_map (λ n. literal_of (is_marked negated.now n) (is_marked asserted.now n) n) (range_with_len 1 count)) }
+    ensures { IfOk result
+        (λ clause. clause ≡ filter_map (λ n. literal_of (is_marked negated.now n) (is_marked asserted.now n) n)
+        (range_with_len 1 count)) }
 {
     let mut clause = Seq::new(alloc);
     for i in 0..count {

@@ -24,7 +24,8 @@ fn cut_around<G: Grid>(
     greatest: &[Cell],
 ) -> Result<Cut, NoMemory>
     requires universe { IsUniverseOf G.geometry patch.now.universe.now }
-    requires patch { IsPatchOf patch.now.universe.now patch.now.shape.now patch.now.model.now patch.now.level patch.now.cells.now }
+    requires patch { IsPatchOf patch.now.universe.now patch.now.shape.now patch.now.model.now patch.now.level
+        patch.now.cells.now }
     requires level { (1 ≤ patch.now.level) × (patch.now.level ≤ patch.now.universe.now.level) }
     requires near { All (IsWithin 1000000) patch.now.cells.now }
     requires some { 0 < length greatest.now }
@@ -61,7 +62,9 @@ pub fn cut_for<G: Grid>(
     requires universe { IsUniverseOf G.geometry universe.now }
     requires shape { universe.now.shape ≡ shape.now }
     requires values { length universe.now.vars ≤ length model.now }
-    ensures { IfOk result (λ cut. MatchOption cut (IsOpen G.geometry universe.now model.now) (λ cut. CutsOff G.geometry universe.now model.now cut)) }
+    ensures { IfOk result
+        (λ cut. MatchOption cut (IsOpen G.geometry universe.now model.now)
+        (λ cut. CutsOff G.geometry universe.now model.now cut)) }
 {
     let mut cells = Vec::from_slice(alloc, shape.cells())?;
     for k in 0..universe.level() {

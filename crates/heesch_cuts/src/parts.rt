@@ -24,7 +24,8 @@ impl Spread {
     fn reach(&mut self, hole: &[Cell], d: Cell) -> Result<(), NoMemory>
         requires rising { IsRising cell_before hole.now }
         requires size { vec_len self.old.reached ≡ length hole.now }
-        ensures on { OnOk result (WentOn hole.now self.old.reached.items self.old.todo.items self.new.reached.items self.new.todo.items) }
+        ensures on { OnOk result
+            (WentOn hole.now self.old.reached.items self.old.todo.items self.new.reached.items self.new.todo.items) }
         ensures there { OnOk result (IsReached hole.now self.new.reached.items d) }
     {
         if let Some(at) = place_of(hole, d) {
@@ -42,7 +43,8 @@ impl Spread {
         requires size { vec_len self.old.reached ≡ length hole.now }
         requires cell { IsCell G.geometry c }
         requires within { IsWithin 1000000 c }
-        ensures on { OnOk result (WentOn hole.now self.old.reached.items self.old.todo.items self.new.reached.items self.new.todo.items) }
+        ensures on { OnOk result
+            (WentOn hole.now self.old.reached.items self.old.todo.items self.new.reached.items self.new.todo.items) }
         ensures around { OnOk result (All (IsReached hole.now self.new.reached.items) (G.geometry.adjacent c)) }
     {
         for i in 0..G::ADJACENT {

@@ -21,7 +21,9 @@ fn add_tile<G: Grid>(
 ) -> Result<(), NoMemory>
     requires number { (1 ≤ n) × (n ≤ length universe.now.vars) }
     requires values { length universe.now.vars ≤ length model.now }
-    ensures cells { OnOk result ((x : Variable) → IsNumbered universe.now.vars n x → cells.new.items ≡ cells.old.items ++ layer_cells model.now level (n, x)) }
+    ensures cells { OnOk result
+        ((x : Variable) → IsNumbered universe.now.vars n x
+        → cells.new.items ≡ cells.old.items ++ layer_cells model.now level (n, x)) }
     ensures within { All (IsWithin 1000000) cells.old.items → All (IsWithin 1000000) cells.new.items }
 {
     if universe.level_of(n) == level && model[n as usize - 1] {
@@ -39,7 +41,9 @@ pub(crate) fn add_layer<G: Grid>(
     level: u32,
 ) -> Result<(), NoMemory>
     requires { length universe.now.vars ≤ length model.now }
-    ensures cells { OnOk result (cells.new.items ≡ cells.old.items ++ cells_of (chosen_layer (assignment_of model.now) universe.now.vars level)) }
+    ensures cells { OnOk result
+        (cells.new.items ≡ cells.old.items ++ cells_of
+        (chosen_layer (assignment_of model.now) universe.now.vars level)) }
     ensures within { All (IsWithin 1000000) cells.old.items → All (IsWithin 1000000) cells.new.items }
 {
     for i in 0..universe.count() {

@@ -8,8 +8,8 @@ use heesch_io::NoMemory;
 use heesch_text::fields::{Word, append_byte, append_bytes, append_labelled, undone_at_error};
 use itoa::Buffer;
 
-/// Appends the clause text of a formula, which other solvers read: the line `p cnf V C`, with its numbers of variables and
-/// clauses, and for each clause in order a line with its literals, a space after each, and `0`.
+/// Appends the clause text of a formula, which other solvers read: the line `p cnf V C`, with its numbers of variables
+/// and clauses, and for each clause in order a line with its literals, a space after each, and `0`.
 ///
 /// Errors: at `NoMemory` the text is as it was before. Its cost is the length of what it appends.
 pub fn write_cnf(formula: &Formula, out: &mut Vec<u8>) -> Result<(), NoMemory>

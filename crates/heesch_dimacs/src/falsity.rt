@@ -5,10 +5,11 @@ ghost use Rattle.heesch_dimacs.specs.Formulas.{IsFirstFalse};
 
 use crate::access::HasLiterals;
 
-/// The number, from 1, of the first clause of which no literal is true under these values of the variables, or None where
-/// every clause has a true one.
+/// The number, from 1, of the first clause of which no literal is true under these values of the variables, or None
+/// where every clause has a true one.
 ///
-/// Condition: a value for each variable. It takes no memory. The cost is the number of literals up to the clause's end.
+/// Condition: a value for each variable. It takes no memory. The cost is the number of literals up to the clause's
+/// end.
 pub fn first_false<F: HasLiterals>(formula: &F, values: &[bool]) -> Option<u32>
     requires { length values.now ≡ F.vars formula.now }
     ensures { MatchOption result (Satisfies (assignment_of values.now) (F.clauses formula.now))
@@ -27,7 +28,8 @@ fn is_satisfied<F: HasLiterals>(formula: &F, index: usize, values: &[bool]) -> b
     requires count { length values.now ≡ F.vars formula.now }
     requires index { index < length (F.clauses formula.now) }
     requires form { IsClause (F.vars formula.now) (slice_index_or (F.clauses formula.now) index []) }
-    ensures { IsTrue result ↔ IsSatisfied (assignment_of values.now) (slice_index_or (F.clauses formula.now) index []) }
+    ensures { IsTrue result
+        ↔ IsSatisfied (assignment_of values.now) (slice_index_or (F.clauses formula.now) index []) }
 {
     for place in 0..formula.clause_len(index) {
         let lit = formula.literal(index, place);

@@ -1,5 +1,6 @@
 //! One line of a model text.
-ghost use Rattle.std.specs.Prelude.{◌≡◌, ◌≤◌, ◌<◌, ◌^◌, ◌∷◌, ◌++◌, ℕ, List, codes, IsTrue, ◌↔◌, MatchOption, MatchResult, ◌≢◌, decimal};
+ghost use Rattle.std.specs.Prelude.{◌≡◌, ◌≤◌, ◌<◌, ◌^◌, ◌∷◌, ◌++◌, ℕ, List, codes, IsTrue, ◌↔◌, MatchOption};
+ghost use Rattle.std.specs.Prelude.{MatchResult, ◌≢◌, decimal};
 ghost use Rattle.heesch_cnf.specs.declared.literal.Lit.{Lit};
 ghost use Rattle.heesch_dimacs.specs.declared.lines.LineFault.TheVariants as faults;
 ghost use Rattle.heesch_dimacs.specs.declared.lines.Place.TheVariants as places;
@@ -41,8 +42,8 @@ impl From<NoMemory> for LineFault {
     }
 }
 
-/// The first line without its newline, and the bytes behind it; None where there is no newline. Nothing is copied; the cost
-/// is the line's length.
+/// The first line without its newline, and the bytes behind it; None where there is no newline. Nothing is copied; the
+/// cost is the line's length.
 pub fn cut_line(text: &[u8]) -> Option<(&[u8], &[u8])>
     ensures { MatchOption result (HasNoNewline text.now)
         (λ x. (text.now ≡ x.0.now ++ 10 ∷ x.1.now) × HasNoNewline x.0.now) }

@@ -25,15 +25,15 @@ pub enum ModelStop {
 
 /// The values of the variables 1 to `vars`, in their order, by the model text of a solver.
 ///
-/// Such a text is the line `s SATISFIABLE` and then one or more lines that begin with `v`, each followed by a space and a
-/// word as often as it has words. The words of all these lines are literals, as numbers from 1 of their variables with `-`
-/// before where they are negative, and at last one `0`, which ends the last of them. A line that is `c` alone, or that
-/// begins with `c` and a space, is a comment, and may stand anywhere. Each line ends with a newline. The variables of
-/// positive literals are true, all others false.
+/// Such a text is the line `s SATISFIABLE` and then one or more lines that begin with `v`, each followed by a space
+/// and a word as often as it has words. The words of all these lines are literals, as numbers from 1 of their
+/// variables with `-` before where they are negative, and at last one `0`, which ends the last of them. A line that is
+/// `c` alone, or that begins with `c` and a space, is a comment, and may stand anywhere. Each line ends with a
+/// newline. The variables of positive literals are true, all others false.
 ///
 /// Errors: the first faulty line decides. `NotText` where no model text goes on with the line, and where the text ends
-/// before the line does. `Stranger` where one does, but the line names a variable that is above `vars` or was named before.
-/// `NoMemory` for want of memory. The cost is linear in the number of bytes and of variables.
+/// before the line does. `Stranger` where one does, but the line names a variable that is above `vars` or was named
+/// before. `NoMemory` for want of memory. The cost is linear in the number of bytes and of variables.
 pub fn read_model(alloc: Global, text: &[u8], vars: u32) -> Result<Seq<bool>, ModelStop>
     ensures ok { IfOk result (λ values. IsModel vars text.now values) }
     ensures stop { IfErr result (λ stop. Stops vars text.now stop) }

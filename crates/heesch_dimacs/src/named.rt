@@ -1,5 +1,6 @@
 //! Which variables literals name.
-ghost use Rattle.std.specs.Prelude.{◌≡◌, ◌≤◌, ◌<◌, ◌++◌, ◌∷◌, [], ℕ, List, length, replicate, false, IsTrue, ◌↔◌, IfOk, MatchBool};
+ghost use Rattle.std.specs.Prelude.{◌≡◌, ◌≤◌, ◌<◌, ◌++◌, ◌∷◌, [], ℕ, List, length, replicate, false, IsTrue, ◌↔◌};
+ghost use Rattle.std.specs.Prelude.{IfOk, MatchBool};
 ghost use Rattle.std.specs.List.{AllByRecursion};
 ghost use Rattle.heesch_cnf.specs.declared.literal.Lit.{Lit};
 ghost use Rattle.heesch_line.specs.Forms.{IsLiteral};
@@ -17,12 +18,13 @@ pub fn unset(alloc: Global, count: usize) -> Result<Vec<bool>, NoMemory>
     Ok(vec![in alloc; false; count]?)
 }
 
-/// Marks the variables that the literals name, and answers whether each is one of the variables and wasn't named before.
-/// Where it answers no, the marks tell nothing.
+/// Marks the variables that the literals name, and answers whether each is one of the variables and wasn't named
+/// before. Where it answers no, the marks tell nothing.
 pub fn name_all(named: &mut [bool], literals: &[Lit]) -> bool
     requires { AllByRecursion IsLiteral literals.now }
     ensures { (before : List Lit) → AreNamed before named.old → AreOver (length named.old) before
-        → MatchBool result (AreNamed (before ++ literals.now) named.new × AreOver (length named.old) (before ++ literals.now))
+        → MatchBool result (AreNamed (before ++ literals.now) named.new
+        × AreOver (length named.old) (before ++ literals.now))
         (¬ (AreOver (length named.old) (before ++ literals.now))) }
 {
     for literal in literals {

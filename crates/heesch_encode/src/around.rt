@@ -42,8 +42,8 @@ fn turned_ring<G: Grid>(alloc: Global, shape: &Shape<G>, k: u32) -> Result<Turne
     Ok(TurnedRing { first, ring })
 }
 
-/// The cells around the shape under each of the turns. Condition: the coordinates of its cells lie within 200 of 0. It goes once
-/// over the neighbours of each cell of each turned shape.
+/// The cells around the shape under each of the turns. Condition: the coordinates of its cells lie within 200 of 0. It
+/// goes once over the neighbours of each cell of each turned shape.
 pub fn rings_of<G: Grid>(alloc: Global, shape: &Shape<G>) -> Result<Vec<TurnedRing>, NoMemory>
     requires { (c : Cell) → has shape.now c ≡ true → IsWithin 200 c }
     ensures { IfOk result (λ rings. AreRings G.geometry shape.now rings.items) }
@@ -56,7 +56,8 @@ pub fn rings_of<G: Grid>(alloc: Global, shape: &Shape<G>) -> Result<Vec<TurnedRi
     Ok(rings)
 }
 
-/// Lists the cells around the tile of a variable, in cell order, in place of what the list had. A step for each of them.
+/// Lists the cells around the tile of a variable, in cell order, in place of what the list had. A step for each of
+/// them.
 pub fn write_moved<G: Grid>(
     ring: &mut Vec<Cell>,
     rings: &[TurnedRing],
@@ -65,8 +66,10 @@ pub fn write_moved<G: Grid>(
 ) -> Result<(), NoMemory>
     requires rings { AreRings G.geometry universe.now.shape rings.now }
     requires number { (1 ≤ var) × (var ≤ length universe.now.vars) }
-    ensures listed { (x : Variable) → IsNumbered universe.now.vars var x → OnOk result (ListsExactly cell_before (IsAround G.geometry x.tile) ring.new.items) }
-    ensures given { (x : Variable) (around : List Cell → List Cell) → IsNumbered universe.now.vars var x → GivesCellsAround G.geometry around → OnOk result (ring.new.items ≡ around x.tile) }
+    ensures listed { (x : Variable) → IsNumbered universe.now.vars var x
+        → OnOk result (ListsExactly cell_before (IsAround G.geometry x.tile) ring.new.items) }
+    ensures given { (x : Variable) (around : List Cell → List Cell) → IsNumbered universe.now.vars var x
+        → GivesCellsAround G.geometry around → OnOk result (ring.new.items ≡ around x.tile) }
 {
     let place = universe.placement_of(var);
     let turned = &rings[place.iso().turn as usize];

@@ -63,7 +63,8 @@ pub(crate) fn count_below(numbers: &[u32], n: u32) -> usize
     numbers.partition_point(|m| *m < n)
 }
 
-/// Makes the clause that where the first variable is true, one of the others is. Their numbers rise, and it isn't one of them.
+/// Makes the clause that where the first variable is true, one of the others is. Their numbers rise, and it isn't one
+/// of them.
 pub(crate) fn write_implication(
     clause: &mut Vec<PackedLit>,
     var: u32,

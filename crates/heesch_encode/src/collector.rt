@@ -33,8 +33,8 @@ impl Collector {
         }
     }
 
-    /// Takes the clause. `TooLarge` exactly where its literals find no room. A formula that has its most clauses counts as
-    /// want of memory.
+    /// Takes the clause. `TooLarge` exactly where its literals find no room. A formula that has its most clauses
+    /// counts as want of memory.
     pub fn take(&mut self, clause: &[PackedLit]) -> Result<(), EncodeStop>
         requires { IsClause self.old.formula.vars clause.now }
         ensures { IsTaken result self.old self.new (clause.now ∷ []) }

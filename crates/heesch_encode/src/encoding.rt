@@ -32,15 +32,16 @@ pub struct FlatEncoded<G: Grid> {
     pub formula: FlatFormula,
 }
 
-/// The corona formula of a shape and a level, of one of the two versions, where it has at most `size` literals, with its clauses
-/// in one array.
+/// The corona formula of a shape and a level, of one of the two versions, where it has at most `size` literals, with
+/// its clauses in one array.
 ///
-/// It has a model exactly where so many coronas of the shape exist, holes allowed, and the true variables of level k of a
-/// model are the k-th corona. Condition: the shape is canonical, the level 1 to 6, the size 1 to 60,000,000. `TooLarge`
-/// exactly where the formula has more than `size` literals; `NoMemory` says nothing more.
+/// It has a model exactly where so many coronas of the shape exist, holes allowed, and the true variables of level k
+/// of a model are the k-th corona. Condition: the shape is canonical, the level 1 to 6, the size 1 to 60,000,000.
+/// `TooLarge` exactly where the formula has more than `size` literals; `NoMemory` says nothing more.
 ///
-/// The clauses are made once, up to the first literal too many. Variables are found by the cells of their tiles, never by a
-/// look at all pairs. In version Two the owner variables come after the universe's; they are counted before the clauses are made.
+/// The clauses are made once, up to the first literal too many. Variables are found by the cells of their tiles, never
+/// by a look at all pairs. In version Two the owner variables come after the universe's; they are counted before the
+/// clauses are made.
 pub fn encode_flat<G: Grid>(
     alloc: Global,
     shape: &Shape<G>,
@@ -54,11 +55,13 @@ pub fn encode_flat<G: Grid>(
     ensures universe { IfOk result (λ e. IsUniverseOf G.geometry e.universe) }
     ensures shape { IfOk result (λ e. e.universe.shape ≡ shape.now) }
     ensures level { IfOk result (λ e. e.universe.level ≡ level) }
-    ensures formula { IfOk result (λ e. IsCountedFormula version G.geometry shape.now level e.universe.vars e.formula.vars e.formula.clauses) }
+    ensures formula { IfOk result
+        (λ e. IsCountedFormula version G.geometry shape.now level e.universe.vars e.formula.vars e.formula.clauses) }
     ensures fits { IfOk result (λ e. formula_size e.formula.clauses ≤ size) }
     ensures too_large { IsErrOf result EncodeStop.TooLarge → IsTooLarge version G.geometry shape.now level size }
 
-    ensures satisfiable { IfOk result (λ e. ((values : ℕ → Bool) × Satisfies values e.formula.clauses) ↔ HasCoronas G.geometry shape.now level) }
+    ensures satisfiable { IfOk result
+        (λ e. ((values : ℕ → Bool) × Satisfies values e.formula.clauses) ↔ HasCoronas G.geometry shape.now level) }
     ensures models { IfOk result (λ e. (values : ℕ → Bool) → Satisfies values e.formula.clauses
         → AreCoronas G.geometry shape.now (chosen_layers values e.universe.vars level)) }
 {
@@ -78,9 +81,9 @@ pub fn encode_flat<G: Grid>(
 
 /// The same formula, with a list for each clause.
 ///
-/// It has a model exactly where so many coronas of the shape exist, holes allowed, and the true variables of level k of a
-/// model are the k-th corona. Condition: the shape is canonical, the level 1 to 6, the size 1 to 60,000,000. `TooLarge`
-/// exactly where the formula has more than `size` literals; `NoMemory` says nothing more.
+/// It has a model exactly where so many coronas of the shape exist, holes allowed, and the true variables of level k
+/// of a model are the k-th corona. Condition: the shape is canonical, the level 1 to 6, the size 1 to 60,000,000.
+/// `TooLarge` exactly where the formula has more than `size` literals; `NoMemory` says nothing more.
 ///
 /// The cost is that of `encode_flat`, and of a copy of each clause without room to spare.
 pub fn encode<G: Grid>(
@@ -96,11 +99,13 @@ pub fn encode<G: Grid>(
     ensures universe { IfOk result (λ e. IsUniverseOf G.geometry e.universe) }
     ensures shape { IfOk result (λ e. e.universe.shape ≡ shape.now) }
     ensures level { IfOk result (λ e. e.universe.level ≡ level) }
-    ensures formula { IfOk result (λ e. IsCountedFormula version G.geometry shape.now level e.universe.vars e.formula.vars e.formula.clauses) }
+    ensures formula { IfOk result
+        (λ e. IsCountedFormula version G.geometry shape.now level e.universe.vars e.formula.vars e.formula.clauses) }
     ensures fits { IfOk result (λ e. formula_size e.formula.clauses ≤ size) }
     ensures too_large { IsErrOf result EncodeStop.TooLarge → IsTooLarge version G.geometry shape.now level size }
 
-    ensures satisfiable { IfOk result (λ e. ((values : ℕ → Bool) × Satisfies values e.formula.clauses) ↔ HasCoronas G.geometry shape.now level) }
+    ensures satisfiable { IfOk result
+        (λ e. ((values : ℕ → Bool) × Satisfies values e.formula.clauses) ↔ HasCoronas G.geometry shape.now level) }
     ensures models { IfOk result (λ e. (values : ℕ → Bool) → Satisfies values e.formula.clauses
         → AreCoronas G.geometry shape.now (chosen_layers values e.universe.vars level)) }
 {

@@ -2,7 +2,8 @@
 ghost use Rattle.std.specs.Prelude.{◌≡◌, ◌+◌, ◌≤◌, ◌<◌, ◌^◌, ℕ, List, All, OnOk, length, flat_map, sum_by};
 ghost use Rattle.std.specs.List.{enumerate_from};
 ghost use Rattle.heesch_grid.specs.declared.Cell.{Cell};
-ghost use Rattle.heesch_grid.specs.CoronaFormula.{Variable, GivesCellsAround, first_clauses, corona_clauses, IsNumbered};
+ghost use Rattle.heesch_grid.specs.CoronaFormula.{Variable, GivesCellsAround, first_clauses, corona_clauses};
+ghost use Rattle.heesch_grid.specs.CoronaFormula.{IsNumbered};
 ghost use Rattle.heesch_grid.specs.OwnerFormula.{IsOwned, owner_count, owned_corona_clauses};
 ghost use Rattle.heesch_cert.specs.Literals.{literals};
 ghost use Rattle.heesch_encode.specs.Marks.{AreUnmarked};
@@ -45,7 +46,8 @@ fn take_first<G: Grid>(
     requires plan { IsPlan G.geometry plan.now.universe.now plan.now.shape.now plan.now.level plan.now.rings.now }
     requires vars { length plan.now.universe.now.vars ≤ collector.old.formula.vars }
     ensures { (around : List Cell → List Cell) → GivesCellsAround G.geometry around
-        → IsTaken result collector.old collector.new (first_clauses literals around plan.now.shape.now plan.now.universe.now.vars) }
+        → IsTaken result collector.old collector.new
+        (first_clauses literals around plan.now.shape.now plan.now.universe.now.vars) }
 {
     write_ring(ring, plan.shape)?;
     for c in ring.as_slice() {
@@ -55,8 +57,8 @@ fn take_first<G: Grid>(
     Ok(())
 }
 
-/// Where the variable is true and of a level below the plan's, each cell around its tile and outside the shape is covered
-/// one level above it or below.
+/// Where the variable is true and of a level below the plan's, each cell around its tile and outside the shape is
+/// covered one level above it or below.
 fn take_covering<G: Grid>(
     plan: &Plan<G>,
     var: u32,
@@ -67,8 +69,10 @@ fn take_covering<G: Grid>(
     requires plan { IsPlan G.geometry plan.now.universe.now plan.now.shape.now plan.now.level plan.now.rings.now }
     requires number { (1 ≤ var) × (var ≤ length plan.now.universe.now.vars) }
     requires vars { length plan.now.universe.now.vars ≤ collector.old.formula.vars }
-    ensures { (around : List Cell → List Cell) (x : Variable) → GivesCellsAround G.geometry around → IsNumbered plan.now.universe.now.vars var x
-        → IsTaken result collector.old collector.new (covering_at around plan.now.shape.now plan.now.level plan.now.universe.now.vars (var, x)) }
+    ensures { (around : List Cell → List Cell) (x : Variable) → GivesCellsAround G.geometry around
+        → IsNumbered plan.now.universe.now.vars var x
+        → IsTaken result collector.old collector.new
+        (covering_at around plan.now.shape.now plan.now.level plan.now.universe.now.vars (var, x)) }
 {
     let of = plan.universe.level_of(var);
     if of >= plan.level {
@@ -92,7 +96,8 @@ fn take_support<G: Grid>(plan: &Plan<G>, var: u32, desk: &mut Desk) -> Result<()
     requires unmarked { AreUnmarked (length plan.now.universe.now.vars) desk.old.marks.words.items }
     ensures unmarked { OnOk result (AreUnmarked (length plan.now.universe.now.vars) desk.new.marks.words.items) }
     ensures taken { (x : Variable) → IsNumbered plan.now.universe.now.vars var x
-        → IsTaken result desk.old.collector desk.new.collector (support_at G.geometry plan.now.universe.now.vars (var, x)) }
+        → IsTaken result desk.old.collector desk.new.collector
+        (support_at G.geometry plan.now.universe.now.vars (var, x)) }
 {
     let of = plan.universe.level_of(var);
     if of < 2 {
@@ -148,8 +153,10 @@ fn take_of<G: Grid>(
     requires vars { length plan.now.universe.now.vars ≤ desk.old.collector.formula.vars }
     requires unmarked { AreUnmarked (length plan.now.universe.now.vars) desk.old.marks.words.items }
     ensures unmarked { OnOk result (AreUnmarked (length plan.now.universe.now.vars) desk.new.marks.words.items) }
-    ensures taken { (around : List Cell → List Cell) (x : Variable) → GivesCellsAround G.geometry around → IsNumbered plan.now.universe.now.vars var x
-        → IsTaken result desk.old.collector desk.new.collector (clauses_at family G.geometry around plan.now.shape.now plan.now.level plan.now.universe.now.vars (var, x)) }
+    ensures taken { (around : List Cell → List Cell) (x : Variable) → GivesCellsAround G.geometry around
+        → IsNumbered plan.now.universe.now.vars var x
+        → IsTaken result desk.old.collector desk.new.collector
+        (clauses_at family G.geometry around plan.now.shape.now plan.now.level plan.now.universe.now.vars (var, x)) }
 {
     let collector = &mut desk.collector;
     match family {
@@ -166,7 +173,9 @@ fn take_family<G: Grid>(plan: &Plan<G>, family: Family, desk: &mut Desk) -> Resu
     requires unmarked { AreUnmarked (length plan.now.universe.now.vars) desk.old.marks.words.items }
     ensures unmarked { OnOk result (AreUnmarked (length plan.now.universe.now.vars) desk.new.marks.words.items) }
     ensures taken { (around : List Cell → List Cell) → GivesCellsAround G.geometry around
-        → IsTaken result desk.old.collector desk.new.collector (flat_map (clauses_at family G.geometry around plan.now.shape.now plan.now.level plan.now.universe.now.vars) (enumerate_from 1 plan.now.universe.now.vars)) }
+        → IsTaken result desk.old.collector desk.new.collector
+        (flat_map (clauses_at family G.geometry around plan.now.shape.now plan.now.level plan.now.universe.now.vars)
+        (enumerate_from 1 plan.now.universe.now.vars)) }
 {
     for i in 0..plan.universe.count() {
         take_of(plan, family, i + 1, desk)?;
@@ -181,7 +190,8 @@ fn take_common<G: Grid>(plan: &Plan<G>, desk: &mut Desk) -> Result<(), EncodeSto
     requires unmarked { AreUnmarked (length plan.now.universe.now.vars) desk.old.marks.words.items }
     ensures unmarked { OnOk result (AreUnmarked (length plan.now.universe.now.vars) desk.new.marks.words.items) }
     ensures taken { (around : List Cell → List Cell) → GivesCellsAround G.geometry around
-        → IsTaken result desk.old.collector desk.new.collector (common_clauses G.geometry around plan.now.shape.now plan.now.level plan.now.universe.now.vars) }
+        → IsTaken result desk.old.collector desk.new.collector
+        (common_clauses G.geometry around plan.now.shape.now plan.now.level plan.now.universe.now.vars) }
 {
     take_first(plan, &mut desk.ring, &mut desk.clause, &mut desk.collector)?;
     take_family(plan, Family::Covering, desk)?;
@@ -194,7 +204,8 @@ pub(crate) fn take_formula<G: Grid>(plan: &Plan<G>, desk: &mut Desk) -> Result<(
     requires vars { length plan.now.universe.now.vars ≤ desk.old.collector.formula.vars }
     requires unmarked { AreUnmarked (length plan.now.universe.now.vars) desk.old.marks.words.items }
     ensures { (around : List Cell → List Cell) → GivesCellsAround G.geometry around
-        → IsTaken result desk.old.collector desk.new.collector (corona_clauses literals G.geometry around plan.now.shape.now plan.now.level plan.now.universe.now.vars) }
+        → IsTaken result desk.old.collector desk.new.collector
+        (corona_clauses literals G.geometry around plan.now.shape.now plan.now.level plan.now.universe.now.vars) }
 {
     take_common(plan, desk)?;
     take_family(plan, Family::Apart, desk)
@@ -208,11 +219,14 @@ pub(crate) fn take_owner_formula<G: Grid>(
 ) -> Result<(), EncodeStop>
     requires plan { IsPlan G.geometry plan.now.universe.now plan.now.shape.now plan.now.level plan.now.rings.now }
     requires owned { All (IsOwned plan.now.universe.now.vars) owned.now }
-    requires vars { desk.old.collector.formula.vars ≡ length plan.now.universe.now.vars + sum_by (owner_count plan.now.universe.now.vars) owned.now }
+    requires vars { desk.old.collector.formula.vars ≡ length plan.now.universe.now.vars + sum_by
+        (owner_count plan.now.universe.now.vars) owned.now }
     requires small { desk.old.collector.formula.vars < 2 ^ 31 }
     requires unmarked { AreUnmarked (length plan.now.universe.now.vars) desk.old.marks.words.items }
     ensures { (around : List Cell → List Cell) → GivesCellsAround G.geometry around
-        → IsTaken result desk.old.collector desk.new.collector (owned_corona_clauses literals G.geometry around plan.now.shape.now plan.now.level plan.now.universe.now.vars owned.now) }
+        → IsTaken result desk.old.collector desk.new.collector
+        (owned_corona_clauses literals G.geometry around plan.now.shape.now plan.now.level plan.now.universe.now.vars
+        owned.now) }
 {
     take_common(plan, desk)?;
     take_owners(plan.universe, owned, &mut desk.collector)

@@ -25,8 +25,8 @@ pub fn numbers_after(numbers: &[u32], n: u32) -> &[u32]
     &numbers[at..]
 }
 
-/// Marks the variables with numbers above `above` and of level at most `most` whose tile has one of the cells, or takes their
-/// marks away.
+/// Marks the variables with numbers above `above` and of level at most `most` whose tile has one of the cells, or
+/// takes their marks away.
 fn change_meeting<G: Grid>(
     marks: &mut Marks,
     change: Change,
@@ -37,15 +37,16 @@ fn change_meeting<G: Grid>(
 )
     requires room { length universe.now.vars < 64 * vec_len marks.old.words }
     requires above { above < 2 ^ 31 }
-    ensures { Changes change marks.old.words.items marks.new.words.items (flat_map (covering_after universe.now.vars above most) cells.now) }
+    ensures { Changes change marks.old.words.items marks.new.words.items
+        (flat_map (covering_after universe.now.vars above most) cells.now) }
 {
     for c in cells {
         marks.change(change, numbers_after(universe.covered_by(*c, most), above));
     }
 }
 
-/// Lists the variables with numbers above `above` and of level at most `most`, rising, whose tile has one of the cells. They
-/// are found by their cells and marked, so those that are found twice stand once.
+/// Lists the variables with numbers above `above` and of level at most `most`, rising, whose tile has one of the
+/// cells. They are found by their cells and marked, so those that are found twice stand once.
 pub(crate) fn list_meeting<G: Grid>(
     numbers: &mut Vec<u32>,
     marks: &mut Marks,
@@ -83,9 +84,9 @@ pub fn last_below<G: Grid>(universe: &Universe<G>, level: u32) -> u32
     low
 }
 
-/// Lists the variables of a level, rising, whose tile touches the given one, by the cells around it: those that have one of
-/// them and none of its own. They are marked and read off, and no mark is left. A look-up for each cell, and a step for each
-/// variable found.
+/// Lists the variables of a level, rising, whose tile touches the given one, by the cells around it: those that have
+/// one of them and none of its own. They are marked and read off, and no mark is left. A look-up for each cell, and a
+/// step for each variable found.
 pub fn list_supporting<G: Grid>(
     numbers: &mut Vec<u32>,
     marks: &mut Marks,

@@ -24,8 +24,8 @@ pub fn holders_of<G: Grid>(universe: &Universe<G>, c: Cell) -> &[u32]
     universe.covered_by(c, universe.level())
 }
 
-/// How many binary digits the greatest rank of so many variables has, at least two, whose ranks count from 0. It takes a fixed
-/// number of steps.
+/// How many binary digits the greatest rank of so many variables has, at least two, whose ranks count from 0. It takes
+/// a fixed number of steps.
 pub fn digits_of_ranks(number: usize) -> u32
     requires { 2 ≤ number }
     ensures digits { result ≡ digits (number - 1) }
@@ -60,8 +60,8 @@ fn add_owned<G: Grid>(
     Ok(())
 }
 
-/// The cells that at least two variables have, in cell order. A look-up for each cell of each variable's tile, and a sort of
-/// the cells found.
+/// The cells that at least two variables have, in cell order. A look-up for each cell of each variable's tile, and a
+/// sort of the cells found.
 pub fn owned_cells<G: Grid>(alloc: Global, universe: &Universe<G>) -> Result<Vec<Cell>, NoMemory>
     requires { IsUniverseOf G.geometry universe.now }
     ensures { IfOk result (λ cells. ListsExactly cell_before (IsOwned universe.now.vars) cells.items) }
@@ -83,7 +83,8 @@ pub(crate) fn count_with_owners<G: Grid>(
     requires universe { IsUniverseOf G.geometry universe.now }
     requires few { length universe.now.vars < 2 ^ 31 }
     requires owned { All (IsOwned universe.now.vars) owned.now }
-    ensures count { IfOk result (λ n. n ≡ length universe.now.vars + sum_by (owner_count universe.now.vars) owned.now) }
+    ensures count { IfOk result
+        (λ n. n ≡ length universe.now.vars + sum_by (owner_count universe.now.vars) owned.now) }
     ensures small { IfOk result (λ n. n < 2 ^ 31) }
 {
     let mut count = universe.count();

@@ -1,5 +1,5 @@
-//! The last family of the second formula: owner variables, which tell of each cell that several variables have which of them
-//! is chosen.
+//! The last family of the second formula: owner variables, which tell of each cell that several variables have which
+//! of them is chosen.
 ghost use Rattle.std.specs.Prelude.{◌≡◌, ◌+◌, ◌<◌, ◌≤◌, ◌^◌, length, flat_map, All, sum_by};
 ghost use Rattle.std.specs.List.{enumerate_from};
 ghost use Rattle.heesch_grid.specs.OwnerFormula.{IsOwned, owner_count, rank_clauses, owner_clauses};
@@ -46,7 +46,8 @@ fn take_ranks(
     requires count { count ≤ 64 }
     requires last { start + count ≤ collector.old.formula.vars + 1 }
     requires small { collector.old.formula.vars < 2 ^ 31 }
-    ensures { IsTaken result collector.old collector.new (flat_map (rank_clauses literals start count) (enumerate_from 0 holders.now)) }
+    ensures { IsTaken result collector.old collector.new
+        (flat_map (rank_clauses literals start count) (enumerate_from 0 holders.now)) }
 {
     for (rank, var) in holders.iter().enumerate() {
         take_rank(rank, *var, start, count, collector)?;
@@ -54,8 +55,8 @@ fn take_ranks(
     Ok(())
 }
 
-/// The clauses of these cells, whose owner variables are numbered after the universe's, by cell and then by bit. A look-up for
-/// each cell and a step for each clause.
+/// The clauses of these cells, whose owner variables are numbered after the universe's, by cell and then by bit. A
+/// look-up for each cell and a step for each clause.
 pub(crate) fn take_owners<G: Grid>(
     universe: &Universe<G>,
     owned: &[Cell],
@@ -63,9 +64,11 @@ pub(crate) fn take_owners<G: Grid>(
 ) -> Result<(), EncodeStop>
     requires universe { IsUniverseOf G.geometry universe.now }
     requires owned { All (IsOwned universe.now.vars) owned.now }
-    requires vars { collector.old.formula.vars ≡ length universe.now.vars + sum_by (owner_count universe.now.vars) owned.now }
+    requires vars { collector.old.formula.vars ≡ length universe.now.vars + sum_by
+        (owner_count universe.now.vars) owned.now }
     requires small { collector.old.formula.vars < 2 ^ 31 }
-    ensures { IsTaken result collector.old collector.new (owner_clauses literals universe.now.vars (length universe.now.vars + 1) owned.now) }
+    ensures { IsTaken result collector.old collector.new
+        (owner_clauses literals universe.now.vars (length universe.now.vars + 1) owned.now) }
 {
     let mut start = universe.count() + 1;
     for c in owned {

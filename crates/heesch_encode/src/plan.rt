@@ -35,9 +35,12 @@ impl<'a, G: Grid> Plan<'a, G> {
         version: Version,
     ) -> Result<FlatFormula, EncodeStop>
         requires { IsPlan G.geometry self.now.universe.now self.now.shape.now self.now.level self.now.rings.now }
-        ensures formula { IfOk result (λ f. IsCountedFormula version G.geometry self.now.shape.now self.now.level self.now.universe.now.vars f.vars f.clauses) }
+        ensures formula { IfOk result
+            (λ f. IsCountedFormula version G.geometry self.now.shape.now self.now.level self.now.universe.now.vars
+            f.vars f.clauses) }
         ensures fits { IfOk result (λ f. formula_size f.clauses ≤ size) }
-        ensures too_large { IsErrOf result EncodeStop.TooLarge → IsTooLarge version G.geometry self.now.shape.now self.now.level size }
+        ensures too_large { IsErrOf result EncodeStop.TooLarge
+            → IsTooLarge version G.geometry self.now.shape.now self.now.level size }
     {
         match version {
             Version::One => {

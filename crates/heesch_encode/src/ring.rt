@@ -16,7 +16,8 @@ use heesch_shape::Shape;
 fn add_touching<G: Grid>(ring: &mut Vec<Cell>, tile: &Shape<G>, c: Cell) -> Result<(), NoMemory>
     requires cell { IsCell G.geometry c }
     requires within { IsWithin 1000000 c }
-    ensures { OnOk result (ring.new.items ≡ ring.old.items ++ filter (λ d. not (has tile.now d)) (G.geometry.touching c)) }
+    ensures { OnOk result
+        (ring.new.items ≡ ring.old.items ++ filter (λ d. not (has tile.now d)) (G.geometry.touching c)) }
 {
     for i in 0..G::TOUCHING {
         let near = G::touching(c, i);
@@ -27,11 +28,12 @@ fn add_touching<G: Grid>(ring: &mut Vec<Cell>, tile: &Shape<G>, c: Cell) -> Resu
     Ok(())
 }
 
-/// Lists the cells around a tile, in cell order, in place of what the list had. It looks at the neighbours of each cell once,
-/// and sorts at most 384.
+/// Lists the cells around a tile, in cell order, in place of what the list had. It looks at the neighbours of each
+/// cell once, and sorts at most 384.
 pub fn write_ring<G: Grid>(ring: &mut Vec<Cell>, tile: &Shape<G>) -> Result<(), NoMemory>
     ensures listed { OnOk result (ListsExactly cell_before (IsAround G.geometry tile.now) ring.new.items) }
-    ensures given { OnOk result ((around : List Cell → List Cell) → GivesCellsAround G.geometry around → ring.new.items ≡ around tile.now) }
+    ensures given { OnOk result
+        ((around : List Cell → List Cell) → GivesCellsAround G.geometry around → ring.new.items ≡ around tile.now) }
 {
     ring.clear();
     for c in tile.cells() {

@@ -1,5 +1,6 @@
 //! Lists of candidates: the numbers of sets that may still be chosen.
-ghost use Rattle.std.specs.Prelude.{◌≡◌, ◌≤◌, ◌<◌, ◌^◌, ℕ, ◌++◌, length, slice_index, All, drop, map, filter, vec_len, IfOk, OnOk};
+ghost use Rattle.std.specs.Prelude.{◌≡◌, ◌≤◌, ◌<◌, ◌^◌, ℕ, ◌++◌, length, slice_index, All, drop, map, filter, vec_len};
+ghost use Rattle.std.specs.Prelude.{IfOk, OnOk};
 ghost use Rattle.std.specs.List.{Contains};
 ghost use Rattle.heesch_exact.specs.Covers.{is_within};
 ghost use Rattle.heesch_exact.specs.Branches.{AreCandidates, IsPart, is_apart};

@@ -1,7 +1,8 @@
 //! Exact covers: which of some sets have each of given points exactly once. A set of at most 64 points is a mask.
 //!
 //! The method is Knuth's for exact covers ("Dancing Links", 2000), over words in place of links: a node covers a point
-//! that few candidates have, by each of them in turn, and counts the candidates of all points at once, one bit a point.
+//! that few candidates have, by each of them in turn, and counts the candidates of all points at once, one bit a
+//! point.
 #![tactic(auto)]
 
 mod candidates;
@@ -29,13 +30,14 @@ pub enum CoverAnswer {
 
 /// Which of the sets have each of the points exactly once, and no other point.
 ///
-/// A point is a number below 64, and a mask has it where that bit is set. A node of the search takes one of `nodes`, and
-/// counts for each point that is left the candidates that have it, up to three. Where a point has none, the branch ends;
-/// else the least point with one candidate is covered next, else the least with two, else the least that is left. So a
-/// node costs one pass over its candidates, and one more for each of them that it tries. Each node stands for another
-/// partial cover: a choice of the sets that has each of the points at most once, and no other point. So the nodes that
-/// are spent are at most the partial covers, and at most 2^n for n sets; `Open` comes only where `nodes` was below that
-/// and is used up. The search is at most 64 deep. Memory is taken for the candidates of the nodes on the way alone.
+/// A point is a number below 64, and a mask has it where that bit is set. A node of the search takes one of `nodes`,
+/// and counts for each point that is left the candidates that have it, up to three. Where a point has none, the branch
+/// ends; else the least point with one candidate is covered next, else the least with two, else the least that is
+/// left. So a node costs one pass over its candidates, and one more for each of them that it tries. Each node stands
+/// for another partial cover: a choice of the sets that has each of the points at most once, and no other point. So
+/// the nodes that are spent are at most the partial covers, and at most 2^n for n sets; `Open` comes only where
+/// `nodes` was below that and is used up. The search is at most 64 deep. Memory is taken for the candidates of the
+/// nodes on the way alone.
 pub fn exact_cover(
     alloc: Global,
     masks: &[u64],

@@ -23,17 +23,17 @@ const NO_LINE: u32 = 13;
 /// The fault of a shape's line without its newline.
 const NOT_ENDED: u32 = 6;
 
-/// The coronas that a model text has of the corona formula of a level and a version: `coronas J` and a layer line for each.
-/// Or, where its assignment makes the formula false, `false I` with the least clause that is false. The input is the
-/// line of a shape's cells and behind it the model text. `MOST` is the most bytes that are read of an input.
+/// The coronas that a model text has of the corona formula of a level and a version: `coronas J` and a layer line for
+/// each. Or, where its assignment makes the formula false, `false I` with the least clause that is false. The input is
+/// the line of a shape's cells and behind it the model text. `MOST` is the most bytes that are read of an input.
 ///
 /// Condition: the level is 1 to 6, the size 1 to 60,000,000. `Fault` has the first line at fault, from 1, and the
 /// number of its fault: 13 where the input is empty; 8 where the shape's line doesn't end within `MOST` bytes and the
 /// input goes on beyond them; 6 where it isn't the line that is wanted there; 1 to 5 where its cells are no shape; 14
 /// where the shape's formula is too large; 15 where it names a variable that isn't the formula's or was named before.
-/// In one line 13 comes before 8, 8 before 6, 6 before 1 to 5, then 14, and 15 last. 14 comes exactly where the formula
-/// has more than `size` literals. The cost is that of `encode_flat`, of the text, and of a look at each variable for
-/// each level.
+/// In one line 13 comes before 8, 8 before 6, 6 before 1 to 5, then 14, and 15 last. 14 comes exactly where the
+/// formula has more than `size` literals. The cost is that of `encode_flat`, of the text, and of a look at each
+/// variable for each level.
 pub fn answer<const MOST: u64>(
     alloc: Global,
     grid: GridName,

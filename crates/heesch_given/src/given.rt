@@ -15,15 +15,15 @@ use std::alloc::Global;
 /// The most bytes of a piece.
 const PIECE_MAX: usize = 4096;
 
-/// The canonical forms of the shapes of the list text that the source has left, in their order, or its first fault: the
-/// line, from 1, and 1 to 5 where its cells are no shape, 6 where it is no line of a list, 7 where it is line 10,001, 8 where
-/// the text goes on in it beyond the most bytes that are read.
+/// The canonical forms of the shapes of the list text that the source has left, in their order, or its first fault:
+/// the line, from 1, and 1 to 5 where its cells are no shape, 6 where it is no line of a list, 7 where it is line
+/// 10,001, 8 where the text goes on in it beyond the most bytes that are read.
 ///
-/// At most `MOST` bytes are read, and one more that shows that the text is longer: then fault 8 comes where no line that
-/// ends in these bytes is at fault, and line 10,001 doesn't begin. Reading stops with the piece that shows the first
-/// fault, and shapes come at the end of the text alone. `Failed` comes only where the source's count of faults rose, and
-/// `NoMemory` where memory was refused. The cost is linear in the text, and each shape is brought to its canonical form
-/// once. It keeps the shapes, and at most 33 cells and one word of a line.
+/// At most `MOST` bytes are read, and one more that shows that the text is longer: then fault 8 comes where no line
+/// that ends in these bytes is at fault, and line 10,001 doesn't begin. Reading stops with the piece that shows the
+/// first fault, and shapes come at the end of the text alone. `Failed` comes only where the source's count of faults
+/// rose, and `NoMemory` where memory was refused. The cost is linear in the text, and each shape is brought to its
+/// canonical form once. It keeps the shapes, and at most 33 cells and one word of a line.
 pub fn shapes_given<G: Grid, R: Source, const MOST: u64>(
     alloc: Global,
     source: &mut R,

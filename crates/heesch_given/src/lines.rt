@@ -5,7 +5,8 @@ ghost use Rattle.heesch_grid.specs.Vectors.{IsWithin};
 ghost use Rattle.heesch_line.specs.Scanning.{IsScanned};
 ghost use Rattle.heesch_shape.specs.Faults.{IsFault, IsFaultless};
 ghost use Rattle.heesch_given.specs.Given.{AreGiven, IsCanonicalOf};
-ghost use Rattle.heesch_given.specs.Steps.{IsRead, MayGoOn, IsSomeLine, EndsLine, IsFrontStop, IsWholeStop, IsStopBeyond};
+ghost use Rattle.heesch_given.specs.Steps.{IsRead, MayGoOn, IsSomeLine, EndsLine, IsFrontStop, IsWholeStop};
+ghost use Rattle.heesch_given.specs.Steps.{IsStopBeyond};
 
 use heesch_grid::{Cell, Grid};
 use heesch_io::NoMemory;
@@ -63,9 +64,11 @@ impl<G: Grid> GivenLines<G> {
     /// The shapes of all lines, where the bytes have ended.
     pub fn finish(mut self) -> Result<Vec<Shape<G>>, InputStop<u32>>
         requires { MayGoOn G.geometry self.shapes.items self.line }
-        ensures ok { (before : List ℕ) (most : ℕ) → length before ≤ most → IsRead G.geometry before self.shapes.items self.line
+        ensures ok { (before : List ℕ) (most : ℕ) → length before ≤ most
+            → IsRead G.geometry before self.shapes.items self.line
             → IfOk result (λ shapes. AreGiven most G.geometry before shapes.items) }
-        ensures stop { (before : List ℕ) (most : ℕ) → length before ≤ most → IsRead G.geometry before self.shapes.items self.line
+        ensures stop { (before : List ℕ) (most : ℕ) → length before ≤ most
+            → IsRead G.geometry before self.shapes.items self.line
             → IfErr result (IsWholeStop most G.geometry before) }
     {
         if self.line.has_begun() {
@@ -76,7 +79,8 @@ impl<G: Grid> GivenLines<G> {
 
     /// The fault of a text that goes on behind the most bytes that are read.
     pub fn beyond(&self) -> InputStop<u32>
-        ensures { (before : List ℕ) → IsRead G.geometry before self.now.shapes.items self.now.line → IsStopBeyond G.geometry before result }
+        ensures { (before : List ℕ) → IsRead G.geometry before self.now.shapes.items self.now.line
+            → IsStopBeyond G.geometry before result }
     {
         if self.shapes.len() >= MOST_SHAPES {
             return self.fault(TOO_MANY_SHAPES);

@@ -3,7 +3,8 @@ ghost use Rattle.std.specs.Prelude.{◌≡◌, ◌∷◌, [], true, false, IfOk}
 ghost use Rattle.heesch_text.specs.declared.line.Line.TheVariants as line;
 ghost use Rattle.heesch_text.specs.Catalogue.{entry_lines, evidence_lines};
 ghost use Rattle.heesch_grammar.specs.Grammar.{judged};
-ghost use Rattle.heesch_grammar.specs.Entries.{AreEntryLines, HoldsItsLines, HoldsEvidence, Begin, HasLattice, IsCoverAt, Lead};
+ghost use Rattle.heesch_grammar.specs.Entries.{AreEntryLines, HoldsItsLines, HoldsEvidence, Begin, HasLattice};
+ghost use Rattle.heesch_grammar.specs.Entries.{IsCoverAt, Lead};
 
 use crate::parts::{take_lattice, take_tiles};
 use crate::searches::take_search;

@@ -1,5 +1,6 @@
 //! What holds of the lines of entries, each the contract of a function that does nothing.
-ghost use Rattle.heesch_grammar.specs.Statements.{LinesDetermineEntries, TrueEntriesMayStand, TrueCataloguesAreWhole, EntriesEndAnywhere};
+ghost use Rattle.heesch_grammar.specs.Statements.{LinesDetermineEntries, TrueEntriesMayStand, TrueCataloguesAreWhole};
+ghost use Rattle.heesch_grammar.specs.Statements.{EntriesEndAnywhere};
 
 /// Two entries that hold nothing beyond their lines, and have the same lines, are the same.
 pub fn lines_determine_entries()

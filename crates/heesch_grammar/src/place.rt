@@ -13,8 +13,8 @@ pub enum AfterProof {
     Triples,
 }
 
-/// The end of the lines so far, with the numbers that a later line of the entry must have: `last` is the last number of
-/// the verdict's line, `count` a number of layers.
+/// The end of the lines so far, with the numbers that a later line of the entry must have: `last` is the last number
+/// of the verdict's line, `count` a number of layers.
 #[derive(Clone, Copy, Debug, PartialEq, Eq)]
 pub enum Place {
     /// Between two entries: after the header, or after the verdict in a brief text.

@@ -36,8 +36,8 @@ pub trait Sizes {
     const TOUCHING: u32;
 }
 
-/// A grid of the plane: its cells, its turns and its neighbours. What goes to threads asks for `Send` and `Sync` beside
-/// it: a method of a trait gets no proof where it calls a function whose bound has them among its supertraits.
+/// A grid of the plane: its cells, its turns and its neighbours. What goes to threads asks for `Send` and `Sync`
+/// beside it: a method of a trait gets no proof where it calls a function whose bound has them among its supertraits.
 ///
 /// Two different cells are adjacent where they share exactly two corners, and touch where they
 /// share at least one. Coordinates of arguments lie within 1,000,000 of 0. Every call takes a fixed

@@ -65,7 +65,8 @@ pub fn difference(from: Cell, to: Cell) -> Cell
     }
 }
 
-/// The cell, moved by the step. The coordinates of the cell lie within 2,000,000 of 0, those of the step within 3,000,000.
+/// The cell, moved by the step. The coordinates of the cell lie within 2,000,000 of 0, those of the step within
+/// 3,000,000.
 pub fn moved(from: Cell, step: Cell) -> Cell
     requires from { IsWithin 2000000 from }
     requires step { IsWithin 3000000 step }

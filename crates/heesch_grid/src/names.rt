@@ -19,7 +19,8 @@ impl GridName {
 
     /// The grid that a word names. None exactly where the word is of no grid.
     pub fn named(word: &str) -> Option<GridName>
-        ensures { MatchOption result ((grid : GridName) → word.now ≢ grid_word grid) (λ grid. word.now ≡ grid_word grid) }
+        ensures { MatchOption result ((grid : GridName) → word.now ≢ grid_word grid)
+            (λ grid. word.now ≡ grid_word grid) }
     {
         match word {
             "square" => Some(GridName::Square),

@@ -15,7 +15,8 @@ fn first_of_row<G: Grid>(b: i32) -> Option<Cell>
     requires high { b <ℤ pos 6 }
     ensures found { IfSome result (λ c. G.geometry.is_cell c ≡ true) }
     ensures near { IfSome result (IsWithin 6) }
-    ensures none { IfNone result ((a : ℤ) → pos 0 ≤ℤ a → a <ℤ pos G.geometry.unit → G.geometry.is_cell (cell a b) ≡ false) }
+    ensures none { IfNone result
+        ((a : ℤ) → pos 0 ≤ℤ a → a <ℤ pos G.geometry.unit → G.geometry.is_cell (cell a b) ≡ false) }
 {
     for a in 0..G::UNIT {
         let c = Cell { a, b };

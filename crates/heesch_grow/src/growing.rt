@@ -1,5 +1,6 @@
 //! The shapes of one more cell.
-ghost use Rattle.std.specs.Prelude.{ℕ, ◌≡◌, ◌≤◌, ◌++◌, ◌∷◌, ◌⊎◌, [], false, true, length, List, OnOk, IfOk, Contains, All};
+ghost use Rattle.std.specs.Prelude.{ℕ, ◌≡◌, ◌≤◌, ◌++◌, ◌∷◌, ◌⊎◌, [], false, true, length, List, OnOk, IfOk, Contains};
+ghost use Rattle.std.specs.Prelude.{All};
 ghost use Rattle.heesch_grid.specs.declared.Cell.{Cell};
 ghost use Rattle.heesch_grid.specs.Cells.{cells_before, has};
 ghost use Rattle.heesch_grid.specs.Listing.{ListsExactly};
@@ -47,7 +48,8 @@ fn add_beside<G: Grid>(
     requires near { IsWithin 100000 c }
     requires before { (d : Cell) → has earlier.now d ≡ true → has parent.now d ≡ true }
     requires done { (r : List Cell) → IsChildOfSome G.geometry parent.now earlier.now r → Contains all.old.items r }
-    ensures { OnOk result (Adds (IsGrownFrom G.geometry parent.now) (IsChildAt G.geometry parent.now c) all.old.items all.new.items) }
+    ensures { OnOk result
+        (Adds (IsGrownFrom G.geometry parent.now) (IsChildAt G.geometry parent.now c) all.old.items all.new.items) }
 {
     let _shape = parent.cells();
     for i in 0..G::ADJACENT {
@@ -63,7 +65,8 @@ fn add_beside<G: Grid>(
 fn add_children<G: Grid>(all: &mut Vec<Shape<G>>, parent: &Shape<G>) -> Result<(), NoMemory>
     requires few { length parent.now ≤ 31 }
     requires near { (c : Cell) → has parent.now c ≡ true → IsWithin 100000 c }
-    ensures { OnOk result (Adds (IsGrownFrom G.geometry parent.now) (IsGrownFrom G.geometry parent.now) all.old.items all.new.items) }
+    ensures { OnOk result
+        (Adds (IsGrownFrom G.geometry parent.now) (IsGrownFrom G.geometry parent.now) all.old.items all.new.items) }
 {
     let cells = parent.cells();
     for (at, c) in cells.iter().enumerate() {

@@ -1,5 +1,6 @@
 //! A source and a sink in memory, whose calls fail where a test wants it.
-ghost use Rattle.std.specs.Prelude.{◌≡◌, ◌<◌, ◌≤◌, ◌+◌, ◌-◌, ◌^◌, ◌↔◌, ◌⊎◌, [], ◌++◌, drop, take, length, min, Some, IsTrue, IsErr, IfOk, OnOk, OnErr, vec_len};
+ghost use Rattle.std.specs.Prelude.{◌≡◌, ◌<◌, ◌≤◌, ◌+◌, ◌-◌, ◌^◌, ◌↔◌, ◌⊎◌, [], ◌++◌, drop, take, length, min, Some};
+ghost use Rattle.std.specs.Prelude.{IsTrue, IsErr, IfOk, OnOk, OnErr, vec_len};
 ghost use Rattle.std.specs.Vec.{vec_capacity};
 ghost use Rattle.std.specs.Io.{ReadsAtMost};
 ghost use Rattle.std.specs.Io.KnownBytes.{ReadConsumes, WriteAppends};
@@ -130,7 +131,8 @@ impl Sink for MemorySink {
         ensures calls { self.new.calls ≡ capped (self.old.calls + 1) }
         ensures full { IsFull self.old.held → ¬ FailsNext self.old.fails.items self.old.calls
             → self.new.full ≡ capped (self.old.full + 1) }
-        ensures not_full { FailsNext self.old.fails.items self.old.calls ⊎ (vec_len self.old.held < vec_capacity self.old.held)
+        ensures not_full { FailsNext self.old.fails.items self.old.calls
+            ⊎ (vec_len self.old.held < vec_capacity self.old.held)
             → self.new.full ≡ self.old.full }
         ensures kept { IsErr result → self.new.held ≡ self.old.held }
         ensures room { vec_capacity self.old.held ≤ vec_capacity self.new.held }

@@ -10,9 +10,9 @@ use heesch_grid::turns::hex_turn;
 use heesch_grid::{Cell, Numbers, Tabled, Tables, cells};
 pub use heesch_grid::{GridName, Hex, Iamond, Square};
 
-/// What a function that is generic over the grid answers on the grid of a name: `on_grid!(name, f::<_, T, H>(x, y))` is
-/// `f::<G, T, H>(x, y)` for that grid G. A match and no trait, since a trait's method that is generic over the grid gets no
-/// proof where it starts threads.
+/// What a function that is generic over the grid answers on the grid of a name: `on_grid!(name, f::<_, T, H>(x, y))`
+/// is `f::<G, T, H>(x, y)` for that grid G. A match and no trait, since a trait's method that is generic over the grid
+/// gets no proof where it starts threads.
 #[macro_export]
 macro_rules! on_grid {
     ($name:expr, $call:ident::<_ $(, $kind:ty)*>($($value:expr),* $(,)?)) => {
@@ -62,8 +62,8 @@ static KITE_5: Tables = Tables {
     touching: &cells![2, -4; 3, -3; -1, -1; -3, 0; 3, 0; -4, 2; -1, 2; 2, 2; -3, 3],
 };
 
-/// The grid of kites: a cell is six times a pair of whole numbers, added to one of the six kites around (0, 0); no other
-/// pair is a cell.
+/// The grid of kites: a cell is six times a pair of whole numbers, added to one of the six kites around (0, 0); no
+/// other pair is a cell.
 #[derive(Clone, Copy, Debug)]
 pub struct Kite;
 

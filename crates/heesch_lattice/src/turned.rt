@@ -50,7 +50,8 @@ fn turned_end<G: Grid>(k: u32, v: Cell) -> Cell
     by.apply::<G>(ORIGIN)
 }
 
-/// Whether turn k brings the ends of two vectors, in units, from (0, 0) to where they differ by the lattice from (0, 0).
+/// Whether turn k brings the ends of two vectors, in units, from (0, 0) to where they differ by the lattice from (0,
+/// 0).
 fn carries<G: Grid>(k: u32, first: Cell, second: Cell, to: Triple) -> bool
     requires turn { k < G.geometry.turns }
     requires first { IsWithin 10000 first }
@@ -62,8 +63,8 @@ fn carries<G: Grid>(k: u32, first: Cell, second: Cell, to: Triple) -> bool
         && to.same::<G>(start, turned_end::<G>(k, second))
 }
 
-/// Whether turn k, which is below TURNS, carries the lattice of one triple onto that of the other. Cost: the turns of six
-/// pairs, and 24 divisions.
+/// Whether turn k, which is below TURNS, carries the lattice of one triple onto that of the other. Cost: the turns of
+/// six pairs, and 24 divisions.
 pub fn is_turned<G: Grid>(k: u32, from: Triple, to: Triple) -> bool
     requires { k < G.geometry.turns }
     ensures onto { (result ≡ true) ↔ TurnsOnto G.geometry k from to }

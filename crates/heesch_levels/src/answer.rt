@@ -42,21 +42,21 @@ pub enum WallAnswer {
     TooLarge,
 }
 
-/// Searches for j coronas of the shape whose patches of the levels 1 to `free_levels` are hole-free, by a solver on the
-/// corona formula of level j in this version: with 0 holes are allowed, with j forbidden, and with j - 1 they may stand in
-/// the outermost corona alone.
+/// Searches for j coronas of the shape whose patches of the levels 1 to `free_levels` are hole-free, by a solver on
+/// the corona formula of level j in this version: with 0 holes are allowed, with j forbidden, and with j - 1 they may
+/// stand in the outermost corona alone.
 ///
-/// `TooLarge` comes exactly where the formula has more than `size` literals. `Refuted` comes at once, without a step, where
-/// a clause of the formula is empty. `Spent` comes only where the proof has exactly `turns` steps, each of them new, and no
-/// final line holds over it. Each model that leaves a hole at a level where none may be is answered by a cut of that level
-/// against it, which is a step.
+/// `TooLarge` comes exactly where the formula has more than `size` literals. `Refuted` comes at once, without a step,
+/// where a clause of the formula is empty. `Spent` comes only where the proof has exactly `turns` steps, each of them
+/// new, and no final line holds over it. Each model that leaves a hole at a level where none may be is answered by a
+/// cut of that level against it, which is a step.
 ///
-/// Condition: j is 1 to 6, `free_levels` at most j, `turns` 1 to 1,000,000, `size` 1 to 60,000,000, and the shape is its own
-/// canonical list.
+/// Condition: j is 1 to 6, `free_levels` at most j, `turns` 1 to 1,000,000, `size` 1 to 60,000,000, and the shape is
+/// its own canonical list.
 ///
-/// The cost is that of the formula, with that of the first `free_levels` levels where they are some and not all, and of the
-/// solver; that of `cut_for` for each model, where holes are forbidden at all; and at the end a look at each variable for
-/// each level, or at each step. The clauses of the steps are moved.
+/// The cost is that of the formula, with that of the first `free_levels` levels where they are some and not all, and
+/// of the solver; that of `cut_for` for each model, where holes are forbidden at all; and at the end a look at each
+/// variable for each level, or at each step. The clauses of the steps are moved.
 pub fn level_up_to<G: Grid>(
     alloc: Global,
     shape: &Shape<G>,
@@ -72,8 +72,10 @@ pub fn level_up_to<G: Grid>(
     requires size { (1 ≤ size) × (size ≤ 60000000) }
     requires canonical { IsCanonicalListOf G.geometry shape.now shape.now }
     ensures answer { IfOk result (IsAnswerUpTo version G.geometry shape.now j free_levels turns size) }
-    ensures too_large { IfOk result (λ answer. IsTooLarge version G.geometry shape.now j size → answer ≡ LevelAnswer.TooLarge) }
-    ensures at_once { IfOk result (λ answer. answer ≢ LevelAnswer.TooLarge → NamesEmptyClauses version G.geometry shape.now j answer) }
+    ensures too_large { IfOk result
+        (λ answer. IsTooLarge version G.geometry shape.now j size → answer ≡ LevelAnswer.TooLarge) }
+    ensures at_once { IfOk result
+        (λ answer. answer ≢ LevelAnswer.TooLarge → NamesEmptyClauses version G.geometry shape.now j answer) }
 {
     let effort = Effort {
         turns,
@@ -93,19 +95,19 @@ fn levels_without_holes(j: u32, hole_free: bool) -> u32
     if hole_free { j } else { 0 }
 }
 
-/// Searches for j coronas of the shape, hole-free ones where `hole_free`, by a solver on the corona formula of level j in
-/// this version.
+/// Searches for j coronas of the shape, hole-free ones where `hole_free`, by a solver on the corona formula of level j
+/// in this version.
 ///
-/// `TooLarge` comes exactly where the formula has more than `size` literals. `Refuted` comes only where there are no such
-/// coronas, and at once, without a step, where a clause of the formula is empty. `Spent` comes only where the proof has
-/// exactly `turns` steps, each of them new, and no final line holds over it; never where 3 to the power of the formula's
-/// variables is below `turns`. Where holes are forbidden, each model that leaves a hole is answered by a cut
-/// against it, which is a step; where they are allowed, no step is a cut.
+/// `TooLarge` comes exactly where the formula has more than `size` literals. `Refuted` comes only where there are no
+/// such coronas, and at once, without a step, where a clause of the formula is empty. `Spent` comes only where the
+/// proof has exactly `turns` steps, each of them new, and no final line holds over it; never where 3 to the power of
+/// the formula's variables is below `turns`. Where holes are forbidden, each model that leaves a hole is answered by a
+/// cut against it, which is a step; where they are allowed, no step is a cut.
 ///
 /// Condition: j is 1 to 6, `turns` 1 to 1,000,000, `size` 1 to 60,000,000, and the shape is its own canonical list.
 ///
-/// The cost is that of the formula and of the solver; where holes are forbidden, that of `cut_for` for each model; and at
-/// the end a look at each variable for each level, or at each step. The clauses of the steps are moved.
+/// The cost is that of the formula and of the solver; where holes are forbidden, that of `cut_for` for each model; and
+/// at the end a look at each variable for each level, or at each step. The clauses of the steps are moved.
 pub fn level<G: Grid>(
     alloc: Global,
     shape: &Shape<G>,
@@ -120,8 +122,10 @@ pub fn level<G: Grid>(
     requires size { (1 ≤ size) × (size ≤ 60000000) }
     requires canonical { IsCanonicalListOf G.geometry shape.now shape.now }
     ensures answer { IfOk result (IsLevelAnswer version G.geometry shape.now j hole_free turns size) }
-    ensures too_large { IfOk result (λ answer. IsTooLarge version G.geometry shape.now j size → answer ≡ LevelAnswer.TooLarge) }
-    ensures at_once { IfOk result (λ answer. answer ≢ LevelAnswer.TooLarge → NamesEmptyClauses version G.geometry shape.now j answer) }
+    ensures too_large { IfOk result
+        (λ answer. IsTooLarge version G.geometry shape.now j size → answer ≡ LevelAnswer.TooLarge) }
+    ensures at_once { IfOk result
+        (λ answer. answer ≢ LevelAnswer.TooLarge → NamesEmptyClauses version G.geometry shape.now j answer) }
 {
     // Reading the cells tells the proof that they are a polyform.
     let _cells = shape.cells();
@@ -129,15 +133,15 @@ pub fn level<G: Grid>(
     level_up_to(alloc, shape, j, free_levels, turns, size, version)
 }
 
-/// Searches for j hole-free coronas of the shape, as `level` does, and where there are none tells whether there are any
-/// with holes.
+/// Searches for j hole-free coronas of the shape, as `level` does, and where there are none tells whether there are
+/// any with holes.
 ///
-/// There are some exactly where the refutation has a cut: each cut was made against a model, whose layers are j coronas
-/// with a hole. Those of the first such model are answered, and it is the one that the search with holes allowed ends
-/// with; so behind `Refuted` or `Holed` that search need not be made at this level.
+/// There are some exactly where the refutation has a cut: each cut was made against a model, whose layers are j
+/// coronas with a hole. Those of the first such model are answered, and it is the one that the search with holes
+/// allowed ends with; so behind `Refuted` or `Holed` that search need not be made at this level.
 ///
-/// The condition and the cost are those of `level`, and behind a refutation with cuts one more look at each variable for
-/// each level.
+/// The condition and the cost are those of `level`, and behind a refutation with cuts one more look at each variable
+/// for each level.
 pub fn wall<G: Grid>(
     alloc: Global,
     shape: &Shape<G>,
@@ -150,10 +154,14 @@ pub fn wall<G: Grid>(
     requires turns { (1 ≤ turns) × (turns ≤ 1000000) }
     requires size { (1 ≤ size) × (size ≤ 60000000) }
     requires canonical { IsCanonicalListOf G.geometry shape.now shape.now }
-    ensures answer { IfOk result (λ answer. IsLevelAnswer version G.geometry shape.now j true turns size (level_answer answer)) }
+    ensures answer { IfOk result
+        (λ answer. IsLevelAnswer version G.geometry shape.now j true turns size (level_answer answer)) }
     ensures holes { IfOk result (ShowsHoles G.geometry shape.now j) }
-    ensures too_large { IfOk result (λ answer. IsTooLarge version G.geometry shape.now j size → answer ≡ WallAnswer.TooLarge) }
-    ensures at_once { IfOk result (λ answer. answer ≢ WallAnswer.TooLarge → NamesEmptyClauses version G.geometry shape.now j (level_answer answer)) }
+    ensures too_large { IfOk result
+        (λ answer. IsTooLarge version G.geometry shape.now j size → answer ≡ WallAnswer.TooLarge) }
+    ensures at_once { IfOk result
+        (λ answer. answer ≢ WallAnswer.TooLarge
+        → NamesEmptyClauses version G.geometry shape.now j (level_answer answer)) }
 {
     let effort = Effort {
         turns,

@@ -13,8 +13,8 @@ use heesch_place::Universe;
 use heesch_shape::Shape;
 use std::alloc::Global;
 
-/// The variables of a formula, up to which level holes are forbidden, and the universe of these levels where they are some
-/// and not all.
+/// The variables of a formula, up to which level holes are forbidden, and the universe of these levels where they are
+/// some and not all.
 #[derive(Drop)]
 pub struct Asked<G: Grid> {
     pub universe: Universe<G>,
@@ -64,8 +64,8 @@ impl<G: Grid> Asked<G> {
         })
     }
 
-    /// A cut against a hole that the placements of a model enclose up to that level, or none exactly where they enclose
-    /// none.
+    /// A cut against a hole that the placements of a model enclose up to that level, or none exactly where they
+    /// enclose none.
     pub fn cut(
         &self,
         alloc: Global,
@@ -74,8 +74,10 @@ impl<G: Grid> Asked<G> {
     ) -> Result<Option<Cut>, NoMemory>
         requires asked { IsAsked G.geometry shape.now self.now.universe self.now.free_levels self.now.inner }
         requires values { length self.now.universe.vars ≤ length values.now }
-        ensures { IfOk result (λ cut. MatchOption cut (IsFreeUpTo G.geometry self.now.universe self.now.free_levels values.now)
-            (λ cut. CutsOff G.geometry self.now.universe values.now cut × IsCutUpTo G.geometry self.now.universe self.now.free_levels cut)) }
+        ensures { IfOk result
+            (λ cut. MatchOption cut (IsFreeUpTo G.geometry self.now.universe self.now.free_levels values.now)
+            (λ cut. CutsOff G.geometry self.now.universe values.now cut
+            × IsCutUpTo G.geometry self.now.universe self.now.free_levels cut)) }
     {
         if self.free_levels == 0 {
             return Ok(None);

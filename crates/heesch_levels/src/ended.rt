@@ -1,5 +1,6 @@
 //! The end of a search, and what it says of the level.
-ghost use Rattle.std.specs.Prelude.{◌≡◌, ◌≤◌, ◌<◌, ◌^◌, ℕ, List, [], true, false, length, IfOk, IfSome, IfNone, MatchOption};
+ghost use Rattle.std.specs.Prelude.{◌≡◌, ◌≤◌, ◌<◌, ◌^◌, ℕ, List, [], true, false, length, IfOk, IfSome, IfNone};
+ghost use Rattle.std.specs.Prelude.{MatchOption};
 ghost use Rattle.heesch_grid.specs.declared.Cell.{Cell};
 ghost use Rattle.heesch_grid.specs.Geometry.{Geometry};
 ghost use Rattle.heesch_grid.specs.Polyform.{IsCanonicalListOf};
@@ -50,8 +51,8 @@ fn has_room(formula: &FlatFormula) -> bool
     formula.len() < CLAUSES_MAX
 }
 
-/// The search at this level to its end, with holes forbidden at the levels from 1 to `free_levels`; none where the corona
-/// formula has more literals than it may have.
+/// The search at this level to its end, with holes forbidden at the levels from 1 to `free_levels`; none where the
+/// corona formula has more literals than it may have.
 pub fn ended_at<G: Grid>(
     alloc: Global,
     shape: &Shape<G>,
@@ -64,8 +65,11 @@ pub fn ended_at<G: Grid>(
     requires turns { (1 ≤ effort.turns) × (effort.turns ≤ 1000000) }
     requires size { (1 ≤ effort.size) × (effort.size ≤ 60000000) }
     requires canonical { IsCanonicalListOf G.geometry shape.now shape.now }
-    ensures ended { IfOk result (λ e. IfSome e (λ e. IsEnded G.geometry e.asked.universe e.asked.free_levels e.search e.ending)) }
-    ensures under { IfOk result (λ e. IfSome e (λ e. IsUnder effort.version G.geometry shape.now j free_levels effort.turns effort.size e.asked.universe e.asked.free_levels e.search)) }
+    ensures ended { IfOk result
+        (λ e. IfSome e (λ e. IsEnded G.geometry e.asked.universe e.asked.free_levels e.search e.ending)) }
+    ensures under { IfOk result
+        (λ e. IfSome e (λ e. IsUnder effort.version G.geometry shape.now j free_levels effort.turns effort.size
+        e.asked.universe e.asked.free_levels e.search)) }
     ensures too_large { IfOk result (λ e. IfNone e (IsTooLarge effort.version G.geometry shape.now j effort.size)) }
 {
     // Reading the cells tells the proof that they are a polyform.
@@ -111,9 +115,13 @@ fn wall_of(answer: LevelAnswer, holed: Option<Layers>) -> WallAnswer
 impl<G: Grid> Ended<G> {
     /// Where a refutation has a cut, the layers of the model that the first one was made against.
     fn holed_layers(&self, alloc: Global) -> Result<Option<Layers>, NoMemory>
-        requires { IsEnded G.geometry self.now.asked.universe self.now.asked.free_levels self.now.search self.now.ending }
-        ensures { (version : Numbered) → IsCountedFormula version G.geometry self.now.asked.universe.shape self.now.asked.universe.level self.now.asked.universe.vars self.now.search.solver.vars self.now.search.solver.clauses
-            → IfOk result (λ holed. MatchOption holed (self.now.ending ≡ Ending.Refuted → self.now.search.cuts ≡ []) (SpellsCoronas G.geometry self.now.asked.universe.shape self.now.asked.universe.level false)) }
+        requires { IsEnded G.geometry self.now.asked.universe self.now.asked.free_levels self.now.search
+            self.now.ending }
+        ensures { (version : Numbered)
+            → IsCountedFormula version G.geometry self.now.asked.universe.shape self.now.asked.universe.level
+            self.now.asked.universe.vars self.now.search.solver.vars self.now.search.solver.clauses
+            → IfOk result (λ holed. MatchOption holed (self.now.ending ≡ Ending.Refuted → self.now.search.cuts ≡ [])
+            (SpellsCoronas G.geometry self.now.asked.universe.shape self.now.asked.universe.level false)) }
     {
         match (&self.ending, &self.search.holed) {
             (Ending::Refuted, Some(values)) => {
@@ -129,7 +137,8 @@ impl<G: Grid> Ended<G> {
         requires { IsEnded G.geometry self.asked.universe self.asked.free_levels self.search self.ending }
         ensures answer { (version : Numbered) (shape : List Cell) (j k turns size : ℕ)
             → IsUnder version G.geometry shape j k turns size self.asked.universe self.asked.free_levels self.search
-            → IfOk result (λ answer. IsAnswerUpTo version G.geometry shape j k turns size answer × NamesEmptyClauses version G.geometry shape j answer) }
+            → IfOk result (λ answer. IsAnswerUpTo version G.geometry shape j k turns size answer
+            × NamesEmptyClauses version G.geometry shape j answer) }
         ensures no_cut { (self.ending ≡ Ending.Refuted → self.search.cuts ≡ []) → IfOk result RefutesWithoutCut }
     {
         let Ended {

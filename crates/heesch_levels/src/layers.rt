@@ -20,7 +20,9 @@ fn layer_of<G: Grid>(
     level: u32,
 ) -> Result<Isos, NoMemory>
     requires { length universe.now.vars ≤ length values.now }
-    ensures { IfOk result (λ layer. AllZip (λ by tile. IsLeastIsometry G.geometry universe.now.shape tile by) layer (chosen_layer (assignment_of values.now) universe.now.vars level)) }
+    ensures { IfOk result
+        (λ layer. AllZip (λ by tile. IsLeastIsometry G.geometry universe.now.shape tile by) layer
+        (chosen_layer (assignment_of values.now) universe.now.vars level)) }
 {
     let mut layer = Seq::new(alloc);
     for before in 0..universe.count() {
@@ -32,18 +34,21 @@ fn layer_of<G: Grid>(
     Ok(layer)
 }
 
-/// The layers that an assignment of a corona formula's variables chooses, spelled as those of a true entry: for each level
-/// the tiles of its true variables, in rising order of their cell lists, each by its least isometry. Where the assignment
-/// makes the formula true, they are coronas.
+/// The layers that an assignment of a corona formula's variables chooses, spelled as those of a true entry: for each
+/// level the tiles of its true variables, in rising order of their cell lists, each by its least isometry. Where the
+/// assignment makes the formula true, they are coronas.
 ///
-/// Condition: a value for each variable of the universe, and maybe more. The cost is a look at each variable for each level.
+/// Condition: a value for each variable of the universe, and maybe more. The cost is a look at each variable for each
+/// level.
 pub fn layers_of<G: Grid>(
     alloc: Global,
     universe: &Universe<G>,
     values: &[bool],
 ) -> Result<Layers, NoMemory>
     requires { length universe.now.vars ≤ length values.now }
-    ensures { IfOk result (λ layers. Spells G.geometry universe.now.shape layers.layers (chosen_layers (assignment_of values.now) universe.now.vars universe.now.level)) }
+    ensures { IfOk result
+        (λ layers. Spells G.geometry universe.now.shape layers.layers
+        (chosen_layers (assignment_of values.now) universe.now.vars universe.now.level)) }
 {
     // Reading the count tells the proof that the variables rise.
     let _count = universe.count();

@@ -4,7 +4,8 @@ ghost use Rattle.heesch_grid.specs.Geometry.{Geometry};
 ghost use Rattle.heesch_cnf.specs.Meaning.{given_clauses};
 ghost use Rattle.heesch_cuts.specs.Chosen.{CutsOff};
 ghost use Rattle.heesch_place.specs.Universes.{IsUniverseOf, Levels};
-ghost use Rattle.heesch_levels.specs.Searching.{EndsAtOnce, GoesOn, IsAsked, IsCutUpTo, IsEnding, IsSearch, TurnsAtOnce};
+ghost use Rattle.heesch_levels.specs.Searching.{EndsAtOnce, GoesOn, IsAsked, IsCutUpTo, IsEnding, IsSearch};
+ghost use Rattle.heesch_levels.specs.Searching.{TurnsAtOnce};
 ghost use Rattle.heesch_levels.specs.Steps.{proof_of};
 
 use crate::asked::Asked;
@@ -18,8 +19,8 @@ use heesch_io::{NoMemory, Seq};
 use heesch_shape::Shape;
 use std::alloc::Global;
 
-/// How a search ended: with the values of a model, which leaves no hole where that was asked; with a log that refutes; or
-/// with all turns taken.
+/// How a search ended: with the values of a model, which leaves no hole where that was asked; with a log that refutes;
+/// or with all turns taken.
 #[derive(Drop)]
 pub enum Ending {
     Model { values: Seq<bool> },
@@ -27,8 +28,8 @@ pub enum Ending {
     Spent,
 }
 
-/// The solver and its turns, the cuts whose clauses were given to it, in order, and the values of the model that the first
-/// of them was made against.
+/// The solver and its turns, the cuts whose clauses were given to it, in order, and the values of the model that the
+/// first of them was made against.
 #[derive(Drop)]
 pub struct Search {
     pub solver: Solver,
@@ -51,7 +52,8 @@ impl Search {
     pub fn open(alloc: Global, formula: FlatFormula, turns: u32) -> Result<Search, NoMemory>
         requires turns { (1 ≤ turns) × (turns ≤ 1000000) }
         requires few { length formula.clauses < 2 ^ 30 }
-        ensures search { (g : Geometry) (u : Levels) (k : ℕ) → length u.vars ≤ formula.vars → IfOk result (IsSearch g u k) }
+        ensures search { (g : Geometry) (u : Levels) (k : ℕ) → length u.vars ≤ formula.vars
+            → IfOk result (IsSearch g u k) }
         ensures turns { IfOk result (λ s. s.turns ≡ turns) }
         ensures vars { IfOk result (λ s. s.solver.vars ≡ formula.vars) }
         ensures clauses { IfOk result (λ s. s.solver.clauses ≡ formula.clauses) }
@@ -96,8 +98,10 @@ impl Search {
         requires asked { IsAsked G.geometry shape.now asked.now.universe asked.now.free_levels asked.now.inner }
         requires search { IsSearch G.geometry asked.now.universe asked.now.free_levels self.old }
         ensures on { IfOk result (λ _. GoesOn G.geometry asked.now.universe asked.now.free_levels self.old self.new) }
-        ensures ending { IfOk result (λ ending. IfSome ending (IsEnding G.geometry asked.now.universe asked.now.free_levels self.new.solver)) }
-        ensures more { IfOk result (λ ending. IfNone ending (length self.old.solver.log.lines < length self.new.solver.log.lines)) }
+        ensures ending { IfOk result
+            (λ ending. IfSome ending (IsEnding G.geometry asked.now.universe asked.now.free_levels self.new.solver)) }
+        ensures more { IfOk result
+            (λ ending. IfNone ending (length self.old.solver.log.lines < length self.new.solver.log.lines)) }
         ensures at_once { IfOk result (TurnsAtOnce self.old.solver self.new.solver) }
     {
         match self.solver.next()? {
@@ -119,8 +123,10 @@ impl Search {
         requires search { IsSearch G.geometry asked.now.universe asked.now.free_levels self.old }
         requires kept { self.old.solver.model ≡ Some values }
         ensures on { IfOk result (λ _. GoesOn G.geometry asked.now.universe asked.now.free_levels self.old self.new) }
-        ensures ending { IfOk result (λ ending. IfSome ending (IsEnding G.geometry asked.now.universe asked.now.free_levels self.new.solver)) }
-        ensures more { IfOk result (λ ending. IfNone ending (length self.old.solver.log.lines < length self.new.solver.log.lines)) }
+        ensures ending { IfOk result
+            (λ ending. IfSome ending (IsEnding G.geometry asked.now.universe asked.now.free_levels self.new.solver)) }
+        ensures more { IfOk result
+            (λ ending. IfNone ending (length self.old.solver.log.lines < length self.new.solver.log.lines)) }
     {
         match asked.cut(alloc, shape, values.as_slice())? {
             None => Ok(Some(Ending::Model { values })),

@@ -1,7 +1,10 @@
 //! The fields of a line, read from the front of a text.
-ghost use Rattle.std.specs.Prelude.{◌≡◌, ◌≤◌, ◌<◌, ℕ, List, length, slice_index, take, drop, MatchOption, None, Some, IfErr, IfSome};
+ghost use Rattle.std.specs.Prelude.{◌≡◌, ◌≤◌, ◌<◌, ℕ, List, length, slice_index, take, drop, MatchOption, None, Some};
+ghost use Rattle.std.specs.Prelude.{IfErr, IfSome};
 ghost use Rattle.std.specs.Str.Parse.{digits_value};
-ghost use Rattle.heesch_line.specs.Reading.{Gives, literal_at, digits_len, number_at, labelled_at, is_minus, integer_at, cell_at, iso_at, lit_at, three_numbers_at, triple_of, limits_at};
+ghost use Rattle.heesch_line.specs.Reading.{Gives, literal_at, digits_len, number_at, labelled_at, is_minus};
+ghost use Rattle.heesch_line.specs.Reading.{integer_at, cell_at, iso_at, lit_at, three_numbers_at, triple_of};
+ghost use Rattle.heesch_line.specs.Reading.{limits_at};
 
 use crate::LineFault;
 use heesch_cert::Limits;

@@ -354,10 +354,10 @@ fn whole_line(alloc: Global, bytes: &[u8]) -> Result<Line, LineFault>
 
 /// The line of a catalogue that these bytes are, which don't have its newline.
 ///
-/// `NotALine` comes exactly where they are no line in any of the forms: a word is missing, unknown or one too many, words
-/// aren't separated by single spaces, a number has a leading zero, doesn't fit 32 bits or is out of its range, or a list
-/// lacks its first item. `NoMemory` comes only for bytes that begin as a line with a list does. The cost is linear in the
-/// number of bytes, and memory is taken for the lists of the line alone.
+/// `NotALine` comes exactly where they are no line in any of the forms: a word is missing, unknown or one too many,
+/// words aren't separated by single spaces, a number has a leading zero, doesn't fit 32 bits or is out of its range,
+/// or a list lacks its first item. `NoMemory` comes only for bytes that begin as a line with a list does. The cost is
+/// linear in the number of bytes, and memory is taken for the lists of the line alone.
 pub fn read_line(alloc: Global, bytes: &[u8]) -> Result<Line, LineFault>
     ensures ok { IfOk result (λ line. IsLine line × (words_of line ≡ bytes.now)) }
     ensures not_a_line { result ≡ Err faults.NotALine → (line : Line) → IsLine line → words_of line ≢ bytes.now }

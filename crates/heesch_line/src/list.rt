@@ -55,11 +55,11 @@ pub struct ListLines {
 
 /// The cells of each line of a text, as they stand there, up to the first line that is at fault, and its fault.
 ///
-/// A list has one line for each shape, with `A,B` for each cell, in any order. An empty line gives no cells. The newline
-/// of the last line may be missing; an empty text has no line. A fault is `NotText` where one of the first 10,000 lines
-/// is neither empty nor cells with single spaces between them, with integers within 100,000 of 0, and `TooManyShapes`
-/// where these lines aren't at fault and another line begins. The only error is want of memory. The cost is linear in the
-/// number of bytes.
+/// A list has one line for each shape, with `A,B` for each cell, in any order. An empty line gives no cells. The
+/// newline of the last line may be missing; an empty text has no line. A fault is `NotText` where one of the first
+/// 10,000 lines is neither empty nor cells with single spaces between them, with integers within 100,000 of 0, and
+/// `TooManyShapes` where these lines aren't at fault and another line begins. The only error is want of memory. The
+/// cost is linear in the number of bytes.
 pub fn read_lines(alloc: Global, text: &[u8]) -> Result<ListLines, NoMemory>
     ensures { IfOk result (λ lines. AreRead text.now lines.shapes lines.stop) }
 {
@@ -91,8 +91,8 @@ pub fn read_lines(alloc: Global, text: &[u8]) -> Result<ListLines, NoMemory>
 
 /// The cells of each line of a list text, as `read_lines` gives them.
 ///
-/// `NotText` and `TooManyShapes` come exactly where `read_lines` gives this fault, and `NoMemory` for want of memory. The
-/// cost is that of `read_lines`.
+/// `NotText` and `TooManyShapes` come exactly where `read_lines` gives this fault, and `NoMemory` for want of memory.
+/// The cost is that of `read_lines`.
 pub fn read_list(alloc: Global, text: &[u8]) -> Result<Seq<Cells>, ListStop>
     ensures ok { IfOk result (λ shapes. IsListText text.now shapes) }
     ensures stop { IfErr result (λ stop. Stops text.now stop) }

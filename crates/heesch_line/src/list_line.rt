@@ -1,5 +1,6 @@
 //! One line of the text of a list, read byte by byte.
-ghost use Rattle.std.specs.Prelude.{◌≡◌, ◌≢◌, ◌↔◌, ℕ, List, [], ◌∷◌, ◌++◌, ◌<◌, length, false, Err, IsErr, IfOk, IfErr, IsTrue};
+ghost use Rattle.std.specs.Prelude.{◌≡◌, ◌≢◌, ◌↔◌, ℕ, List, [], ◌∷◌, ◌++◌, ◌<◌, length, false, Err, IsErr, IfOk};
+ghost use Rattle.std.specs.Prelude.{IfErr, IsTrue};
 ghost use Rattle.heesch_grid.specs.Vectors.{IsWithin};
 ghost use Rattle.heesch_grid.specs.declared.Cell.{Cell as CellOf};
 ghost use Rattle.heesch_line.specs.Scanning.{IsScanned, IsLineOf, IsNoLine, NeedsRoom, first_of};
@@ -55,7 +56,8 @@ fn whole_cell(bytes: &[u8]) -> Result<Cell, LineFault>
 
 /// Keeps a cell, if it is among the first 33 of its line.
 fn keep(cells: &mut Cells, cell: Cell) -> Result<(), NoMemory>
-    ensures kept { (all : List CellOf) → cells.old ≡ first_of all → IfOk result (λ _. cells.new ≡ first_of (all ++ cell ∷ [])) }
+    ensures kept { (all : List CellOf) → cells.old ≡ first_of all
+        → IfOk result (λ _. cells.new ≡ first_of (all ++ cell ∷ [])) }
     ensures same { IsErr result → cells.new ≡ cells.old }
     ensures room { IsErr result → length cells.old < 33 }
 {
@@ -91,9 +93,11 @@ impl ListLine {
         !self.word.is_empty()
     }
 
-    /// Reads one more byte of the line. At want of memory nothing has changed; a line that is known to be none takes none.
+    /// Reads one more byte of the line. At want of memory nothing has changed; a line that is known to be none takes
+    /// none.
     pub fn take(&mut self, byte: u8) -> Result<(), NoMemory>
-        ensures taken { (line : List ℕ) → IsScanned line self.old → IfOk result (λ _. IsScanned (line ++ byte ∷ []) self.new) }
+        ensures taken { (line : List ℕ) → IsScanned line self.old
+            → IfOk result (λ _. IsScanned (line ++ byte ∷ []) self.new) }
         ensures kept { IsErr result → self.new ≡ self.old }
         ensures memory { IsErr result → self.old.faulty ≡ false }
     {
@@ -114,7 +118,8 @@ impl ListLine {
     /// Ends a word by a space.
     fn end_word(&mut self) -> Result<(), NoMemory>
         requires { self.old.faulty ≡ false }
-        ensures taken { (line : List ℕ) → IsScanned line self.old → IfOk result (λ _. IsScanned (line ++ 32 ∷ []) self.new) }
+        ensures taken { (line : List ℕ) → IsScanned line self.old
+            → IfOk result (λ _. IsScanned (line ++ 32 ∷ []) self.new) }
         ensures kept { IsErr result → self.new ≡ self.old }
     {
         match whole_cell(&self.word) {
@@ -133,8 +138,8 @@ impl ListLine {
 
     /// The first 33 cells of the line, which has all its bytes; a line without a byte has none.
     ///
-    /// `NotALine` comes exactly where the line isn't cells with single spaces between them. Memory is taken for the last cell
-    /// alone, where fewer than 33 are kept.
+    /// `NotALine` comes exactly where the line isn't cells with single spaces between them. Memory is taken for the
+    /// last cell alone, where fewer than 33 are kept.
     pub fn finish(self) -> Result<Cells, LineFault>
         ensures ok { (line : List ℕ) → IsScanned line self → IfOk result (IsLineOf line) }
         ensures none { (line : List ℕ) → IsScanned line self → result ≡ Err LineFault.NotALine → IsNoLine line }

@@ -1,6 +1,7 @@
 //! The words that name a grid, a subject, the kind of a tiling and the end of a search, read from the front of a text.
 ghost use Rattle.std.specs.Prelude.{◌≡◌, ℕ, List, IfErr};
-ghost use Rattle.heesch_line.specs.Reading.{Gives, version_at, grid_at, kind_at, phase_at, outcome_at, bare_outcome_at, subject_at};
+ghost use Rattle.heesch_line.specs.Reading.{Gives, version_at, grid_at, kind_at, phase_at, outcome_at};
+ghost use Rattle.heesch_line.specs.Reading.{bare_outcome_at, subject_at};
 
 use crate::LineFault;
 use crate::fields::{after, literal, number};

@@ -1,6 +1,7 @@
 //! The lists of a line, read from the front of a text.
 ghost use Rattle.std.specs.Prelude.{◌≡◌, ◌≤◌, ℕ, List, [], length, drop, Option, IsTrue, IfOk, IfErr};
-ghost use Rattle.heesch_line.specs.Reading.{Gives, number_at, cell_at, iso_at, lit_at, has_word, more_words_at, some_words_at, cells_at};
+ghost use Rattle.heesch_line.specs.Reading.{Gives, number_at, cell_at, iso_at, lit_at, has_word, more_words_at};
+ghost use Rattle.heesch_line.specs.Reading.{some_words_at, cells_at};
 
 use crate::LineFault;
 use crate::fields::{cell, iso, lit, number};

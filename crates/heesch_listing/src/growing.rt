@@ -41,7 +41,8 @@ fn grown<G: Grid + Send + Sync, T: Threads + Sync, H: Gate + Sync>(
     parents: &[Shape<G>],
 ) -> Result<Vec<Shape<G>>, NoMemory>
     requires small { IsTrue (are_small parents.now) }
-    ensures grown { IfOk result (λ made. ListsExactly cells_before (IsGrownFromSome G.geometry parents.now) made.items) }
+    ensures grown { IfOk result
+        (λ made. ListsExactly cells_before (IsGrownFromSome G.geometry parents.now) made.items) }
     ensures few { IfOk result (λ made. vec_len made < 2 ^ 32) }
 {
     let Ok(count) = u32::try_from(parents.len().div_ceil(PART)) else {

@@ -28,7 +28,8 @@ impl<'a, G: Grid> Answer<Vec<Shape<G>>> for ChildrenOf<'a, G> {
 
     ghost accepts = { λ s _. are_small s.parents.now };
 
-    ghost gives = { λ s number made. IfOk made (λ list. ListsExactly cells_before (IsGrownFromSome G.geometry (part_of number s.parents.now)) list.items) };
+    ghost gives = { λ s number made. IfOk made
+        (λ list. ListsExactly cells_before (IsGrownFromSome G.geometry (part_of number s.parents.now)) list.items) };
 
     ghost ready = { λ _. ⊤ };
 

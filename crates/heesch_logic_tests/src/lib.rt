@@ -1,4 +1,5 @@
-//! Streams, boards, exact covers, propagation and the solver, tried on values from outside. There are tests here alone.
+//! Streams, boards, exact covers, propagation and the solver, tried on values from outside. There are tests here
+//! alone.
 #![tactic(auto)]
 
 #[cfg(test)]

@@ -1,5 +1,6 @@
 //! The classes of the tiles of a cover.
-ghost use Rattle.std.specs.Prelude.{◌≡◌, ◌≤◌, ◌<◌, ◌++◌, ◌∷◌, ◌+◌, [], List, true, length, All, IfOk, IfSome, IfNone, OnOk};
+ghost use Rattle.std.specs.Prelude.{◌≡◌, ◌≤◌, ◌<◌, ◌++◌, ◌∷◌, ◌+◌, [], List, true, length, All, IfOk, IfSome, IfNone};
+ghost use Rattle.std.specs.Prelude.{OnOk};
 ghost use Rattle.heesch_grid.specs.declared.Cell.{Cell};
 ghost use Rattle.heesch_grid.specs.declared.isometries.Iso.{Iso};
 ghost use Rattle.heesch_grid.specs.Cells.{has};
@@ -77,7 +78,10 @@ fn add_tile<G: Grid>(
     requires to { IsInRange G.geometry to }
     ensures range { OnOk result (All (IsInRange G.geometry) representatives.new.items) }
     ensures few { OnOk result (length representatives.new.items ≤ length representatives.old.items + 1) }
-    ensures found { OnOk result ((tiles : List Iso) → AreFound G.geometry turned.now triple places.now tiles representatives.old.items members.old → AreFound G.geometry turned.now triple places.now (tiles ++ to ∷ []) representatives.new.items members.new) }
+    ensures found { OnOk result
+        ((tiles : List Iso) → AreFound G.geometry turned.now triple places.now tiles representatives.old.items
+        members.old → AreFound G.geometry turned.now triple places.now
+        (tiles ++ to ∷ []) representatives.new.items members.new) }
 {
     let known = known_member(turned, triple, places, representatives.as_slice(), to);
     if let Some(member) = known {
@@ -134,7 +138,8 @@ pub fn classes<G: Grid>(
     requires few { length tiling.now.places ≤ 12 }
     requires near { (c : Cell) → has shape.now c ≡ true → IsWithin 100000 c }
     requires range { All (IsInRange G.geometry) tiling.now.places }
-    ensures { IfOk result (λ c. AreClasses G.geometry shape.now tiling.now.triple tiling.now.places c.count c.members) }
+    ensures { IfOk result
+        (λ c. AreClasses G.geometry shape.now tiling.now.triple tiling.now.places c.count c.members) }
 {
     // Once a triple is read, its invariant is known.
     let _p = tiling.triple.p;

@@ -1,5 +1,6 @@
 //! Theorems about symmetries, each the contract of a function that does nothing.
-ghost use Rattle.heesch_orbit.specs.Statements.{InversesAreSymmetries, ClassesGoBothWays, ClassesTakeExactly, PlacesDecideSymmetries};
+ghost use Rattle.heesch_orbit.specs.Statements.{InversesAreSymmetries, ClassesGoBothWays, ClassesTakeExactly};
+ghost use Rattle.heesch_orbit.specs.Statements.{PlacesDecideSymmetries};
 
 /// What undoes a symmetry is a symmetry.
 pub fn inverses_are_symmetries()

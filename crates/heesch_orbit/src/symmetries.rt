@@ -8,7 +8,8 @@ ghost use Rattle.heesch_grid.specs.Lattice.{IsTriple};
 ghost use Rattle.heesch_grid.specs.Symmetry.{CarriesToTranslate, IsSymmetry, TakesExactly};
 ghost use Rattle.heesch_grid.specs.Vectors.{IsWithin};
 ghost use Rattle.heesch_tiling.specs.Counting.{IsInRange};
-ghost use Rattle.heesch_orbit.specs.Symmetries.{HasImage, CarriesPlaces, KeepsLattice, shift, excess, Takes, IsLeastTaking};
+ghost use Rattle.heesch_orbit.specs.Symmetries.{HasImage, CarriesPlaces, KeepsLattice, shift, excess, Takes};
+ghost use Rattle.heesch_orbit.specs.Symmetries.{IsLeastTaking};
 
 use crate::turns::Turned;
 use crate::vectors::{first_vector, has_vector, second_vector};
@@ -53,7 +54,8 @@ fn carries<G: Grid>(turned: &Turned<G>, triple: Triple, by: Iso, from: Iso, to: 
     requires near { IsWithin 1000000 (cell by.da by.db) }
     requires from { IsInRange G.geometry from }
     requires to { IsInRange G.geometry to }
-    ensures { (result ≡ true) ↔ CarriesToTranslate G.geometry triple by (image G.geometry from turned.now) (image G.geometry to turned.now) }
+    ensures { (result ≡ true)
+        ↔ CarriesToTranslate G.geometry triple by (image G.geometry from turned.now) (image G.geometry to turned.now) }
 {
     let Some(step) = turned.step(G::compose(from.turn, by.turn), to.turn) else {
         return false;
@@ -163,7 +165,8 @@ fn taking<G: Grid>(turned: &Turned<G>, k: u32, from: Iso, to: Iso) -> Option<Iso
     ensures turn { IfSome result (λ by. by.turn ≡ k) }
     ensures near { IfSome result (λ by. IsWithin 1000000 (cell by.da by.db)) }
     ensures some { IfSome result (Takes G.geometry turned.now from to) }
-    ensures only { IfSome result (λ by. (other : Iso) → other.turn ≡ k → Takes G.geometry turned.now from to other → other ≡ by) }
+    ensures only { IfSome result
+        (λ by. (other : Iso) → other.turn ≡ k → Takes G.geometry turned.now from to other → other ≡ by) }
     ensures none { IfNone result ((by : Iso) → by.turn ≡ k → Takes G.geometry turned.now from to by → ⊥) }
 {
     let Some(step) = turned.step(G::compose(from.turn, k), to.turn) else {

@@ -51,10 +51,11 @@ fn search_outer<G: Grid>(
 }
 
 /// The outer number of an entry's shape: Tiles exactly for a tiling, Unknown exactly where the Heesch number isn't
-/// known. Else h is the entry's number. Where the wall's proof has no cut the answer is Same with that proof. Elsewhere
-/// h + 1 outer coronas are sought, with cuts of the levels 1 to h and turns of its own: More has them, spelled as the
-/// layers of a true entry, Same has a proof that there are none, and Spent one with as many steps as the limit on
-/// turns, each of them new, over which no final line holds: Spent comes only where these steps leave the formula open.
+/// known. Else h is the entry's number. Where the wall's proof has no cut the answer is Same with that proof.
+/// Elsewhere h + 1 outer coronas are sought, with cuts of the levels 1 to h and turns of its own: More has them,
+/// spelled as the layers of a true entry, Same has a proof that there are none, and Spent one with as many steps as
+/// the limit on turns, each of them new, over which no final line holds: Spent comes only where these steps leave the
+/// formula open.
 ///
 /// Where the answer is More the outer number is h + 1, and where it is Same it is h.
 ///

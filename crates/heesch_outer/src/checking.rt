@@ -50,7 +50,9 @@ impl<'a, T: Threads + Sync> Sought<'a, T> {
         requires limits { AreLimits self.now.limits }
         requires found { IsFound G.geometry self.now.limits self.now.cells.now self.now.free.now }
         requires near { IsNearProof proof.now }
-        ensures { IfOk result (λ yes. IsTrue yes ↔ EndsOuter end G.geometry self.now.limits self.now.cells.now (length self.now.free.now) proof.now) }
+        ensures { IfOk result
+            (λ yes. IsTrue yes ↔ EndsOuter end G.geometry self.now.limits self.now.cells.now
+            (length self.now.free.now) proof.now) }
     {
         if !has_cuts_up_to(proof, self.free.len()) {
             return Ok(false);
@@ -63,9 +65,12 @@ impl<'a, T: Threads + Sync> Sought<'a, T> {
     fn is_searched<G: Grid>(&self, answer: &OuterAnswer) -> Result<bool, NoMemory>
         requires limits { AreLimits self.now.limits }
         requires found { IsFound G.geometry self.now.limits self.now.cells.now self.now.free.now }
-        requires wall { RefutesCoronas self.now.limits.version G.geometry self.now.cells.now (length self.now.free.now + 1) self.now.limits.size self.now.wall.now }
+        requires wall { RefutesCoronas self.now.limits.version G.geometry self.now.cells.now
+            (length self.now.free.now + 1) self.now.limits.size self.now.wall.now }
         requires near { IsNearAnswer answer.now }
-        ensures { IfOk result (λ yes. IsTrue yes ↔ IsSearched G.geometry self.now.limits self.now.cells.now (length self.now.free.now) answer.now) }
+        ensures { IfOk result
+            (λ yes. IsTrue yes ↔ IsSearched G.geometry self.now.limits self.now.cells.now
+            (length self.now.free.now) answer.now) }
     {
         match answer {
             OuterAnswer::Tiles | OuterAnswer::Unknown => Ok(false),
@@ -81,8 +86,8 @@ impl<'a, T: Threads + Sync> Sought<'a, T> {
 /// layers of a true entry, or a proof with lawful cuts of the levels 1 to h that refutes the corona formula of level
 /// h + 1, or is spent for the limit on turns over it, where h is the entry's number.
 ///
-/// Condition: the limits lie in their ranges, the entry is true under them, and the answer's translations and the cells
-/// of its cuts' holes lie within 100,000 of 0. Its turns and numbers may be any.
+/// Condition: the limits lie in their ranges, the entry is true under them, and the answer's translations and the
+/// cells of its cuts' holes lie within 100,000 of 0. Its turns and numbers may be any.
 ///
 /// Proofs and layers are copied, and looked at as parts of an entry by `audit`, which has its cost; for More it checks
 /// the wall's proof once more.

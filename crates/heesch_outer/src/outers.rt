@@ -16,7 +16,8 @@ use heesch_pool::{Crew, Gate};
 use heesch_shape::Shape;
 use std::thread::Threads;
 
-/// Writes the outer text of all free polyforms of n cells under the limits: `write_outers` of their list. n is 1 to 31.
+/// Writes the outer text of all free polyforms of n cells under the limits: `write_outers` of their list. n is 1 to
+/// 31.
 ///
 /// Errors: as of `write_outers`; where memory was refused for the list of the shapes, nothing was written. Beside that
 /// list it keeps the entries and the answers of one round.

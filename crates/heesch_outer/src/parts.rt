@@ -164,7 +164,8 @@ impl<'a, T: Threads + Sync> Sought<'a, T> {
     fn is_wider<G: Grid>(&self, layers: &[Isos]) -> Result<bool, NoMemory>
         requires limits { AreLimits self.now.limits }
         requires found { IsFound G.geometry self.now.limits self.now.cells.now self.now.free.now }
-        requires wall { RefutesCoronas self.now.limits.version G.geometry self.now.cells.now (length self.now.free.now + 1) self.now.limits.size self.now.wall.now }
+        requires wall { RefutesCoronas self.now.limits.version G.geometry self.now.cells.now
+            (length self.now.free.now + 1) self.now.limits.size self.now.wall.now }
         requires one_more { length layers.now ≡ length self.now.free.now + 1 }
         requires near { AreNearLayers layers.now }
         ensures { IfOk result (λ yes. IsTrue yes ↔ SpellCoronas G.geometry self.now.cells.now false layers.now) }
@@ -178,9 +179,12 @@ impl<'a, T: Threads + Sync> Sought<'a, T> {
     pub(crate) fn are_outer<G: Grid>(&self, layers: &Layers) -> Result<bool, NoMemory>
         requires limits { AreLimits self.now.limits }
         requires found { IsFound G.geometry self.now.limits self.now.cells.now self.now.free.now }
-        requires wall { RefutesCoronas self.now.limits.version G.geometry self.now.cells.now (length self.now.free.now + 1) self.now.limits.size self.now.wall.now }
+        requires wall { RefutesCoronas self.now.limits.version G.geometry self.now.cells.now
+            (length self.now.free.now + 1) self.now.limits.size self.now.wall.now }
         requires near { AreNearLayers layers.now.layers }
-        ensures { IfOk result (λ yes. IsTrue yes ↔ SpellsOuterCoronas G.geometry self.now.cells.now (length self.now.free.now + 1) layers.now) }
+        ensures { IfOk result
+            (λ yes. IsTrue yes ↔ SpellsOuterCoronas G.geometry self.now.cells.now
+            (length self.now.free.now + 1) layers.now) }
     {
         let layers = layers.layers.as_slice();
         if layers.len() != self.free.len() + 1 {

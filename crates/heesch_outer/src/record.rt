@@ -52,7 +52,8 @@ fn append_answer(h: u32, answer: &OuterAnswer, out: &mut Vec<u8>) -> Result<(), 
 ///
 /// Errors: at `NoMemory` the text is as it was before. Its cost is the length of what it appends.
 pub fn write_answer(entry: &Entry, answer: &OuterAnswer, out: &mut Vec<u8>) -> Result<(), NoMemory>
-    ensures ok { OnOk result (out.new.items ≡ out.old.items ++ answer_text (first_number entry.now.verdict) answer.now) }
+    ensures ok { OnOk result
+        (out.new.items ≡ out.old.items ++ answer_text (first_number entry.now.verdict) answer.now) }
     ensures err { OnErr result (out.new.items ≡ out.old.items) }
 {
     let before = out.len();

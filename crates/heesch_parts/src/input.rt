@@ -16,13 +16,13 @@ use std::alloc::Global;
 const PIECE_MAX: usize = 4096;
 
 /// The items of the catalogue that is joined of the share texts that the source has left: the first header, the
-/// entries of all shares in their order, and an end with their number. Or the first fault of those texts, with the number
-/// that a `Joiner` gives it.
+/// entries of all shares in their order, and an end with their number. Or the first fault of those texts, with the
+/// number that a `Joiner` gives it.
 ///
 /// At most `MOST` bytes are read, and one more that shows that the input is longer: then fault 8 comes where no line
-/// that ends in these bytes is at fault. Reading stops with the piece that shows the first fault, and items come at the
-/// end of the input alone. `Failed` comes only where the source's count of faults rose, and `NoMemory` where memory was
-/// refused. The cost is linear in the input. It keeps the items, and the lines of one entry.
+/// that ends in these bytes is at fault. Reading stops with the piece that shows the first fault, and items come at
+/// the end of the input alone. `Failed` comes only where the source's count of faults rose, and `NoMemory` where
+/// memory was refused. The cost is linear in the input. It keeps the items, and the lines of one entry.
 pub fn joined<R: Source, const MOST: u64>(
     alloc: Global,
     source: &mut R,

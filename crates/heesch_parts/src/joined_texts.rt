@@ -15,8 +15,8 @@ use heesch_reader::Item;
 use heesch_text::{write_end, write_entry, write_header};
 use std::alloc::Global;
 
-/// The catalogue text of the header and of all entries of the share texts that the source has left; or the first fault of
-/// those texts. They are read as `joined` reads them, at most `MOST` bytes.
+/// The catalogue text of the header and of all entries of the share texts that the source has left; or the first fault
+/// of those texts. They are read as `joined` reads them, at most `MOST` bytes.
 ///
 /// Errors: those of `joined`. The cost is linear in the input. It keeps the items and the whole text, since a later
 /// line may be at fault.

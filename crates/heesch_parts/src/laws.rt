@@ -48,8 +48,8 @@ pub fn share_outputs_are_shares()
     ensures { ShareOutputsAreShares }
 {}
 
-/// And what they are joined to is the catalogue of the size: the catalogue text of true entries, with right verdicts, of
-/// every free polyform of n cells, each once and in order.
+/// And what they are joined to is the catalogue of the size: the catalogue text of true entries, with right verdicts,
+/// of every free polyform of n cells, each once and in order.
 pub fn joined_shares_are_catalogues()
     ensures { JoinedSharesAreCatalogues }
 {}

@@ -34,8 +34,8 @@ impl PartLine {
     }
 }
 
-/// The line that has these bytes, which are without its newline. `NotALine` comes exactly where no line of a share text
-/// has them, and `NoMemory` where memory was refused. The cost is linear in the bytes.
+/// The line that has these bytes, which are without its newline. `NotALine` comes exactly where no line of a share
+/// text has them, and `NoMemory` where memory was refused. The cost is linear in the bytes.
 pub fn read_part_line(alloc: Global, bytes: &[u8]) -> Result<PartLine, LineFault>
     ensures ok { IfOk result (λ line. IsPartLine line × (part_words line ≡ bytes.now)) }
     ensures not_a_line { result ≡ Err faults.NotALine → (line : PartLine) → IsPartLine line

@@ -22,8 +22,8 @@ use std::mem;
 /// The fault of the line on which the input goes on beyond what is read.
 const TOO_LONG: u32 = 8;
 
-/// The stage that the lines led to, the lines of the entry that isn't whole, the bytes of the line that didn't end, and
-/// the number of lines that ended.
+/// The stage that the lines led to, the lines of the entry that isn't whole, the bytes of the line that didn't end,
+/// and the number of lines that ended.
 #[derive(Drop)]
 pub struct Scan {
     pub alloc: Global,

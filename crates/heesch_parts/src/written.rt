@@ -31,12 +31,12 @@ pub struct Share {
     pub k: u32,
 }
 
-/// Writes share `i` of `k` of the catalogue, under the header, of all free polyforms of n cells: the line that names the
-/// share, and the catalogue text of the shapes at the places that the share has, as `write_catalogue` writes it. n is 1 to
-/// 31, and 1 <= i <= k <= 1,000.
+/// Writes share `i` of `k` of the catalogue, under the header, of all free polyforms of n cells: the line that names
+/// the share, and the catalogue text of the shapes at the places that the share has, as `write_catalogue` writes it. n
+/// is 1 to 31, and 1 <= i <= k <= 1,000.
 ///
-/// Errors: as of `write_catalogue`; where memory was refused for the list of the shapes, nothing was written. Beside that
-/// list it keeps the entries of one round.
+/// Errors: as of `write_catalogue`; where memory was refused for the list of the shapes, nothing was written. Beside
+/// that list it keeps the entries of one round.
 pub fn write_share<T: Threads + Sync, W: Sink, H: Gate + Sync>(
     crew: &Crew<'_, T, H>,
     header: &Header,

@@ -2,8 +2,8 @@
 
 use std::thread::{Threads, join_mut};
 
-/// What both calls give: `other` is called in a thread of its own, or last where none can be made, and `own` in the caller's.
-/// What each leaves in what it borrows is known too.
+/// What both calls give: `other` is called in a thread of its own, or last where none can be made, and `own` in the
+/// caller's. What each leaves in what it borrows is known too.
 pub fn run_beside<R: Threads, F: FnMut() -> A + Send, G: FnMut() -> B, A: Send, B>(
     rt: &R,
     other: &mut F,

@@ -3,8 +3,8 @@ ghost use Rattle.std.specs.Prelude.{◌≡◌, ◌≤◌};
 
 use std::alloc::{AllocError, Global};
 
-/// Workers over a runtime: how many they are, where their memory comes from, and the gate that each number passes before
-/// it is answered.
+/// Workers over a runtime: how many they are, where their memory comes from, and the gate that each number passes
+/// before it is answered.
 pub struct Crew<'a, R, H> {
     pub rt: &'a R,
     pub alloc: Global,

@@ -46,13 +46,19 @@ pub fn gather<R: Threads + Sync, T: Send + Sync + Drop, W: Answer<T> + Sync, H: 
     let others = seats.split_off(half)?;
     let second = first + half as u32;
     let front = move || -> Result<Gathered<T>, NoMemory>
-        requires { IsSync R.row × IsSync W.row × IsSync H.row × IsSend T.row × IsSync T.row × AreReady board.now seats.items × (0 < vec_len seats) × (from + board.now.count ≤ job.now.count) × W.ready job.now.work × (first + vec_len seats < 2 ^ 32) }
-        ensures worked { IfOk result (λ g. HaveWorked board.entry.now seats.items g.seats.items (tickets_of g.pairs.items)) }
+        requires { IsSync R.row × IsSync W.row × IsSync H.row × IsSend T.row × IsSync T.row
+            × AreReady board.now seats.items × (0 < vec_len seats) × (from + board.now.count ≤ job.now.count)
+            × W.ready job.now.work × (first + vec_len seats < 2 ^ 32) }
+        ensures worked { IfOk result
+            (λ g. HaveWorked board.entry.now seats.items g.seats.items (tickets_of g.pairs.items)) }
         ensures answers { IfOk result (λ g. AnswersEach (W.gives job.entry.now.work) from g.pairs.items) }
     { gather(rt, alloc, job, from, board, seats, first, gate) };
     let back = move || -> Result<Gathered<T>, NoMemory>
-        requires { IsSync R.row × IsSync W.row × IsSync H.row × IsSend T.row × IsSync T.row × AreReady board.now others.items × (0 < vec_len others) × (from + board.now.count ≤ job.now.count) × W.ready job.now.work × (second + vec_len others < 2 ^ 32) }
-        ensures worked { IfOk result (λ g. HaveWorked board.entry.now others.items g.seats.items (tickets_of g.pairs.items)) }
+        requires { IsSync R.row × IsSync W.row × IsSync H.row × IsSend T.row × IsSync T.row
+            × AreReady board.now others.items × (0 < vec_len others) × (from + board.now.count ≤ job.now.count)
+            × W.ready job.now.work × (second + vec_len others < 2 ^ 32) }
+        ensures worked { IfOk result
+            (λ g. HaveWorked board.entry.now others.items g.seats.items (tickets_of g.pairs.items)) }
         ensures answers { IfOk result (λ g. AnswersEach (W.gives job.entry.now.work) from g.pairs.items) }
     { gather(rt, alloc, job, from, board, others, second, gate) };
     let (low, high) = join(rt, front, back);

@@ -1,7 +1,7 @@
 //! Workers that claim the numbers of a stored job, each number once, and answer them.
 //!
-//! Nothing in it waits. Beside it `heesch_merge` and `heesch_rup` alone start threads for the program, by `join` and by
-//! rayon. Each worker draws the next number as soon as it is free, and the answers come out in the order of their
+//! Nothing in it waits. Beside it `heesch_merge` and `heesch_rup` alone start threads for the program, by `join` and
+//! by rayon. Each worker draws the next number as soon as it is free, and the answers come out in the order of their
 //! numbers, whatever the schedule.
 #![tactic(auto)]
 

@@ -16,11 +16,12 @@ impl<'a, R: Threads + Sync, H: Gate + Sync> Crew<'a, R, H> {
     /// The answers on the numbers from `from` to before `until`, in order, by as many workers as told, or by one for
     /// each number where these are fewer: a thread that finds no ticket would only cost its making.
     ///
-    /// Item i is an answer of the job's work on `from + i`. Each worker is one call of `work`, in threads by halves, or
-    /// in the caller's own where no thread can be made. `NoMemory` comes where memory was refused, or where an answer
-    /// was `NoMemory`; then no item comes.
+    /// Item i is an answer of the job's work on `from + i`. Each worker is one call of `work`, in threads by halves,
+    /// or in the caller's own where no thread can be made. `NoMemory` comes where memory was refused, or where an
+    /// answer was `NoMemory`; then no item comes.
     ///
-    /// Beside the answers it costs one `fetch_add` and three moves for each item, and a split and a join for each worker.
+    /// Beside the answers it costs one `fetch_add` and three moves for each item, and a split and a join for each
+    /// worker.
     pub fn run_span<T: Send + Sync + Drop, W: Answer<T> + Sync>(
         &self,
         job: &Job<T, W>,

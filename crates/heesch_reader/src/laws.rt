@@ -14,14 +14,14 @@ pub fn parts_are_the_formats()
     ensures { PartsAreTheFormats }
 {}
 
-/// A piece that was taken leaves no more lines and bytes than there were, so that a caller who counts the bytes that were
-/// fed meets the condition of `feed`.
+/// A piece that was taken leaves no more lines and bytes than there were, so that a caller who counts the bytes that
+/// were fed meets the condition of `feed`.
 pub fn pieces_leave_room()
     ensures { PiecesLeaveRoom }
 {}
 
-/// The two answers of `finish` exclude each other: bytes that are a whole catalogue don't fall short of one. So Ok comes
-/// exactly where they are one.
+/// The two answers of `finish` exclude each other: bytes that are a whole catalogue don't fall short of one. So Ok
+/// comes exactly where they are one.
 pub fn whole_texts_fall_not_short()
     ensures { WholeTextsFallNotShort }
 {}

@@ -14,8 +14,8 @@ use std::alloc::Global;
 use std::collections::VecDeque;
 use std::marker::Model;
 
-/// Reads a catalogue in whatever pieces its bytes come. Contracts see its refusal if it has one, what it appended, and the
-/// bytes fed after the last whole item. Once it refused it refuses for good. It keeps the lines of one entry.
+/// Reads a catalogue in whatever pieces its bytes come. Contracts see its refusal if it has one, what it appended, and
+/// the bytes fed after the last whole item. Once it refused it refuses for good. It keeps the lines of one entry.
 #[derive(Drop)]
 pub struct Reader {
     refusal: Option<LineStop<Part>>,
@@ -57,14 +57,14 @@ impl Reader {
         }
     }
 
-    /// Appends the items that are whole by now: a header or an end with its newline, an entry once the bytes show that the
-    /// next line begins with `shape ` or `end `, the space included.
+    /// Appends the items that are whole by now: a header or an end with its newline, an entry once the bytes show that
+    /// the next line begins with `shape ` or `end `, the space included.
     ///
-    /// `Fault` comes exactly where the lines whose newline was fed so far begin no catalogue, with the least line up to
-    /// which they begin none and its part; the items that are whole before it are appended. `NoMemory` may come whenever
-    /// memory is refused; the first of the items that are whole by now may be appended then. After either the reader
-    /// answers the same for good. Condition: the number of lines appended, the
-    /// length of the rest and that of the piece sum to less than 2^64. Each byte is looked at once.
+    /// `Fault` comes exactly where the lines whose newline was fed so far begin no catalogue, with the least line up
+    /// to which they begin none and its part; the items that are whole before it are appended. `NoMemory` may come
+    /// whenever memory is refused; the first of the items that are whole by now may be appended then. After either the
+    /// reader answers the same for good. Condition: the number of lines appended, the length of the rest and that of
+    /// the piece sum to less than 2^64. Each byte is looked at once.
     pub fn feed(&mut self, piece: &[u8], items: &mut Seq<Item>) -> Result<(), LineStop<Part>>
         requires room { self.old.appended.lines + length self.old.rest + length piece.now < 2 ^ 64 }
         ensures { FeedResult self.old self.new items.old items.new piece.now result }
@@ -80,9 +80,9 @@ impl Reader {
     }
 
     /// Takes the end of the bytes: Ok exactly where the bytes fed are a whole catalogue, and then the items of all are
-    /// appended. Else `Fault` with the first line that can't stand, which is a last line without its newline, or the line
-    /// behind the last where no end was read. `NoMemory` may come whenever memory is refused, and then nothing is appended.
-    /// After either the reader answers the same for good.
+    /// appended. Else `Fault` with the first line that can't stand, which is a last line without its newline, or the
+    /// line behind the last where no end was read. `NoMemory` may come whenever memory is refused, and then nothing is
+    /// appended. After either the reader answers the same for good.
     pub fn finish(&mut self, items: &mut Seq<Item>) -> Result<(), LineStop<Part>>
         ensures { FinishResult self.old self.new items.old items.new result }
     {

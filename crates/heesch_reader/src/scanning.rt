@@ -1,5 +1,6 @@
 //! What bytes do to a scan.
-ghost use Rattle.std.specs.Prelude.{◌≡◌, ◌≢◌, ℕ, ◌+◌, ◌<◌, ◌^◌, ◌++◌, ◌∷◌, [], length, true, false, IfOk, OnOk, OnErr, MatchOption};
+ghost use Rattle.std.specs.Prelude.{◌≡◌, ◌≢◌, ℕ, ◌+◌, ◌<◌, ◌^◌, ◌++◌, ◌∷◌, [], length, true, false, IfOk, OnOk, OnErr};
+ghost use Rattle.std.specs.Prelude.{MatchOption};
 ghost use Rattle.heesch_line.specs.Forms.{IsLine, HasNoNewline};
 ghost use Rattle.heesch_text.specs.Lines.{words_of};
 ghost use Rattle.heesch_grammar.specs.Entries.{AreEntryLines};
@@ -184,8 +185,8 @@ fn end_line(scan: &mut Scan, items: &mut Seq<Item>) -> Result<(), LineStop<Part>
     }
 }
 
-/// The first line without its newline, and the bytes behind it; None where there is no newline. Nothing is copied; the cost
-/// is the line's length.
+/// The first line without its newline, and the bytes behind it; None where there is no newline. Nothing is copied; the
+/// cost is the line's length.
 fn cut_line(bytes: &[u8]) -> Option<(&[u8], &[u8])>
     ensures { MatchOption result (HasNoNewline bytes.now)
         (λ x. (bytes.now ≡ x.0.now ++ 10 ∷ x.1.now) × HasNoNewline x.0.now) }

@@ -2,7 +2,8 @@
 ghost use Rattle.std.specs.Prelude.{◌≡◌, ℕ, ◌+◌, ◌≤◌, List, [], length, None, Option, Ok};
 ghost use Rattle.std.specs.Io.KnownBytes.{IsAtEnd};
 ghost use Rattle.heesch_reader.specs.Endings.{TellsEnding};
-ghost use Rattle.heesch_reader.specs.Taking.{HasRead, TakeResult, TakesOnePiece, KeepsRefusal, StaysRefused, FeedsPiece, FinishesAll};
+ghost use Rattle.heesch_reader.specs.Taking.{HasRead, TakeResult, TakesOnePiece, KeepsRefusal, StaysRefused};
+ghost use Rattle.heesch_reader.specs.Taking.{FeedsPiece, FinishesAll};
 
 use crate::answers::{StreamStop, Taken};
 use crate::newlines::newlines;
@@ -59,16 +60,18 @@ impl Stream {
     /// bytes begin a catalogue and one more byte follows; nothing is appended, and the stream keeps what it did.
     /// `Failed` only where the source's count of faults rose; no byte is read, nothing is appended, and the stream
     /// keeps what it did, so that reading may go on. `NoMemory` where memory was refused; the first of the items that
-    /// are whole by now may be appended. After `NotText` and `NoMemory` the stream answers the same for good, and reads
-    /// nothing. Each byte is looked at twice.
+    /// are whole by now may be appended. After `NotText` and `NoMemory` the stream answers the same for good, and
+    /// reads nothing. Each byte is looked at twice.
     pub fn take<R: Source>(
         &mut self,
         source: &mut R,
         items: &mut Seq<Item>,
     ) -> Result<Taken, StreamStop>
-        ensures taken { TakeResult (R.left source.old) (R.left source.new) (R.faults source.old) (R.faults source.new) self.old self.new items.old items.new result }
+        ensures taken { TakeResult (R.left source.old) (R.left source.new) (R.faults source.old)
+            (R.faults source.new) self.old self.new items.old items.new result }
         ensures keeps { KeepsRefusal result self.new }
-        ensures stays { StaysRefused (R.left source.old) (R.left source.new) self.old self.new items.old items.new result }
+        ensures stays { StaysRefused (R.left source.old)
+            (R.left source.new) self.old self.new items.old items.new result }
         ensures consumed { TakesOnePiece (R.left source.old) (R.left source.new) }
         ensures ended { result ≡ Ok Taken.End → IsAtEnd (R.left source.new) }
         ensures later { R.faults source.old ≤ R.faults source.new }
@@ -104,7 +107,8 @@ impl Stream {
     ) -> Result<Taken, StreamStop>
         requires going { self.old.kept.refusal ≡ None }
         requires all { self.old.count ≡ INPUT_MAX }
-        ensures taken { TakeResult (R.left source.old) (R.left source.new) (R.faults source.old) (R.faults source.new) self.old self.new items.old items.new result }
+        ensures taken { TakeResult (R.left source.old) (R.left source.new) (R.faults source.old)
+            (R.faults source.new) self.old self.new items.old items.new result }
         ensures keeps { KeepsRefusal result self.new }
         ensures consumed { TakesOnePiece (R.left source.old) (R.left source.new) }
         ensures ended { result ≡ Ok Taken.End → IsAtEnd (R.left source.new) }

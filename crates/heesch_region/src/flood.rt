@@ -1,5 +1,6 @@
 //! The flood of a window from outside, around the cells of a set.
-ghost use Rattle.std.specs.Prelude.{◌≡◌, ◌<◌, ◌≤◌, ◌*◌, ◌+◌, ◌-◌, ◌⊎◌, ◌==◌, ℕ, Bool, true, false, not, ◌&&◌, List, length, vec_len, sum, IfOk, OnOk};
+ghost use Rattle.std.specs.Prelude.{◌≡◌, ◌<◌, ◌≤◌, ◌*◌, ◌+◌, ◌-◌, ◌⊎◌, ◌==◌, ℕ, Bool, true, false, not, ◌&&◌, List};
+ghost use Rattle.std.specs.Prelude.{length, vec_len, sum, IfOk, OnOk};
 ghost use Rattle.std.specs.Int.{bit_at};
 ghost use Rattle.heesch_grid.specs.declared.Cell.{Cell};
 ghost use Rattle.heesch_grid.specs.Listing.{ListsExactly};
@@ -21,7 +22,8 @@ fn first_word<G: Grid>(window: Window, number: usize) -> u64
     requires unit { window.unit ≡ G.geometry.unit }
     requires number { number < size window }
     ensures { (j : ℕ) → j < 64 → (bit_at result j == 1)
-        ≡ (is_inner window (cell_of window (64 * number + j)) && G.geometry.is_cell (cell_of window (64 * number + j))) }
+        ≡ (is_inner window (cell_of window (64 * number + j)) && G.geometry.is_cell
+        (cell_of window (64 * number + j))) }
 {
     let at = number % window.words;
     if at == 0 || at + 1 == window.words {
@@ -61,7 +63,8 @@ fn narrow_strip<G: Grid>(window: Window, kept: &mut [u64], taken: &[u64], strip:
     requires from { 4 * window.unit ≤ strip }
     requires to { strip + 4 * window.unit < window.tall * window.unit }
     requires cells { (c : Cell) → is_marked window kept.old c ≡ true → is_inner window c ≡ true × IsCell G.geometry c }
-    ensures narrowed { IsNarrowed G.geometry (is_marked window taken.now) (is_marked window kept.old) (is_marked window kept.new) }
+    ensures narrowed { IsNarrowed G.geometry (is_marked window taken.now) (is_marked window kept.old)
+        (is_marked window kept.new) }
     ensures fewer { result ≡ true → sum kept.new < sum kept.old }
     ensures same { result ≡ false → kept.new ≡ kept.old }
     ensures settled { result ≡ false
@@ -99,10 +102,12 @@ fn sweep<G: Grid>(window: Window, kept: &mut [u64], taken: &[u64], upward: bool)
     requires long { length kept.old ≡ size window }
     requires taken_long { length taken.now ≡ size window }
     requires cells { (c : Cell) → is_marked window kept.old c ≡ true → is_inner window c ≡ true × IsCell G.geometry c }
-    ensures narrowed { IsNarrowed G.geometry (is_marked window taken.now) (is_marked window kept.old) (is_marked window kept.new) }
+    ensures narrowed { IsNarrowed G.geometry (is_marked window taken.now) (is_marked window kept.old)
+        (is_marked window kept.new) }
     ensures fewer { result ≡ true → sum kept.new < sum kept.old }
     ensures same { result ≡ false → kept.new ≡ kept.old }
-    ensures settled { result ≡ false → (strip : ℕ) → 4 * window.unit ≤ strip → strip + 4 * window.unit < window.tall * window.unit
+    ensures settled { result ≡ false → (strip : ℕ) → 4 * window.unit ≤ strip
+        → strip + 4 * window.unit < window.tall * window.unit
         → IsSettled G.geometry window (is_marked window taken.now) (is_marked window kept.old) strip }
 {
     let count = (window.tall - 8) * window.unit;
@@ -121,7 +126,8 @@ fn flood<G: Grid>(window: Window, kept: &mut [u64], taken: &[u64])
     requires long { length kept.old ≡ size window }
     requires taken_long { length taken.now ≡ size window }
     requires cells { (c : Cell) → is_marked window kept.old c ≡ true → is_inner window c ≡ true × IsCell G.geometry c }
-    ensures narrowed { IsNarrowed G.geometry (is_marked window taken.now) (is_marked window kept.old) (is_marked window kept.new) }
+    ensures narrowed { IsNarrowed G.geometry (is_marked window taken.now) (is_marked window kept.old)
+        (is_marked window kept.new) }
     ensures settled { (c d : Cell) → is_marked window kept.new c ≡ true → Adjacent G.geometry c d
         → (is_marked window taken.now c ≡ true) ⊎ (is_marked window kept.new d ≡ true) }
 {
@@ -167,7 +173,8 @@ fn list_row(
 fn listed(alloc: Global, window: Window, kept: &[u64], taken: &[u64]) -> Result<Seq<Cell>, NoMemory>
     requires long { length kept.now ≡ size window }
     requires taken_long { length taken.now ≡ size window }
-    ensures { IfOk result (ListsExactly cell_before (λ c. (is_marked window kept.now c && not (is_marked window taken.now c)) ≡ true)) }
+    ensures { IfOk result
+        (ListsExactly cell_before (λ c. (is_marked window kept.now c && not (is_marked window taken.now c)) ≡ true)) }
 {
     let mut cells = Seq::new(alloc);
     let words = window.unit * window.words;

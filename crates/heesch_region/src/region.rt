@@ -65,11 +65,12 @@ impl<G: Grid> Region<G> {
 
     /// The greatest hole, in cell order, or None where the set is hole-free.
     ///
-    /// The window around the set is flooded from outside over adjacent cells, 64 at a time: a sweep takes ADJACENT steps
-    /// for each 64 of its pairs. Sweeps go down and up by turns until one changes nothing. One sweep carries the flood any
-    /// way down the rows, or up, and a step along them, so there are at most two for each step along a row and each change
-    /// between up and down on the longest way out, and two more; each but the last reaches a cell. Then each row that has
-    /// a cell of a hole is gone through once. Takes memory for the window's marks and for the hole.
+    /// The window around the set is flooded from outside over adjacent cells, 64 at a time: a sweep takes ADJACENT
+    /// steps for each 64 of its pairs. Sweeps go down and up by turns until one changes nothing. One sweep carries the
+    /// flood any way down the rows, or up, and a step along them, so there are at most two for each step along a row
+    /// and each change between up and down on the longest way out, and two more; each but the last reaches a cell.
+    /// Then each row that has a cell of a hole is gone through once. Takes memory for the window's marks and for the
+    /// hole.
     pub fn hole(&self, alloc: Global) -> Result<Option<Seq<Cell>>, NoMemory>
         ensures { IfOk result (λ hole. MatchOption hole (IsHoleFree G.geometry self.now)
             (λ hole. (0 < length hole) × IsGreatestHole G.geometry self.now hole)) }

@@ -1,5 +1,6 @@
 //! A window of the plane, and marks of its pairs.
-ghost use Rattle.std.specs.Prelude.{◌≡◌, ◌↔◌, IsTrue, ◌<◌, ◌≤◌, ◌*◌, ◌+◌, ◌-◌, ◌/◌, ◌%◌, ◌≤ℤ◌, ◌+ℤ◌, ◌-ℤ◌, ℕ, Bool, true, false, ◌||◌, neg_ℤ, nat_abs, pos, length, vec_len, IfOk};
+ghost use Rattle.std.specs.Prelude.{◌≡◌, ◌↔◌, IsTrue, ◌<◌, ◌≤◌, ◌*◌, ◌+◌, ◌-◌, ◌/◌, ◌%◌, ◌≤ℤ◌, ◌+ℤ◌, ◌-ℤ◌, ℕ, Bool};
+ghost use Rattle.std.specs.Prelude.{true, false, ◌||◌, neg_ℤ, nat_abs, pos, length, vec_len, IfOk};
 ghost use Rattle.std.specs.Int.{int_min, int_max};
 ghost use Rattle.heesch_grid.specs.declared.Cell.{Cell};
 ghost use Rattle.heesch_grid.specs.Cells.{has, same_cell};
@@ -105,7 +106,8 @@ fn border_row(first: i32) -> i32
 }
 
 impl Window {
-    ghost use Rattle.heesch_region.specs.Windows.{column, row, is_inside, is_inner, place, order, bits, wide, size, cell_of, is_marked};
+    ghost use Rattle.heesch_region.specs.Windows.{column, row, is_inside, is_inner, place, order, bits, wide, size};
+    ghost use Rattle.heesch_region.specs.Windows.{cell_of, is_marked};
     ghost use Rattle.heesch_region.specs.Spans.{IsBetween};
 
     /// A window with all pairs from `low` to `high` inside its border.

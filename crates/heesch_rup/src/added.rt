@@ -33,8 +33,8 @@ pub fn clauses_of<S: Steps>(alloc: Global, vars: u32, steps: &S) -> Result<FlatF
     Ok(added)
 }
 
-/// Adds the clauses of the lines before the first whose clause isn't one over the variables, or of all lines. It reads their
-/// clauses once.
+/// Adds the clauses of the lines before the first whose clause isn't one over the variables, or of all lines. It reads
+/// their clauses once.
 pub fn add_formed<S: Steps>(added: &mut FlatFormula, steps: &S) -> Result<(), NoMemory>
     requires none { added.old.clauses ≡ [] }
     ensures first { OnOk result (AddsFirst added.old.vars (S.written steps.now).lines added.new) }

@@ -1,5 +1,6 @@
 //! Whether the lines of a log hold, one after the other.
-ghost use Rattle.std.specs.Prelude.{◌≡◌, ◌≢◌, ◌<◌, ◌≤◌, ◌+◌, ◌*◌, ◌++◌, [], IsTrue, ◌↔◌, IfOk, MatchOption, ⊤, length, min, take, vec_len};
+ghost use Rattle.std.specs.Prelude.{◌≡◌, ◌≢◌, ◌<◌, ◌≤◌, ◌+◌, ◌*◌, ◌++◌, [], IsTrue, ◌↔◌, IfOk, MatchOption, ⊤, length};
+ghost use Rattle.std.specs.Prelude.{min, take, vec_len};
 ghost use Rattle.std.specs.Option.{option_copied};
 ghost use Rattle.heesch_cnf.specs.declared.log.Line.{Line};
 ghost use Rattle.heesch_cnf.specs.Literals.{held};
@@ -31,8 +32,8 @@ pub enum LogAnswer {
     BadLine { at: usize },
 }
 
-/// Whether the hints show that the clause follows from the first clauses, so many, of the formula and of what lines added. The
-/// assignment is all open before and after.
+/// Whether the hints show that the clause follows from the first clauses, so many, of the formula and of what lines
+/// added. The assignment is all open before and after.
 fn is_shown<C: ClauseSource>(
     assignment: &mut Assignment,
     formula: &C,
@@ -69,7 +70,8 @@ fn is_learnable(vars: u32, clause: &[Lit]) -> bool
     is_clause(vars, clause)
 }
 
-/// Whether a line holds, before which so many clauses stand: a learnt one by its hints, a given one where there are none.
+/// Whether a line holds, before which so many clauses stand: a learnt one by its hints, a given one where there are
+/// none.
 fn line_holds<C: ClauseSource>(
     assignment: &mut Assignment,
     formula: &C,
@@ -85,7 +87,8 @@ fn line_holds<C: ClauseSource>(
     ensures room { vec_len assignment.new.values ≡ vec_len assignment.old.values }
     ensures open { IfOk result (λ yes. held assignment.new.values.items ≡ all_open) }
     ensures holds { let clauses = take count ((C.listed formula.now).clauses ++ added.now.clauses) in
-        IfOk result (λ yes. (line : Line) → clause.now ≡ clause_of line → option_copied hints.entry ≡ hints_of line → IsTrue yes ↔ LineHolds (C.listed formula.now).vars clauses line) }
+        IfOk result (λ yes. (line : Line) → clause.now ≡ clause_of line → option_copied hints.entry ≡ hints_of line
+        → IsTrue yes ↔ LineHolds (C.listed formula.now).vars clauses line) }
 {
     let Some(hints) = hints else {
         return Ok(is_clause(formula.vars(), clause));
@@ -96,8 +99,8 @@ fn line_holds<C: ClauseSource>(
     is_shown(assignment, formula, added, count, clause, hints)
 }
 
-/// The first line from one to before another, counted from 0, that doesn't hold, if there is one. The clauses of all these lines
-/// stand in `added`. The assignment is all open before and after.
+/// The first line from one to before another, counted from 0, that doesn't hold, if there is one. The clauses of all
+/// these lines stand in `added`. The assignment is all open before and after.
 pub fn first_failing<C: ClauseSource, S: Steps>(
     assignment: &mut Assignment,
     formula: &C,
@@ -112,7 +115,9 @@ pub fn first_failing<C: ClauseSource, S: Steps>(
     requires until { until ≤ length added.now.clauses }
     ensures room { vec_len assignment.new.values ≡ vec_len assignment.old.values }
     ensures open { IfOk result (λ failing. held assignment.new.values.items ≡ all_open) }
-    ensures first { IfOk result (IsFirstFailing (C.listed formula.now).vars (C.listed formula.now).clauses (S.written steps.now).lines from until) }
+    ensures first { IfOk result
+        (IsFirstFailing (C.listed formula.now).vars (C.listed formula.now).clauses
+        (S.written steps.now).lines from until) }
 {
     // Reading these numbers tells the proof that the clauses are over the variables, and how few they are.
     let (_vars, _same, _few) = (formula.vars(), added.vars(), added.len());
@@ -142,7 +147,9 @@ fn first_failing_of<C: ClauseSource, S: Steps>(
 ) -> Result<Option<usize>, NoMemory>
     requires added { AddsFirst (C.listed formula.now).vars (S.written steps.now).lines added.now }
     requires chunk { chunk * 1024 < length added.now.clauses }
-    ensures { IfOk result (IsFirstFailing (C.listed formula.now).vars (C.listed formula.now).clauses (S.written steps.now).lines (chunk * 1024) (min (chunk * 1024 + 1024) (length added.now.clauses))) }
+    ensures { IfOk result
+        (IsFirstFailing (C.listed formula.now).vars (C.listed formula.now).clauses (S.written steps.now).lines
+        (chunk * 1024) (min (chunk * 1024 + 1024) (length added.now.clauses))) }
 {
     let count = added.len();
     let from = chunk * CHUNK;
@@ -160,15 +167,21 @@ fn first_failing_in_chunks<R: Threads + Sync, C: ClauseSource + Sync, S: Steps +
     steps: &S,
 ) -> Result<Option<usize>, NoMemory>
     requires added { AddsFirst (C.listed formula.now).vars (S.written steps.now).lines added.now }
-    ensures { IfOk result (IsFirstFailing (C.listed formula.now).vars (C.listed formula.now).clauses (S.written steps.now).lines 0 (length added.now.clauses)) }
+    ensures { IfOk result
+        (IsFirstFailing (C.listed formula.now).vars (C.listed formula.now).clauses (S.written steps.now).lines 0
+        (length added.now.clauses)) }
 {
     let found = by_chunks(
         rt,
         alloc,
         added.len(),
         move |chunk: usize| -> Result<Option<usize>, NoMemory>
-            requires { AddsFirst (C.listed formula.now).vars (S.written steps.now).lines added.now × (chunk * 1024 < length added.now.clauses) }
-            ensures { IfOk result (IsFirstFailing (C.listed formula.entry.now).vars (C.listed formula.entry.now).clauses (S.written steps.entry.now).lines (chunk * 1024) (min (chunk * 1024 + 1024) (length added.entry.now.clauses))) }
+            requires { AddsFirst (C.listed formula.now).vars (S.written steps.now).lines added.now
+                × (chunk * 1024 < length added.now.clauses) }
+            ensures { IfOk result
+                (IsFirstFailing (C.listed formula.entry.now).vars (C.listed formula.entry.now).clauses
+                (S.written steps.entry.now).lines (chunk * 1024)
+                (min (chunk * 1024 + 1024) (length added.entry.now.clauses))) }
         { first_failing_of(alloc, formula, added, steps, chunk) },
     )?;
     for answer in found.iter() {
@@ -182,8 +195,8 @@ fn first_failing_in_chunks<R: Threads + Sync, C: ClauseSource + Sync, S: Steps +
     Ok(None)
 }
 
-/// `first_failing` of all lines whose clauses stand in `added`: of `LEAST_SPLIT` or more by chunks, and of fewer in one piece, in
-/// the caller's thread.
+/// `first_failing` of all lines whose clauses stand in `added`: of `LEAST_SPLIT` or more by chunks, and of fewer in
+/// one piece, in the caller's thread.
 fn first_failing_line<R: Threads + Sync, C: ClauseSource + Sync, S: Steps + Sync>(
     rt: &R,
     alloc: Global,
@@ -197,7 +210,9 @@ fn first_failing_line<R: Threads + Sync, C: ClauseSource + Sync, S: Steps + Sync
     requires added { AddsFirst (C.listed formula.now).vars (S.written steps.now).lines added.now }
     ensures room { vec_len assignment.new.values ≡ vec_len assignment.old.values }
     ensures open { IfOk result (λ failing. held assignment.new.values.items ≡ all_open) }
-    ensures first { IfOk result (IsFirstFailing (C.listed formula.now).vars (C.listed formula.now).clauses (S.written steps.now).lines 0 (length added.now.clauses)) }
+    ensures first { IfOk result
+        (IsFirstFailing (C.listed formula.now).vars (C.listed formula.now).clauses (S.written steps.now).lines 0
+        (length added.now.clauses)) }
 {
     let count = added.len();
     if count < LEAST_SPLIT {
@@ -206,8 +221,8 @@ fn first_failing_line<R: Threads + Sync, C: ClauseSource + Sync, S: Steps + Sync
     first_failing_in_chunks(rt, alloc, formula, added, steps)
 }
 
-/// The least line, from 1, that doesn't hold, if there is one. Else the clauses of all lines stand in `added`. The assignment
-/// is all open before and after.
+/// The least line, from 1, that doesn't hold, if there is one. Else the clauses of all lines stand in `added`. The
+/// assignment is all open before and after.
 pub fn bad_line<R: Threads + Sync, C: ClauseSource + Sync, S: Steps + Sync>(
     rt: &R,
     alloc: Global,
@@ -221,8 +236,14 @@ pub fn bad_line<R: Threads + Sync, C: ClauseSource + Sync, S: Steps + Sync>(
     requires none { added.old ≡ record { vars = (C.listed formula.now).vars; clauses = [] } }
     ensures room { vec_len assignment.new.values ≡ vec_len assignment.old.values }
     ensures open { IfOk result (λ bad. held assignment.new.values.items ≡ all_open) }
-    ensures added { IfOk result (λ bad. MatchOption bad (added.new ≡ record { vars = (C.listed formula.now).vars; clauses = clauses_of (S.written steps.now).lines }) (λ at. ⊤)) }
-    ensures bad { IfOk result (λ bad. MatchOption bad (LinesHold (C.listed formula.now).vars (C.listed formula.now).clauses (S.written steps.now).lines) (λ at. IsFirstBad (C.listed formula.now).vars (C.listed formula.now).clauses (S.written steps.now) at)) }
+    ensures added { IfOk result
+        (λ bad. MatchOption bad
+        (added.new ≡ record { vars = (C.listed formula.now).vars; clauses = clauses_of (S.written steps.now).lines })
+        (λ at. ⊤)) }
+    ensures bad { IfOk result
+        (λ bad. MatchOption bad
+        (LinesHold (C.listed formula.now).vars (C.listed formula.now).clauses (S.written steps.now).lines)
+        (λ at. IsFirstBad (C.listed formula.now).vars (C.listed formula.now).clauses (S.written steps.now) at)) }
 {
     add_formed(added, steps)?;
     let formed = added.len();
@@ -245,8 +266,10 @@ pub fn final_answer<C: ClauseSource, S: Steps>(
     requires room { (C.listed formula.now).vars < vec_len assignment.old.values }
     requires open { held assignment.old.values.items ≡ all_open }
     requires lines { LinesHold (C.listed formula.now).vars (C.listed formula.now).clauses (S.written steps.now).lines }
-    requires added { added.now ≡ record { vars = (C.listed formula.now).vars; clauses = clauses_of (S.written steps.now).lines } }
-    ensures { IfOk result (IsLogAnswer (C.listed formula.now).vars (C.listed formula.now).clauses (S.written steps.now)) }
+    requires added { added.now
+        ≡ record { vars = (C.listed formula.now).vars; clauses = clauses_of (S.written steps.now).lines } }
+    ensures { IfOk result
+        (IsLogAnswer (C.listed formula.now).vars (C.listed formula.now).clauses (S.written steps.now)) }
 {
     // Reading the number of the variables tells the proof that the clauses are over them.
     let _vars = formula.vars();
@@ -263,16 +286,18 @@ pub fn final_answer<C: ClauseSource, S: Steps>(
     }
 }
 
-/// What the check of a log over the formula finds, wherever its lines stand: the least line, from 1, that doesn't hold, where
-/// there is one; the final line counts after the others. A Learn line costs as many steps as its clause and its hinted clauses
-/// have literals, a Given line as many as its clause has. The clauses of the lines are copied into one array.
+/// What the check of a log over the formula finds, wherever its lines stand: the least line, from 1, that doesn't
+/// hold, where there is one; the final line counts after the others. A Learn line costs as many steps as its clause
+/// and its hinted clauses have literals, a Given line as many as its clause has. The clauses of the lines are copied
+/// into one array.
 pub fn check_steps<R: Threads + Sync, C: ClauseSource + Sync, S: Steps + Sync>(
     rt: &R,
     alloc: Global,
     formula: &C,
     steps: &S,
 ) -> Result<LogAnswer, NoMemory>
-    ensures { IfOk result (IsLogAnswer (C.listed formula.now).vars (C.listed formula.now).clauses (S.written steps.now)) }
+    ensures { IfOk result
+        (IsLogAnswer (C.listed formula.now).vars (C.listed formula.now).clauses (S.written steps.now)) }
 {
     let vars = formula.vars();
     let mut assignment = Assignment::new(alloc, vars)?;
@@ -283,9 +308,9 @@ pub fn check_steps<R: Threads + Sync, C: ClauseSource + Sync, S: Steps + Sync>(
     }
 }
 
-/// The least line, from 1, that doesn't hold, where there is one; the final line counts after the others. A Learn line costs
-/// as many steps as its clause and its hinted clauses have literals, a Given line as many as its clause has. The formula is
-/// copied into one array first; one of 2^31 variables or more counts as want of memory.
+/// The least line, from 1, that doesn't hold, where there is one; the final line counts after the others. A Learn line
+/// costs as many steps as its clause and its hinted clauses have literals, a Given line as many as its clause has. The
+/// formula is copied into one array first; one of 2^31 variables or more counts as want of memory.
 pub fn check_log<R: Threads + Sync>(
     rt: &R,
     alloc: Global,

@@ -17,7 +17,8 @@ pub const LEAST_SPLIT: usize = 4096;
 /// How many consecutive lines one chunk has. The last chunk may have fewer.
 pub const CHUNK: usize = 1024;
 
-/// What is answered of each chunk of so many lines, in order, in as many threads as there are processors. Chunks count from 0.
+/// What is answered of each chunk of so many lines, in order, in as many threads as there are processors. Chunks count
+/// from 0.
 pub fn by_chunks<
     R: Threads + Sync,
     T: Send + Drop,

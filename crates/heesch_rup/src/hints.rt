@@ -29,7 +29,8 @@ pub fn refute(assignment: &mut Assignment, clause: &[Lit]) -> Result<(), NoMemor
     Ok(())
 }
 
-/// The literals that aren't false of the clause of a number, among those of the formula and then those that lines added.
+/// The literals that aren't false of the clause of a number, among those of the formula and then those that lines
+/// added.
 fn left_at<C: ClauseSource>(
     formula: &C,
     added: &FlatFormula,

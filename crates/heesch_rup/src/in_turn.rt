@@ -1,4 +1,5 @@
-//! The check of a log line after line in the caller's thread, for sources of clauses that need not be shared by threads.
+//! The check of a log line after line in the caller's thread, for sources of clauses that need not be shared by
+//! threads.
 ghost use Rattle.std.specs.Prelude.{◌≡◌, ◌<◌, [], IsTrue, ◌↔◌, IfOk, MatchOption, ⊤, vec_len};
 ghost use Rattle.heesch_cnf.specs.Literals.{held};
 ghost use Rattle.heesch_cnf.specs.Lines.{IsSpent, LinesHold, LinesAreNew, clauses_of};
@@ -14,8 +15,8 @@ use heesch_cnf::{ClauseSource, FlatFormula, NewnessSource};
 use heesch_io::NoMemory;
 use std::alloc::Global;
 
-/// The least line, from 1, that doesn't hold, if there is one. Else the clauses of all lines stand in `added`. The assignment
-/// is all open before and after.
+/// The least line, from 1, that doesn't hold, if there is one. Else the clauses of all lines stand in `added`. The
+/// assignment is all open before and after.
 fn bad_line_in_turn<C: ClauseSource, S: Steps>(
     assignment: &mut Assignment,
     formula: &C,
@@ -28,9 +29,11 @@ fn bad_line_in_turn<C: ClauseSource, S: Steps>(
     ensures room { vec_len assignment.new.values ≡ vec_len assignment.old.values }
     ensures open { IfOk result (λ bad. held assignment.new.values.items ≡ all_open) }
     ensures added { let f = C.listed formula.now in let lines = (S.written steps.now).lines in
-        IfOk result (λ bad. MatchOption bad (added.new ≡ record { vars = f.vars; clauses = clauses_of lines }) (λ at. ⊤)) }
+        IfOk result (λ bad. MatchOption bad (added.new ≡ record { vars = f.vars; clauses = clauses_of lines })
+        (λ at. ⊤)) }
     ensures bad { let f = C.listed formula.now in let log = S.written steps.now in
-        IfOk result (λ bad. MatchOption bad (LinesHold f.vars f.clauses log.lines) (λ at. IsFirstBad f.vars f.clauses log at)) }
+        IfOk result (λ bad. MatchOption bad (LinesHold f.vars f.clauses log.lines)
+        (λ at. IsFirstBad f.vars f.clauses log at)) }
 {
     add_formed(added, steps)?;
     let formed = added.len();
@@ -49,7 +52,8 @@ pub fn check_steps_in_turn<C: ClauseSource, S: Steps>(
     formula: &C,
     steps: &S,
 ) -> Result<LogAnswer, NoMemory>
-    ensures { IfOk result (IsLogAnswer (C.listed formula.now).vars (C.listed formula.now).clauses (S.written steps.now)) }
+    ensures { IfOk result
+        (IsLogAnswer (C.listed formula.now).vars (C.listed formula.now).clauses (S.written steps.now)) }
 {
     let vars = formula.vars();
     let mut assignment = Assignment::new(alloc, vars)?;
@@ -60,8 +64,8 @@ pub fn check_steps_in_turn<C: ClauseSource, S: Steps>(
     }
 }
 
-/// The clauses of the lines, if there are just so many lines, each of which holds, and no final line. The log is spent then
-/// where they are new, and else it isn't.
+/// The clauses of the lines, if there are just so many lines, each of which holds, and no final line. The log is spent
+/// then where they are new, and else it isn't.
 fn used_up_in_turn<C: ClauseSource, S: Steps>(
     alloc: Global,
     formula: &C,
@@ -69,11 +73,13 @@ fn used_up_in_turn<C: ClauseSource, S: Steps>(
     turns: u32,
 ) -> Result<Option<FlatFormula>, NoMemory>
     ensures added { let f = C.listed formula.now in
-        IfOk result (λ used. MatchOption used ⊤ (λ added. added ≡ record { vars = f.vars; clauses = clauses_of (S.written steps.now).lines })) }
+        IfOk result (λ used. MatchOption used ⊤
+        (λ added. added ≡ record { vars = f.vars; clauses = clauses_of (S.written steps.now).lines })) }
     ensures lines { let f = C.listed formula.now in
         IfOk result (λ used. MatchOption used ⊤ (λ added. LinesHold f.vars f.clauses (S.written steps.now).lines)) }
     ensures spent { let f = C.listed formula.now in let log = S.written steps.now in
-        IfOk result (λ used. MatchOption used (IsSpent f.vars f.clauses turns log → ⊥) (λ added. LinesAreNew f.clauses log.lines ↔ IsSpent f.vars f.clauses turns log)) }
+        IfOk result (λ used. MatchOption used (IsSpent f.vars f.clauses turns log → ⊥)
+        (λ added. LinesAreNew f.clauses log.lines ↔ IsSpent f.vars f.clauses turns log)) }
 {
     if steps.count() != turns as usize {
         return Ok(None);
@@ -90,9 +96,9 @@ fn used_up_in_turn<C: ClauseSource, S: Steps>(
     }
 }
 
-/// Whether the log is spent for so many turns over the clauses, wherever they and its lines stand, as `is_spent` tells it, but in
-/// the caller's thread alone. It costs what `check_steps_in_turn` does, and for each line the question whether it is new; the
-/// clauses of the lines are copied once.
+/// Whether the log is spent for so many turns over the clauses, wherever they and its lines stand, as `is_spent` tells
+/// it, but in the caller's thread alone. It costs what `check_steps_in_turn` does, and for each line the question
+/// whether it is new; the clauses of the lines are copied once.
 pub fn is_spent_in_turn<N: NewnessSource, S: Steps>(
     alloc: Global,
     formula: &N,

@@ -1,4 +1,5 @@
-//! The check of a log, line by line, and whether its lines are new. Of the solver it shares the types alone, and none of its code.
+//! The check of a log, line by line, and whether its lines are new. Of the solver it shares the types alone, and none
+//! of its code.
 #![tactic(auto)]
 
 mod added;

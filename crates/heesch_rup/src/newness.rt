@@ -19,8 +19,8 @@ use heesch_io::NoMemory;
 use std::alloc::Global;
 use std::thread::Threads;
 
-/// Whether the clause, whose literals the values make false, contains none of the formula, and none of the first, so many, that
-/// lines added, which are listed.
+/// Whether the clause, whose literals the values make false, contains none of the formula, and none of the first, so
+/// many, that lines added, which are listed.
 fn is_new_under<N: NewnessSource>(
     listed: &Occurrences,
     values: &[Option<bool>],
@@ -37,7 +37,8 @@ fn is_new_under<N: NewnessSource>(
     requires clause { IsClause added.now.vars clause.now }
     requires lists { ListsFirst added.now.clauses listed.now }
     requires count { count ≤ vec_len listed.now.earlier }
-    ensures { let before = (N.listed formula.now).clauses ++ take count added.now.clauses in IsTrue result ↔ IsNew before clause.now }
+    ensures { let before = (N.listed formula.now).clauses ++ take count added.now.clauses in IsTrue result
+        ↔ IsNew before clause.now }
 {
     if listed.contains_listed(values, added, count, clause) {
         return false;
@@ -45,8 +46,8 @@ fn is_new_under<N: NewnessSource>(
     formula.is_new(clause, values)
 }
 
-/// Whether the clause contains none of the formula, and none of the first, so many, that lines added, which are listed. The
-/// assignment is all open before and after.
+/// Whether the clause contains none of the formula, and none of the first, so many, that lines added, which are
+/// listed. The assignment is all open before and after.
 fn is_new<N: NewnessSource>(
     listed: &Occurrences,
     assignment: &mut Assignment,
@@ -88,7 +89,9 @@ fn are_new_of<N: NewnessSource, S: Steps>(
     requires added { added.now.clauses ≡ clauses_of (S.written steps.now).lines }
     requires chunk { chunk * 1024 < length added.now.clauses }
     ensures { let clauses = (N.listed formula.now).clauses in
-        IfOk result (λ yes. IsTrue yes ↔ AreNewBetween clauses (S.written steps.now).lines (chunk * 1024) (min (chunk * 1024 + 1024) (length added.now.clauses))) }
+        IfOk result (λ yes. IsTrue yes
+        ↔ AreNewBetween clauses (S.written steps.now).lines (chunk * 1024)
+        (min (chunk * 1024 + 1024) (length added.now.clauses))) }
 {
     let from = chunk * CHUNK;
     let until = (from + CHUNK).min(added.len());
@@ -101,8 +104,8 @@ fn are_new_of<N: NewnessSource, S: Steps>(
     Ok(true)
 }
 
-/// Whether no line contains an earlier clause, by chunks, in as many threads as there are processors. The clauses of all lines
-/// are listed, and a search passes over those that don't stand before its line.
+/// Whether no line contains an earlier clause, by chunks, in as many threads as there are processors. The clauses of
+/// all lines are listed, and a search passes over those that don't stand before its line.
 fn are_new_in_chunks<R: Threads + Sync, N: NewnessSource + Sync, S: Steps + Sync>(
     rt: &R,
     alloc: Global,
@@ -114,15 +117,21 @@ fn are_new_in_chunks<R: Threads + Sync, N: NewnessSource + Sync, S: Steps + Sync
     requires listed { AreAllListed added.now listed.now }
     requires vars { added.now.vars ≡ (N.listed formula.now).vars }
     requires added { added.now.clauses ≡ clauses_of (S.written steps.now).lines }
-    ensures { IfOk result (λ yes. IsTrue yes ↔ LinesAreNew (N.listed formula.now).clauses (S.written steps.now).lines) }
+    ensures { IfOk result
+        (λ yes. IsTrue yes ↔ LinesAreNew (N.listed formula.now).clauses (S.written steps.now).lines) }
 {
     let found = by_chunks(
         rt,
         alloc,
         added.len(),
         move |chunk: usize| -> Result<bool, NoMemory>
-            requires { AreAllListed added.now listed.now × (added.now.vars ≡ (N.listed formula.now).vars) × (added.now.clauses ≡ clauses_of (S.written steps.now).lines) × (chunk * 1024 < length added.now.clauses) }
-            ensures { IfOk result (λ yes. IsTrue yes ↔ AreNewBetween (N.listed formula.entry.now).clauses (S.written steps.entry.now).lines (chunk * 1024) (min (chunk * 1024 + 1024) (length added.entry.now.clauses))) }
+            requires { AreAllListed added.now listed.now × (added.now.vars ≡ (N.listed formula.now).vars)
+                × (added.now.clauses ≡ clauses_of (S.written steps.now).lines)
+                × (chunk * 1024 < length added.now.clauses) }
+            ensures { IfOk result
+                (λ yes. IsTrue yes ↔ AreNewBetween (N.listed formula.entry.now).clauses
+                (S.written steps.entry.now).lines (chunk * 1024)
+                (min (chunk * 1024 + 1024) (length added.entry.now.clauses))) }
         { are_new_of(alloc, listed, formula, added, steps, chunk) },
     )?;
     for answer in found.iter() {
@@ -136,8 +145,8 @@ fn are_new_in_chunks<R: Threads + Sync, N: NewnessSource + Sync, S: Steps + Sync
     Ok(true)
 }
 
-/// Whether no line contains an earlier clause, where the clauses that the lines add are these. The lines are checked in their
-/// order, in the caller's thread; each is listed after its check.
+/// Whether no line contains an earlier clause, where the clauses that the lines add are these. The lines are checked
+/// in their order, in the caller's thread; each is listed after its check.
 pub fn are_new_in_turn<N: NewnessSource, S: Steps>(
     alloc: Global,
     formula: &N,
@@ -145,8 +154,10 @@ pub fn are_new_in_turn<N: NewnessSource, S: Steps>(
     steps: &S,
 ) -> Result<bool, NoMemory>
     requires lines { let f = N.listed formula.now in LinesHold f.vars f.clauses (S.written steps.now).lines }
-    requires added { added.now ≡ record { vars = (N.listed formula.now).vars; clauses = clauses_of (S.written steps.now).lines } }
-    ensures { IfOk result (λ yes. IsTrue yes ↔ LinesAreNew (N.listed formula.now).clauses (S.written steps.now).lines) }
+    requires added { added.now
+        ≡ record { vars = (N.listed formula.now).vars; clauses = clauses_of (S.written steps.now).lines } }
+    ensures { IfOk result
+        (λ yes. IsTrue yes ↔ LinesAreNew (N.listed formula.now).clauses (S.written steps.now).lines) }
 {
     let vars = added.vars();
     let mut listed = occurrences_of(alloc, added, 0, added)?;
@@ -169,8 +180,10 @@ pub fn are_new<R: Threads + Sync, N: NewnessSource + Sync, S: Steps + Sync>(
     steps: &S,
 ) -> Result<bool, NoMemory>
     requires lines { let f = N.listed formula.now in LinesHold f.vars f.clauses (S.written steps.now).lines }
-    requires added { added.now ≡ record { vars = (N.listed formula.now).vars; clauses = clauses_of (S.written steps.now).lines } }
-    ensures { IfOk result (λ yes. IsTrue yes ↔ LinesAreNew (N.listed formula.now).clauses (S.written steps.now).lines) }
+    requires added { added.now
+        ≡ record { vars = (N.listed formula.now).vars; clauses = clauses_of (S.written steps.now).lines } }
+    ensures { IfOk result
+        (λ yes. IsTrue yes ↔ LinesAreNew (N.listed formula.now).clauses (S.written steps.now).lines) }
 {
     let (_vars, count) = (added.vars(), added.len());
     if count < LEAST_SPLIT {
@@ -180,9 +193,10 @@ pub fn are_new<R: Threads + Sync, N: NewnessSource + Sync, S: Steps + Sync>(
     are_new_in_chunks(rt, alloc, &listed, formula, added, steps)
 }
 
-/// Whether no line contains an earlier clause, be it of the formula or of a line, wherever the lines stand. It costs as many
-/// steps as all clauses have literals, and for each line the lengths of the clauses of which the line has the literal that is
-/// rarest in lines, each read up to its first literal that the line lacks. The clauses of the lines are copied into one array.
+/// Whether no line contains an earlier clause, be it of the formula or of a line, wherever the lines stand. It costs
+/// as many steps as all clauses have literals, and for each line the lengths of the clauses of which the line has the
+/// literal that is rarest in lines, each read up to its first literal that the line lacks. The clauses of the lines
+/// are copied into one array.
 pub fn all_new_steps<R: Threads + Sync, S: Steps + Sync>(
     rt: &R,
     alloc: Global,
@@ -197,9 +211,10 @@ pub fn all_new_steps<R: Threads + Sync, S: Steps + Sync>(
     are_new(rt, alloc, &indexed, &added, steps)
 }
 
-/// Whether no line contains an earlier clause, be it of the formula or of a line. It costs as many steps as all clauses have
-/// literals, and for each line the lengths of the clauses of which the line has the literal that is rarest in lines. The
-/// formula is copied into one array first; one of 2^31 variables or more counts as want of memory.
+/// Whether no line contains an earlier clause, be it of the formula or of a line. It costs as many steps as all
+/// clauses have literals, and for each line the lengths of the clauses of which the line has the literal that is
+/// rarest in lines. The formula is copied into one array first; one of 2^31 variables or more counts as want of
+/// memory.
 pub fn all_new<R: Threads + Sync>(
     rt: &R,
     alloc: Global,

@@ -37,8 +37,8 @@ pub fn slot_of(counts: &[u32], clause: &[PackedLit]) -> usize
     rarest
 }
 
-/// Clauses by their literal that is rarest in lines, the first such. A clause contains another only if it has that literal of
-/// it, so few have to be compared.
+/// Clauses by their literal that is rarest in lines, the first such. A clause contains another only if it has that
+/// literal of it, so few have to be compared.
 #[derive(Drop)]
 pub struct Occurrences {
     /// How often lines have each literal, by slot.
@@ -83,8 +83,8 @@ impl Occurrences {
         Ok(())
     }
 
-    /// Whether one of the first clauses, of which so many are listed at least, is of this slot and has all its literals false. It
-    /// passes over the clauses of the slot that stand later, and reads the others.
+    /// Whether one of the first clauses, of which so many are listed at least, is of this slot and has all its
+    /// literals false. It passes over the clauses of the slot that stand later, and reads the others.
     fn any_falsified(
         &self,
         values: &[Option<bool>],
@@ -98,7 +98,8 @@ impl Occurrences {
         requires lists { ListsFirst clauses.now.clauses self.now }
         requires count { count ≤ vec_len self.now.earlier }
         ensures { let found = held values.now in
-            MatchBool result (SomeFalsified found clauses.now.clauses count) (NoneFalsifiedAt self.now.counts.items found clauses.now.clauses count slot) }
+            MatchBool result (SomeFalsified found clauses.now.clauses count)
+            (NoneFalsifiedAt self.now.counts.items found clauses.now.clauses count slot) }
     {
         let mut next = self.last[slot];
         while let Some(place) = next {
@@ -110,8 +111,8 @@ impl Occurrences {
         false
     }
 
-    /// Whether a clause, whose literals the values make false, contains one of the first, so many, which are listed. It reads
-    /// those of them that are listed at its literals.
+    /// Whether a clause, whose literals the values make false, contains one of the first, so many, which are listed.
+    /// It reads those of them that are listed at its literals.
     pub fn contains_listed(
         &self,
         values: &[Option<bool>],
@@ -127,7 +128,8 @@ impl Occurrences {
         requires lists { ListsFirst clauses.now.clauses self.now }
         requires count { count ≤ vec_len self.now.earlier }
         ensures { let found = held values.now in
-            MatchBool result (SomeFalsified found clauses.now.clauses count) (IsNew (take count clauses.now.clauses) clause.now) }
+            MatchBool result (SomeFalsified found clauses.now.clauses count)
+            (IsNew (take count clauses.now.clauses) clause.now) }
     {
         if self.any_falsified(values, clauses, count, 0) {
             return true;

@@ -12,8 +12,8 @@ use heesch_io::NoMemory;
 use std::alloc::Global;
 use std::thread::Threads;
 
-/// The clauses of the lines, if there are just so many lines, each of which holds, and no final line. The log is spent then
-/// where they are new, and else it isn't.
+/// The clauses of the lines, if there are just so many lines, each of which holds, and no final line. The log is spent
+/// then where they are new, and else it isn't.
 fn used_up<R: Threads + Sync, C: ClauseSource + Sync, S: Steps + Sync>(
     rt: &R,
     alloc: Global,
@@ -22,11 +22,13 @@ fn used_up<R: Threads + Sync, C: ClauseSource + Sync, S: Steps + Sync>(
     turns: u32,
 ) -> Result<Option<FlatFormula>, NoMemory>
     ensures added { let f = C.listed formula.now in
-        IfOk result (λ used. MatchOption used ⊤ (λ added. added ≡ record { vars = f.vars; clauses = clauses_of (S.written steps.now).lines })) }
+        IfOk result (λ used. MatchOption used ⊤
+        (λ added. added ≡ record { vars = f.vars; clauses = clauses_of (S.written steps.now).lines })) }
     ensures lines { let f = C.listed formula.now in
         IfOk result (λ used. MatchOption used ⊤ (λ added. LinesHold f.vars f.clauses (S.written steps.now).lines)) }
     ensures spent { let f = C.listed formula.now in let log = S.written steps.now in
-        IfOk result (λ used. MatchOption used (IsSpent f.vars f.clauses turns log → ⊥) (λ added. LinesAreNew f.clauses log.lines ↔ IsSpent f.vars f.clauses turns log)) }
+        IfOk result (λ used. MatchOption used (IsSpent f.vars f.clauses turns log → ⊥)
+        (λ added. LinesAreNew f.clauses log.lines ↔ IsSpent f.vars f.clauses turns log)) }
 {
     if steps.count() != turns as usize {
         return Ok(None);
@@ -43,9 +45,9 @@ fn used_up<R: Threads + Sync, C: ClauseSource + Sync, S: Steps + Sync>(
     }
 }
 
-/// Whether the log is spent for so many turns over the formula, wherever its lines stand: it has just so many lines, each of
-/// which holds and is new, and no final line. It costs what `check_steps` and `all_new_steps` cost, but the clauses of the lines
-/// are copied once.
+/// Whether the log is spent for so many turns over the formula, wherever its lines stand: it has just so many lines,
+/// each of which holds and is new, and no final line. It costs what `check_steps` and `all_new_steps` cost, but the
+/// clauses of the lines are copied once.
 pub fn is_spent<R: Threads + Sync, S: Steps + Sync>(
     rt: &R,
     alloc: Global,
@@ -53,7 +55,8 @@ pub fn is_spent<R: Threads + Sync, S: Steps + Sync>(
     steps: &S,
     turns: u32,
 ) -> Result<bool, NoMemory>
-    ensures { IfOk result (λ yes. IsTrue yes ↔ IsSpent formula.now.vars formula.now.clauses turns (S.written steps.now)) }
+    ensures { IfOk result
+        (λ yes. IsTrue yes ↔ IsSpent formula.now.vars formula.now.clauses turns (S.written steps.now)) }
 {
     let Some(added) = used_up(rt, alloc, formula, steps, turns)? else {
         return Ok(false);

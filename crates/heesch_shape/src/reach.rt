@@ -46,7 +46,8 @@ fn next_place<G: Grid>(inside: &[Cell], outside: &[Cell]) -> Option<usize>
     requires cells { (c : Cell) → has inside.now c ≡ true → G.geometry.is_cell c ≡ true }
     requires within { (c : Cell) → has inside.now c ≡ true → IsWithin 1000000 c }
     ensures below { IfSome result (λ at. at < length outside.now) }
-    ensures found { IfSome result (λ at. (d : Cell) → IsNextTo G.geometry inside.now (slice_index_or outside.now at d)) }
+    ensures found { IfSome result
+        (λ at. (d : Cell) → IsNextTo G.geometry inside.now (slice_index_or outside.now at d)) }
     ensures none { IfNone result (AreApart G.geometry inside.now outside.now) }
 {
     for (at, d) in outside.iter().enumerate() {

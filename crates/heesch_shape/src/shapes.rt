@@ -1,5 +1,6 @@
 //! A polyform by its cell list.
-ghost use Rattle.std.specs.Prelude.{◌≡◌, ◌<◌, ◌≤◌, ◌≤ℤ◌, [], ◌∷◌, true, false, neg_ℤ, pos, length, List, All, IfOk, IfErr, IsPermutation, IsSorted};
+ghost use Rattle.std.specs.Prelude.{◌≡◌, ◌<◌, ◌≤◌, ◌≤ℤ◌, [], ◌∷◌, true, false, neg_ℤ, pos, length, List, All, IfOk};
+ghost use Rattle.std.specs.Prelude.{IfErr, IsPermutation, IsSorted};
 ghost use Rattle.std.proofs.Common.{refl};
 ghost use Rattle.std.specs.Cmp.{partial_order_from_total};
 ghost use Rattle.std.specs.Cmp.Lexicographic.{slice_cmp};

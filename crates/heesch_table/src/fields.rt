@@ -19,7 +19,8 @@ pub fn append_count(label: &[u8], count: u64, out: &mut Vec<u8>) -> Result<(), N
 
 /// Such a line for each label and its count.
 pub fn append_counts(counts: &[(&[u8], u64)], out: &mut Vec<u8>) -> Result<(), NoMemory>
-    ensures ok { OnOk result (out.new.items ≡ out.old.items ++ flat_map (λ row. count_line row.0.now row.1) counts.now) }
+    ensures ok { OnOk result
+        (out.new.items ≡ out.old.items ++ flat_map (λ row. count_line row.0.now row.1) counts.now) }
     ensures kept { take (length out.old.items) out.new.items ≡ out.old.items }
 {
     for (label, count) in counts {

@@ -42,8 +42,10 @@ impl HeeschCounts {
     /// One more verdict, or nothing changes.
     pub fn add(&mut self, verdict: &Verdict) -> Result<(), NoMemory>
         requires { All (λ count. count ≤ 2 ^ 32) (values_of self.old) }
-        ensures ok { (verdicts : List Verdict) → self.old ≡ heesch_of verdicts → OnOk result (self.new ≡ heesch_of (verdicts ++ verdict.now ∷ [])) }
-        ensures bound { (n : ℕ) → All (λ count. count ≤ n) (values_of self.old) → All (λ count. count ≤ n + 1) (values_of self.new) }
+        ensures ok { (verdicts : List Verdict) → self.old ≡ heesch_of verdicts
+            → OnOk result (self.new ≡ heesch_of (verdicts ++ verdict.now ∷ [])) }
+        ensures bound { (n : ℕ) → All (λ count. count ≤ n) (values_of self.old)
+            → All (λ count. count ≤ n + 1) (values_of self.new) }
         ensures err { OnErr result (self.new ≡ self.old) }
     {
         match verdict {

@@ -35,7 +35,8 @@ impl Model for Tally {
 
     ghost view = { λ t. record { shapes = t.shapes; holed = t.holed; verdicts = t.verdicts; heesch = t.heesch } };
 
-    ghost invariant = { λ t. AreAtMostShapes (record { shapes = t.shapes; holed = t.holed; verdicts = t.verdicts; heesch = t.heesch }) };
+    ghost invariant = { λ t. AreAtMostShapes
+        (record { shapes = t.shapes; holed = t.holed; verdicts = t.verdicts; heesch = t.heesch }) };
 }
 
 impl Tally {
@@ -58,7 +59,8 @@ impl Tally {
     /// numbers that occur.
     pub fn add(&mut self, holed: bool, verdict: &Verdict) -> Result<(), NoMemory>
         requires { self.old.shapes < 2 ^ 32 }
-        ensures ok { (found : List (Bool × Verdict)) → self.old ≡ counts_of found → OnOk result (self.new ≡ counts_of (found ++ (holed, verdict.now) ∷ [])) }
+        ensures ok { (found : List (Bool × Verdict)) → self.old ≡ counts_of found
+            → OnOk result (self.new ≡ counts_of (found ++ (holed, verdict.now) ∷ [])) }
         ensures shapes { OnOk result (self.new.shapes ≡ self.old.shapes + 1) }
         ensures err { OnErr result (self.new ≡ self.old) }
     {
@@ -81,7 +83,8 @@ impl Tally {
     ) -> Result<(), NoMemory>
         requires { self.old.shapes < 2 ^ 32 }
         ensures ok { (found : List (Bool × Verdict)) → self.old ≡ counts_of found
-            → OnOk result ((holed : Bool) × IsHoled G.geometry shape.now holed × (self.new ≡ counts_of (found ++ (holed, verdict.now) ∷ []))) }
+            → OnOk result ((holed : Bool) × IsHoled G.geometry shape.now holed
+            × (self.new ≡ counts_of (found ++ (holed, verdict.now) ∷ []))) }
         ensures shapes { OnOk result (self.new.shapes ≡ self.old.shapes + 1) }
         ensures err { OnErr result (self.new ≡ self.old) }
     {

@@ -4,8 +4,8 @@ ghost use Rattle.heesch_table.specs.Steps.{VerdictsAreWithin, with_verdict};
 
 use heesch_cert::{Kind, Verdict};
 
-/// How many shapes tile by each kind of tiling, how many with one class of tiles, and how many are undecided, by the limit
-/// that was met.
+/// How many shapes tile by each kind of tiling, how many with one class of tiles, and how many are undecided, by the
+/// limit that was met.
 #[derive(Clone, Copy, Debug, Default)]
 pub struct VerdictCounts {
     pub translation: u64,

@@ -8,9 +8,9 @@ use heesch_reader::{StreamStop, Taken};
 pub enum Tabulated {
     /// The input is a whole catalogue of shapes, and this is the text of their tally.
     Tally { text: Vec<u8> },
-    /// The first fault: its line, from 1, and its number. 1 to 5: the cells of the entry that begins on this line are no
-    /// shape, as `ShapeFault::number` says. 6: this line can't stand in a catalogue. 8: the input is too long, and the first
-    /// byte too many is on this line.
+    /// The first fault: its line, from 1, and its number. 1 to 5: the cells of the entry that begins on this line are
+    /// no shape, as `ShapeFault::number` says. 6: this line can't stand in a catalogue. 8: the input is too long, and
+    /// the first byte too many is on this line.
     Fault { line: u64, number: u32 },
 }
 

@@ -18,7 +18,8 @@ use std::alloc::Global;
 
 /// The grid of the header, if it was read or comes next.
 pub fn grid_behind(grid: Option<GridName>, items: &[Item]) -> Option<GridName>
-    ensures { (found : List Item) → grid ≡ grid_in found → IsHeaded (found ++ items.now) → result ≡ grid_in (found ++ items.now) }
+    ensures { (found : List Item) → grid ≡ grid_in found → IsHeaded (found ++ items.now)
+        → result ≡ grid_in (found ++ items.now) }
 {
     if grid.is_some() {
         return grid;

@@ -47,7 +47,8 @@ impl Table {
 
     /// The text of the tally.
     pub fn text(&self, alloc: Global) -> Result<Vec<u8>, NoMemory>
-        ensures { (found : List (Bool × Verdict)) → self.now.tally ≡ counts_of found → IfOk result (λ text. text.items ≡ tally_text found) }
+        ensures { (found : List (Bool × Verdict)) → self.now.tally ≡ counts_of found
+            → IfOk result (λ text. text.items ≡ tally_text found) }
     {
         let mut text = Vec::new(alloc);
         self.tally.write(&mut text)?;

@@ -12,11 +12,11 @@ use std::alloc::Global;
 
 /// Reads a catalogue, full or brief, to its end: the text of the tally of its entries, or the first fault.
 ///
-/// An entry is judged once it is whole, so a line that can't stand in it is told before its shape's fault. Reading stops with
-/// the piece that decides, and a tally comes at the end of the input alone. Errors: `Failed` only where the source's count of
-/// faults rose, and `NoMemory` where memory was refused; what was read before the last piece decides nothing then either. The
-/// cost is linear in the input, and for each entry that of `Tally::add_shape`. It keeps the entries of one piece of 4,096
-/// bytes.
+/// An entry is judged once it is whole, so a line that can't stand in it is told before its shape's fault. Reading
+/// stops with the piece that decides, and a tally comes at the end of the input alone. Errors: `Failed` only where the
+/// source's count of faults rose, and `NoMemory` where memory was refused; what was read before the last piece decides
+/// nothing then either. The cost is linear in the input, and for each entry that of `Tally::add_shape`. It keeps the
+/// entries of one piece of 4,096 bytes.
 pub fn tabulate<R: Source>(alloc: Global, source: &mut R) -> Result<Tabulated, IoStop>
     ensures ok { IfOk result (IsTabulated (R.left source.old)) }
     ensures no_further { ReadsNoFurther DecideNothing (R.left source.old) (R.left source.new) }

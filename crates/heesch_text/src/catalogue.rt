@@ -3,7 +3,8 @@ ghost use Rattle.std.specs.Prelude.{◌≡◌, ◌++◌, length, take, OnOk, OnE
 ghost use Rattle.std.specs.List.{AllByRecursion};
 ghost use Rattle.heesch_text.specs.Lines.{text_of};
 ghost use Rattle.heesch_text.specs.Naturals.{HasNaturals};
-ghost use Rattle.heesch_text.specs.Catalogue.{brief_lines, entry_lines, header_text, entry_text, brief_text, coronas_text, end_text};
+ghost use Rattle.heesch_text.specs.Catalogue.{brief_lines, entry_lines, header_text, entry_text, brief_text};
+ghost use Rattle.heesch_text.specs.Catalogue.{coronas_text, end_text};
 
 use crate::evidence::{append_coronas, append_evidence};
 use crate::fields::undone_at_error;
@@ -22,11 +23,11 @@ pub fn write_header(header: &Header, out: &mut Vec<u8>) -> Result<(), NoMemory>
     undone_at_error(out.len(), append_header_line(header, out), out)
 }
 
-/// Appends the lines of an entry: its shape, its verdict and its evidence. The natural numbers of each line that it wrote
-/// fit 32 bits.
+/// Appends the lines of an entry: its shape, its verdict and its evidence. The natural numbers of each line that it
+/// wrote fit 32 bits.
 ///
-/// Errors: at `NoMemory` the text is as it was before. A count of layers or a level that doesn't fit 32 bits is want of memory
-/// too. Its cost is the length of what it appends.
+/// Errors: at `NoMemory` the text is as it was before. A count of layers or a level that doesn't fit 32 bits is want
+/// of memory too. Its cost is the length of what it appends.
 pub fn write_entry(entry: &Entry, out: &mut Vec<u8>) -> Result<(), NoMemory>
     ensures ok { OnOk result (out.new.items ≡ out.old.items ++ entry_text entry.now) }
     ensures err { OnErr result (out.new.items ≡ out.old.items) }
@@ -35,8 +36,8 @@ pub fn write_entry(entry: &Entry, out: &mut Vec<u8>) -> Result<(), NoMemory>
     undone_at_error(out.len(), append_entry(entry, out), out)
 }
 
-/// Appends the first two lines of an entry: its shape and its verdict. The natural numbers of each line that it wrote fit 32
-/// bits.
+/// Appends the first two lines of an entry: its shape and its verdict. The natural numbers of each line that it wrote
+/// fit 32 bits.
 ///
 /// Errors: at `NoMemory` the text is as it was before. Its cost is the length of what it appends.
 pub fn write_brief(entry: &Entry, out: &mut Vec<u8>) -> Result<(), NoMemory>
@@ -49,8 +50,8 @@ pub fn write_brief(entry: &Entry, out: &mut Vec<u8>) -> Result<(), NoMemory>
 
 /// Appends coronas as they stand in an entry: the line `coronas COUNT` and a line for each layer.
 ///
-/// Errors: at `NoMemory` the text is as it was before. A count of layers that doesn't fit 32 bits is want of memory too. Its
-/// cost is the length of what it appends.
+/// Errors: at `NoMemory` the text is as it was before. A count of layers that doesn't fit 32 bits is want of memory
+/// too. Its cost is the length of what it appends.
 pub fn write_coronas(layers: &Layers, out: &mut Vec<u8>) -> Result<(), NoMemory>
     ensures ok { OnOk result (out.new.items ≡ out.old.items ++ coronas_text layers.now.layers) }
     ensures err { OnErr result (out.new.items ≡ out.old.items) }

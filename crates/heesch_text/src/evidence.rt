@@ -79,7 +79,8 @@ pub fn append_coronas(coronas: &Layers, out: &mut Vec<u8>) -> Result<(), NoMemor
     append_layers(layers, out)
 }
 
-/// A count as a number of a line. The numbers of lines fit 32 bits, and a count that doesn't is answered as want of memory.
+/// A count as a number of a line. The numbers of lines fit 32 bits, and a count that doesn't is answered as want of
+/// memory.
 fn number_of(count: usize) -> Result<u32, NoMemory>
     ensures ok { IfOk result (λ number. number ≡ count) }
     ensures err { OnErr result (2 ^ 32 ≤ count) }
@@ -103,7 +104,8 @@ fn append_after_layers(
     ensures ok { OnOk result (out.new.items
         ≡ out.old.items ++ text_of (after_layers level last wall.now bare.now wider.now triples.now)) }
     ensures kept { take (length out.old.items) out.new.items ≡ out.old.items }
-    ensures naturals { OnOk result (AllByRecursion HasNaturals (after_layers level last wall.now bare.now wider.now triples.now)) }
+    ensures naturals { OnOk result
+        (AllByRecursion HasNaturals (after_layers level last wall.now bare.now wider.now triples.now)) }
 {
     append_wall(level, wall, out)?;
     append_bare(level, count_wider(wider)?, last, bare, out)?;
@@ -196,9 +198,12 @@ fn append_searched(
     proof: &Proof,
     out: &mut Vec<u8>,
 ) -> Result<(), NoMemory>
-    ensures ok { OnOk result (out.new.items ≡ out.old.items ++ text_of (lines.Bare level (bare_outcomes.Searched outcome) ∷ proof_lines proof.now)) }
+    ensures ok { OnOk result
+        (out.new.items ≡ out.old.items ++ text_of
+        (lines.Bare level (bare_outcomes.Searched outcome) ∷ proof_lines proof.now)) }
     ensures kept { take (length out.old.items) out.new.items ≡ out.old.items }
-    ensures naturals { OnOk result (AllByRecursion HasNaturals (lines.Bare level (bare_outcomes.Searched outcome) ∷ proof_lines proof.now)) }
+    ensures naturals { OnOk result
+        (AllByRecursion HasNaturals (lines.Bare level (bare_outcomes.Searched outcome) ∷ proof_lines proof.now)) }
 {
     append_bare_line(level, BareOutcome::Searched { outcome }, out)?;
     append_proof(proof, out)

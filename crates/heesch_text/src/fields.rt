@@ -29,7 +29,8 @@ pub fn append_byte(byte: u8, out: &mut Vec<u8>) -> Result<(), NoMemory>
     Ok(())
 }
 
-/// Takes back what was written behind the first `before` bytes where memory ran out in it. Answers what was answered there.
+/// Takes back what was written behind the first `before` bytes where memory ran out in it. Answers what was answered
+/// there.
 pub fn undone_at_error(
     before: usize,
     written: Result<(), NoMemory>,
@@ -85,7 +86,8 @@ fn append_pair(first: i32, between: u8, second: i32, out: &mut Vec<u8>) -> Resul
 /// The numbers of an isometry with a byte between them.
 fn append_motion(iso: Iso, between: u8, out: &mut Vec<u8>) -> Result<(), NoMemory>
     ensures ok { OnOk result (out.new.items
-        ≡ out.old.items ++ (decimal iso.turn ++ (between ∷ []) ++ signed_decimal iso.da ++ (between ∷ []) ++ signed_decimal iso.db)) }
+        ≡ out.old.items ++ (decimal iso.turn ++ (between ∷ []) ++ signed_decimal iso.da ++
+        (between ∷ []) ++ signed_decimal iso.db)) }
     ensures kept { take (length out.old.items) out.new.items ≡ out.old.items }
 {
     append_number(iso.turn, out)?;

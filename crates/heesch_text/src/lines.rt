@@ -180,7 +180,8 @@ fn append_number_line(label: &[u8], number: u32, out: &mut Vec<u8>) -> Result<()
 
 /// A line of words, each behind a space, behind their label.
 fn append_words_line<W: Word>(label: &[u8], words: &[W], out: &mut Vec<u8>) -> Result<(), NoMemory>
-    ensures ok { OnOk result (out.new.items ≡ out.old.items ++ ((label.now ++ spaced W.text words.now) ++ codes "\n")) }
+    ensures ok { OnOk result
+        (out.new.items ≡ out.old.items ++ ((label.now ++ spaced W.text words.now) ++ codes "\n")) }
     ensures kept { take (length out.old.items) out.new.items ≡ out.old.items }
     ensures fit { OnOk result (AllByRecursion W.fits words.now) }
 {

@@ -1,11 +1,13 @@
 //! How often the reduced cells stand among those of tiles, in one number for each pair of the
 //! window.
-ghost use Rattle.std.specs.Prelude.{◌≡◌, ◌<◌, ◌≤◌, ◌+◌, ◌*◌, ◌^◌, ℕ, true, false, length, slice_index, IfSome, IfNone, All, [], ◌↔◌};
+ghost use Rattle.std.specs.Prelude.{◌≡◌, ◌<◌, ◌≤◌, ◌+◌, ◌*◌, ◌^◌, ℕ, true, false, length, slice_index, IfSome, IfNone};
+ghost use Rattle.std.specs.Prelude.{All, [], ◌↔◌};
 ghost use Rattle.heesch_grid.specs.declared.Cell.{Cell};
 ghost use Rattle.heesch_grid.specs.Cells.{has};
 ghost use Rattle.heesch_grid.specs.Geometry.{IsCell};
 ghost use Rattle.heesch_grid.specs.Vectors.{IsWithin};
-ghost use Rattle.heesch_tiling.specs.Counting.{residues, tile_residues, window_size, IsInRange, AreCounts, AddsCounts, HasRepeat, is_amiss_at, IsFirstNumber, IsFull};
+ghost use Rattle.heesch_tiling.specs.Counting.{residues, tile_residues, window_size, IsInRange, AreCounts, AddsCounts};
+ghost use Rattle.heesch_tiling.specs.Counting.{HasRepeat, is_amiss_at, IsFirstNumber, IsFull};
 
 use crate::window::{pair_at, residue_number};
 use heesch_grid::{Cell, Grid, Iso};
@@ -49,8 +51,10 @@ pub(crate) fn mark_tile<G: Grid>(marks: &mut [u16], cells: &[Cell], triple: Trip
     requires range { IsInRange G.geometry by }
     requires cells { (c : Cell) → has cells.now c ≡ true → IsCell G.geometry c × IsWithin 100000 c }
     ensures same { length marks.new ≡ length marks.old }
-    ensures marked { result ≡ true → AddsCounts G.geometry triple (tile_residues G.geometry cells.now triple by) marks.old marks.new }
-    ensures repeated { result ≡ false → HasRepeat G.geometry triple (tile_residues G.geometry cells.now triple by) marks.old }
+    ensures marked { result ≡ true
+        → AddsCounts G.geometry triple (tile_residues G.geometry cells.now triple by) marks.old marks.new }
+    ensures repeated { result ≡ false
+        → HasRepeat G.geometry triple (tile_residues G.geometry cells.now triple by) marks.old }
 {
     for c in cells {
         let k = residue_number::<G>(triple, by, *c);
@@ -82,8 +86,10 @@ pub(crate) fn first_amiss<G: Grid>(
 ) -> Option<Cell>
     requires all { length counts.now ≡ window_size G.geometry triple }
     requires few { length counts.now ≤ 1000000 }
-    ensures found { IfSome result (IsFirstNumber G.geometry triple (is_amiss_at G.geometry triple counts.now low most)) }
-    ensures none { IfNone result ((k : ℕ) → k < window_size G.geometry triple → is_amiss_at G.geometry triple counts.now low most k ≡ false) }
+    ensures found { IfSome result
+        (IsFirstNumber G.geometry triple (is_amiss_at G.geometry triple counts.now low most)) }
+    ensures none { IfNone result
+        ((k : ℕ) → k < window_size G.geometry triple → is_amiss_at G.geometry triple counts.now low most k ≡ false) }
 {
     for k in 0..counts.len() {
         if is_amiss::<G>(counts, triple, low, most, k) {

@@ -1,5 +1,6 @@
 //! The plain tilings of a polyform: by translations, and by translations and half-turns.
-ghost use Rattle.std.specs.Prelude.{◌≡◌, ◌<◌, ◌≤◌, ◌+◌, ◌*◌, ◌∷◌, [], ◌↔◌, ℕ, true, false, length, slice_index, IfSome, IfNone};
+ghost use Rattle.std.specs.Prelude.{◌≡◌, ◌<◌, ◌≤◌, ◌+◌, ◌*◌, ◌∷◌, [], ◌↔◌, ℕ, true, false, length, slice_index};
+ghost use Rattle.std.specs.Prelude.{IfSome, IfNone};
 ghost use Rattle.heesch_grid.specs.declared.Cell.{Cell};
 ghost use Rattle.heesch_grid.specs.Cells.{has};
 ghost use Rattle.heesch_grid.specs.Lattice.{IsTriple};
@@ -8,7 +9,8 @@ ghost use Rattle.heesch_grid.specs.Tiling.{IsPeriodicCover, IsPlain, no_move, ha
 ghost use Rattle.heesch_grid.specs.Vectors.{IsWithin};
 ghost use Rattle.heesch_lattice.specs.Reduction.{IsSmallTriple};
 ghost use Rattle.heesch_tiling.specs.Counting.{spot, tile_residues, window_size, IsInRange, AreCounts};
-ghost use Rattle.heesch_tiling.specs.Search.{IsTurnedShift, IsFirstShift, IsAreaOf, NoAreaOf, IsFirstByTranslation, NoTilingByTranslation, NoTilingByHalfTurn};
+ghost use Rattle.heesch_tiling.specs.Search.{IsTurnedShift, IsFirstShift, IsAreaOf, NoAreaOf, IsFirstByTranslation};
+ghost use Rattle.heesch_tiling.specs.Search.{NoTilingByTranslation, NoTilingByHalfTurn};
 ghost use Rattle.heesch_tiling.specs.PlainAnswer.{IsHalfTurnAnswer, answered};
 
 use crate::counts::{is_full, mark_tile};
@@ -79,7 +81,8 @@ fn is_turned_cover<G: Grid>(
     requires same { length marks.old ≡ length base.now }
     requires shift { IsWithin 100000 v }
     ensures same { length marks.new ≡ length base.now }
-    ensures covers { (result ≡ true) ↔ IsPeriodicCover G.geometry cells.now triple (no_move ∷ half_turned G.geometry v.a v.b ∷ []) }
+    ensures covers { (result ≡ true)
+        ↔ IsPeriodicCover G.geometry cells.now triple (no_move ∷ half_turned G.geometry v.a v.b ∷ []) }
 {
     marks.copy_from_slice(base);
     mark_tile::<G>(marks, cells, triple, half_turned::<G>(v)) && is_full::<G>(marks, triple)

@@ -69,8 +69,8 @@ pub fn number_of<G: Grid>(triple: Triple, c: Cell) -> usize
     number(side::<G>(triple.p), c)
 }
 
-/// The reduced cell of the image of c. Condition: c is a cell and lies within 100,000 of 0, and the isometry is one of the
-/// grid's, by a translation within 100,000 of 0. It takes no memory.
+/// The reduced cell of the image of c. Condition: c is a cell and lies within 100,000 of 0, and the isometry is one of
+/// the grid's, by a translation within 100,000 of 0. It takes no memory.
 pub fn residue_of<G: Grid>(triple: Triple, by: Iso, c: Cell) -> Cell
     requires range { IsInRange G.geometry by }
     requires near { IsCell G.geometry c × IsWithin 100000 c }

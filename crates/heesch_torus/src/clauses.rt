@@ -33,7 +33,9 @@ fn add_clause(
 ) -> Result<(), NoMemory>
     requires numbers { AreNumbers formula.old.vars variables.now }
     requires room { length formula.old.clauses < 2 ^ 31 }
-    ensures { OnOk result (AddsClauses (map literals.plus variables.now ∷ []) formula.old.vars formula.old.clauses formula.new.vars formula.new.clauses) }
+    ensures { OnOk result
+        (AddsClauses (map literals.plus variables.now
+        ∷ []) formula.old.vars formula.old.clauses formula.new.vars formula.new.clauses) }
 {
     write_clause(clause, variables)?;
     formula.add(clause.as_slice())
@@ -49,7 +51,10 @@ pub(crate) fn add_covering_clauses<G: Grid>(
     requires numbers { All (AreNumbers formula.old.vars) lists.now }
     requires small { length lists.now ≤ 1000000 }
     requires room { length formula.old.clauses ≤ 1000000 }
-    ensures adds { OnOk result (AddsClauses (map (map literals.plus) (cell_lists G.geometry triple lists.now)) formula.old.vars formula.old.clauses formula.new.vars formula.new.clauses) }
+    ensures adds { OnOk result
+        (AddsClauses (map (map literals.plus)
+        (cell_lists G.geometry triple
+        lists.now)) formula.old.vars formula.old.clauses formula.new.vars formula.new.clauses) }
     ensures few { OnOk result (length formula.new.clauses ≤ length formula.old.clauses + length lists.now) }
 {
     let mut clause = Vec::new(alloc);

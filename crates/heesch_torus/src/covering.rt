@@ -1,5 +1,6 @@
 //! The variables that have a reduced cell, for each reduced cell.
-ghost use Rattle.std.specs.Prelude.{◌≡◌, ◌<◌, ◌≤◌, ◌++◌, ◌∷◌, [], length, slice_set, slice_index_or, replicate, IfOk, OnOk};
+ghost use Rattle.std.specs.Prelude.{◌≡◌, ◌<◌, ◌≤◌, ◌++◌, ◌∷◌, [], length, slice_set, slice_index_or, replicate, IfOk};
+ghost use Rattle.std.specs.Prelude.{OnOk};
 ghost use Rattle.heesch_grid.specs.Lattice.{IsTriple};
 ghost use Rattle.heesch_tiling.specs.Counting.{window_size};
 ghost use Rattle.heesch_torus.specs.Variables.{sets_of, AreReducedSets, IsReducedSet};

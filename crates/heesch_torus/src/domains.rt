@@ -23,7 +23,8 @@ fn add_domain<G: Grid>(count: u32, tiles: u32, all: &mut Vec<Triple>) -> Result<
     Ok(())
 }
 
-/// The triples of the domains from 2 to this one of a shape of so many cells, in the order of domains and then of triples.
+/// The triples of the domains from 2 to this one of a shape of so many cells, in the order of domains and then of
+/// triples.
 ///
 /// Condition: 1 to 32 cells, and a domain of 1 to 12 tiles. Its cost is the number of triples.
 pub fn triples_up_to<G: Grid>(

@@ -34,7 +34,8 @@ fn formula_of<G: Grid>(
     requires sets { AreReducedSets G.geometry triple (sets_of variables.now) }
     requires few { length variables.now ≤ 4608 }
     ensures vars { IfOk result (λ f. f.vars ≡ length variables.now) }
-    ensures clauses { IfOk result (λ f. f.clauses ≡ torus_clauses literals (reduced_cells G.geometry triple) (sets_of variables.now)) }
+    ensures clauses { IfOk result
+        (λ f. f.clauses ≡ torus_clauses literals (reduced_cells G.geometry triple) (sets_of variables.now)) }
     ensures few { IfOk result (λ f. length f.clauses ≤ 30000000) }
 {
     let lists = covering_lists::<G>(alloc, triple, variables)?;
@@ -62,7 +63,8 @@ pub(crate) fn formula_with_variables<G: Grid>(
     ensures form { IfOk result (λ f. IsPolyform G.geometry shape.now) }
     ensures variables { IfOk result (λ f. AreVariables G.geometry shape.now triple f.1.items) }
     ensures vars { IfOk result (λ f. f.0.vars ≡ length f.1.items) }
-    ensures clauses { IfOk result (λ f. f.0.clauses ≡ torus_clauses literals (reduced_cells G.geometry triple) (sets_of f.1.items)) }
+    ensures clauses { IfOk result
+        (λ f. f.0.clauses ≡ torus_clauses literals (reduced_cells G.geometry triple) (sets_of f.1.items)) }
     ensures few { IfOk result (λ f. length f.0.clauses ≤ 30000000) }
 {
     let variables = variables_of::<G>(alloc, shape.cells(), triple)?;

@@ -43,7 +43,8 @@ pub(crate) fn add_masks<G: Grid>(
     requires maskable { IsMaskable G.geometry cells.now triple numbers.now }
     requires small { triple.p * triple.q ≤ 384 }
     requires turn { turn < G.geometry.turns }
-    ensures { OnOk result (AddsMasks G.geometry cells.now triple turn (triple.p * triple.q) masks.old.items masks.new.items) }
+    ensures { OnOk result
+        (AddsMasks G.geometry cells.now triple turn (triple.p * triple.q) masks.old.items masks.new.items) }
 {
     for k in 0..translation_count(triple) {
         if let Some(mask) = mask_of::<G>(numbers, cells, triple, isometry_at(triple, turn, k)) {

@@ -41,7 +41,8 @@ fn mark_meeting<G: Grid>(
     requires sets { AreReducedSets G.geometry triple (sets_of variables.now) }
     requires covering { AreCovering G.geometry triple (sets_of variables.now) lists.now }
     requires all { length marks.old ≡ length variables.now + 1 }
-    ensures { Marks (λ v. meet (set_of (sets_of variables.now) (at + 1)) (set_of (sets_of variables.now) v)) (at + 1) marks.old marks.new }
+    ensures { Marks (λ v. meet (set_of (sets_of variables.now) (at + 1)) (set_of (sets_of variables.now) v))
+        (at + 1) marks.old marks.new }
 {
     let number = at as u32 + 1;
     let variable = &variables[at];
@@ -74,7 +75,9 @@ fn add_marked(formula: &mut FlatFormula, marks: &[u32], number: u32) -> Result<(
     requires few { length marks.now ≤ 4609 }
     requires all { length marks.now ≡ formula.old.vars + 1 }
     requires room { length formula.old.clauses ≤ 2 ^ 30 }
-    ensures adds { OnOk result (AddsClauses (marked_clauses marks.now number) formula.old.vars formula.old.clauses formula.new.vars formula.new.clauses) }
+    ensures adds { OnOk result
+        (AddsClauses (marked_clauses marks.now number) formula.old.vars formula.old.clauses formula.new.vars
+        formula.new.clauses) }
     ensures few { OnOk result (length formula.new.clauses ≤ length formula.old.clauses + 4608) }
 {
     for other in number + 1..marks.len() as u32 {
@@ -85,8 +88,8 @@ fn add_marked(formula: &mut FlatFormula, marks: &[u32], number: u32) -> Result<(
     Ok(())
 }
 
-/// Adds the clause of each pair of variables that share a cell, by the first and then the second. No variable is marked
-/// yet.
+/// Adds the clause of each pair of variables that share a cell, by the first and then the second. No variable is
+/// marked yet.
 pub(crate) fn add_pair_clauses<G: Grid>(
     formula: &mut FlatFormula,
     marks: &mut [u32],
@@ -101,7 +104,9 @@ pub(crate) fn add_pair_clauses<G: Grid>(
     requires none { marks.old ≡ replicate (length variables.now + 1) 0 }
     requires vars { formula.old.vars ≡ length variables.now }
     requires room { length formula.old.clauses ≤ 2000000 }
-    ensures adds { OnOk result (AddsClauses (exclusion_clauses literals meet (sets_of variables.now)) formula.old.vars formula.old.clauses formula.new.vars formula.new.clauses) }
+    ensures adds { OnOk result
+        (AddsClauses (exclusion_clauses literals meet
+        (sets_of variables.now)) formula.old.vars formula.old.clauses formula.new.vars formula.new.clauses) }
     ensures few { OnOk result (length formula.new.clauses ≤ length formula.old.clauses + 4608 * 4608) }
 {
     for at in 0..variables.len() {

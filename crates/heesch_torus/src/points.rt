@@ -45,7 +45,8 @@ pub(crate) fn point_of<G: Grid>(numbers: &[u32], triple: Triple, by: Iso, c: Cel
     requires range { IsInRange G.geometry by }
     requires cell { IsCell G.geometry c }
     requires within { IsWithin 100000 c }
-    ensures { slice_get (reduced_cells G.geometry triple) result ≡ Some (residue G.geometry triple (apply G.geometry by c)) }
+    ensures { slice_get (reduced_cells G.geometry triple) result ≡ Some
+        (residue G.geometry triple (apply G.geometry by c)) }
 {
     numbers[number_of::<G>(triple, residue_of::<G>(triple, by, c))]
 }

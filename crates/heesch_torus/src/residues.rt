@@ -1,5 +1,6 @@
 //! The residue set of an image.
-ghost use Rattle.std.specs.Prelude.{◌≡◌, ◌≢◌, ◌<◌, ◌≤◌, ◌+◌, ℕ, List, true, false, length, slice_index_or, IfSome, IfNone, IsPermutation, IsSorted};
+ghost use Rattle.std.specs.Prelude.{◌≡◌, ◌≢◌, ◌<◌, ◌≤◌, ◌+◌, ℕ, List, true, false, length, slice_index_or, IfSome};
+ghost use Rattle.std.specs.Prelude.{IfNone, IsPermutation, IsSorted};
 ghost use Rattle.heesch_grid.specs.declared.Cell.{Cell};
 ghost use Rattle.heesch_grid.specs.Cells.{cell_cmp, has};
 ghost use Rattle.heesch_grid.specs.Geometry.{IsCell};

@@ -1,5 +1,7 @@
 //! Clauses and assignments in flat arrays.
-ghost use Rattle.std.specs.Prelude.{◌≡◌, ◌≢◌, ℕ, ◌+◌, ◌<◌, ◌≤◌, ◌^◌, [], ◌∷◌, ◌++◌, length, Some, None, All, IfOk, IfErr, OnOk, OnErr, option_map, option_and_then, replicate, take, ◌-◌, slice_index_or, true};
+ghost use Rattle.std.specs.Prelude.{◌≡◌, ◌≢◌, ℕ, ◌+◌, ◌<◌, ◌≤◌, ◌^◌, [], ◌∷◌, ◌++◌, length, Some, None, All, IfOk};
+ghost use Rattle.std.specs.Prelude.{IfErr, OnOk, OnErr, option_map, option_and_then, replicate, take, ◌-◌};
+ghost use Rattle.std.specs.Prelude.{slice_index_or, true};
 ghost use Rattle.heesch_cnf.specs.Clauses.{IsClause};
 ghost use Rattle.heesch_cnf.specs.Literals.{opposite, lit_value, is_true_value, is_false_value};
 ghost use Rattle.heesch_cnf.specs.Flat.{code_of};
@@ -17,8 +19,8 @@ use heesch_io::NoMemory;
 use std::alloc::Global;
 use std::marker::Model;
 
-/// Clauses, and assignments to their variables in the order in which they were made: by literal its value, by variable the
-/// level and the number of the clause that it follows from, or 0.
+/// Clauses, and assignments to their variables in the order in which they were made: by literal its value, by variable
+/// the level and the number of the clause that it follows from, or 0.
 #[derive(Drop)]
 pub struct Assigned {
     formula: FlatFormula,
@@ -35,9 +37,15 @@ impl Model for Assigned {
 
     ghost use Rattle.heesch_trail.specs.Inner.{IsInner, steps_of};
 
-    ghost view = { λ t. record { vars = t.formula.vars; clauses = t.formula.clauses; steps = steps_of t.levels.items t.reasons.items t.made.items } };
+    ghost view = { λ t. record {
+      vars = t.formula.vars;
+      clauses = t.formula.clauses;
+      steps = steps_of t.levels.items
+          t.reasons.items t.made.items;
+    } };
 
-    ghost invariant = { λ t. IsInner t.formula.vars t.formula.clauses t.values.items t.levels.items t.reasons.items t.made.items };
+    ghost invariant = { λ t. IsInner t.formula.vars t.formula.clauses t.values.items t.levels.items t.reasons.items
+        t.made.items };
 }
 
 /// Where a literal's value stands.
@@ -167,8 +175,8 @@ impl Assigned {
         }
     }
 
-    /// The number of the clause that a variable's value follows from, or None where it is open or was decided. The cost is
-    /// one look-up.
+    /// The number of the clause that a variable's value follows from, or None where it is open or was decided. The
+    /// cost is one look-up.
     pub fn reason_of(&self, var: u32) -> Option<u32>
         requires { var ≤ self.now.vars }
         ensures { result ≡ option_and_then (λ s. s.reason) (fact_of self.now.steps var) }
@@ -190,8 +198,8 @@ impl Assigned {
         }
     }
 
-    /// The clause stands last, and its number, from 1, is answered; the assignments stay. At want of memory nothing has
-    /// changed. The cost is the clause's length.
+    /// The clause stands last, and its number, from 1, is answered; the assignments stay. At want of memory nothing
+    /// has changed. The cost is the clause's length.
     pub fn add(&mut self, clause: &[Lit]) -> Result<u32, NoMemory>
         requires form { IsClause self.old.vars clause.now }
         requires room { length self.old.clauses < 2 ^ 31 }
@@ -253,8 +261,8 @@ impl Assigned {
         }
     }
 
-    /// The clause of an index, which counts from 0, under the present assignments: which of its literals aren't false, none,
-    /// the only one, or the first two. The cost is at most its length.
+    /// The clause of an index, which counts from 0, under the present assignments: which of its literals aren't false,
+    /// none, the only one, or the first two. The cost is at most its length.
     pub fn read(&self, index: usize) -> Reading
         requires { index < length self.now.clauses }
         ensures reading { IsReading (values_of self.now.steps) (slice_index_or self.now.clauses index []) result }
@@ -278,8 +286,8 @@ impl Assigned {
         None
     }
 
-    /// A literal of the clause of an index, which counts from 0, other than this one that isn't false, if there is one. The
-    /// cost is at most the clause's length.
+    /// A literal of the clause of an index, which counts from 0, other than this one that isn't false, if there is
+    /// one. The cost is at most the clause's length.
     pub fn other(&self, index: usize, lit: PackedLit) -> Option<PackedLit>
         requires { index < length self.now.clauses }
         ensures other { IsOther (values_of self.now.steps) (slice_index_or self.now.clauses index []) lit result }
@@ -329,8 +337,8 @@ impl Assigned {
         }
     }
 
-    /// The assignments above the level are gone, and the others stay, with their order, levels and reasons. The cost is the
-    /// number of the assignments that go.
+    /// The assignments above the level are gone, and the others stay, with their order, levels and reasons. The cost
+    /// is the number of the assignments that go.
     pub fn back_to(&mut self, level: u32)
         requires { level ≤ level_of self.old.steps }
         ensures back { self.new ≡ record self.old { steps = up_to level self.old.steps } }

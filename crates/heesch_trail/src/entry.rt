@@ -6,8 +6,8 @@ use heesch_cnf::PackedLit;
 
 const BINARY: u32 = 1 << 31;
 
-/// A clause in the list of a literal that may watch it: its index, with the top bit set where it has just two literals, and
-/// another literal of it.
+/// A clause in the list of a literal that may watch it: its index, with the top bit set where it has just two
+/// literals, and another literal of it.
 #[derive(Debug, Clone, Copy)]
 pub struct Entry {
     pub mark: u32,

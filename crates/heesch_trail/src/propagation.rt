@@ -1,5 +1,6 @@
 //! Propagation: the lists of literals that became false are gone through.
-ghost use Rattle.std.specs.Prelude.{◌≡◌, ◌+◌, ◌<◌, ◌≤◌, ◌^◌, [], ◌∷◌, length, Some, None, Contains, false, IfOk, slice_index_or, ◌⊎◌};
+ghost use Rattle.std.specs.Prelude.{◌≡◌, ◌+◌, ◌<◌, ◌≤◌, ◌^◌, [], ◌∷◌, length, Some, None, Contains, false, IfOk};
+ghost use Rattle.std.specs.Prelude.{slice_index_or, ◌⊎◌};
 ghost use Rattle.heesch_cnf.specs.Literals.{lit_value};
 ghost use Rattle.heesch_cnf.specs.Clauses.{left_of};
 ghost use Rattle.heesch_trail.specs.Fixpoint.{HasTrue};
@@ -18,8 +19,8 @@ use crate::watches::Watches;
 use heesch_cnf::{Lit, PackedLit};
 use heesch_io::NoMemory;
 
-/// What a visit left of a clause: a true literal, literals that watch it and aren't false, or nothing but false ones, by
-/// the clause's number.
+/// What a visit left of a clause: a true literal, literals that watch it and aren't false, or nothing but false ones,
+/// by the clause's number.
 #[derive(Debug, Clone, Copy)]
 enum Visit {
     HasTrue,
@@ -32,7 +33,8 @@ fn follow(assigned: &mut Assigned, index: u32, lit: PackedLit) -> Result<(), NoM
     requires within { index < length assigned.old.clauses }
     requires alone { left_of (values_of assigned.old.steps) (slice_index_or assigned.old.clauses index []) ≡ lit ∷ [] }
     ensures goes_on { Continues assigned.old assigned.new }
-    ensures made { IfOk result (λ _. HasTrue (values_of assigned.new.steps) (slice_index_or assigned.new.clauses index [])) }
+    ensures made { IfOk result
+        (λ _. HasTrue (values_of assigned.new.steps) (slice_index_or assigned.new.clauses index [])) }
     ensures valid { IsTrail assigned.new }
 {
     let _ = assigned.count();
@@ -66,8 +68,8 @@ fn settle(assigned: &mut Assigned, index: u32, lit: PackedLit) -> Result<Visit, 
     Ok(Visit::HasTrue)
 }
 
-/// Reads the clause of an index, which this pair watched: watches it by two literals that aren't false, or makes the assignment that follows from it.
-/// The cost is at most the clause's length.
+/// Reads the clause of an index, which this pair watched: watches it by two literals that aren't false, or makes the
+/// assignment that follows from it. The cost is at most the clause's length.
 fn read_watched(
     assigned: &mut Assigned,
     watches: &mut Watches,
@@ -93,8 +95,8 @@ fn read_watched(
     }
 }
 
-/// Visits the clause of an index that may be watched by a false literal. It is read only where the literal watches it and the
-/// one beside isn't true: then another literal that isn't false watches it, or it is settled.
+/// Visits the clause of an index that may be watched by a false literal. It is read only where the literal watches it
+/// and the one beside isn't true: then another literal that isn't false watches it, or it is settled.
 fn visit_watched(
     assigned: &mut Assigned,
     watches: &mut Watches,
@@ -126,8 +128,8 @@ fn visit_watched(
     }
 }
 
-/// Visits the clause of an entry of a false literal's list. Where its blocker is true, nothing else is read, and where it has
-/// just two literals, the entry is the clause.
+/// Visits the clause of an entry of a false literal's list. Where its blocker is true, nothing else is read, and where
+/// it has just two literals, the entry is the clause.
 fn visit_by(
     assigned: &mut Assigned,
     watches: &mut Watches,
@@ -153,8 +155,8 @@ fn visit_by(
     }
 }
 
-/// Visits the clauses in the list of a false literal, until all literals of one of them are false. The entry of a clause that it
-/// watches no more is dropped.
+/// Visits the clauses in the list of a false literal, until all literals of one of them are false. The entry of a
+/// clause that it watches no more is dropped.
 fn visit_list(
     assigned: &mut Assigned,
     watches: &mut Watches,
@@ -202,8 +204,9 @@ fn visit_first(
     read_watched(assigned, watches, index, &watched)
 }
 
-/// Visits the clauses from `fresh` on that aren't watched by literals that aren't false; `fresh` goes on past each that was
-/// visited, until all literals of one are false. The cost is the number of these clauses, and of the literals of those visited.
+/// Visits the clauses from `fresh` on that aren't watched by literals that aren't false; `fresh` goes on past each
+/// that was visited, until all literals of one are false. The cost is the number of these clauses, and of the literals
+/// of those visited.
 pub fn read_fresh(
     assigned: &mut Assigned,
     watches: &mut Watches,
@@ -226,8 +229,9 @@ pub fn read_fresh(
     Ok(None)
 }
 
-/// Visits the lists of the opposites of the assignments from `head` on, until all literals of a clause are false; `head` goes on
-/// past each assignment whose list was visited whole. The cost is the number of literals of the clauses visited.
+/// Visits the lists of the opposites of the assignments from `head` on, until all literals of a clause are false;
+/// `head` goes on past each assignment whose list was visited whole. The cost is the number of literals of the clauses
+/// visited.
 pub fn drain(
     assigned: &mut Assigned,
     watches: &mut Watches,

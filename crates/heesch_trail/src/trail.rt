@@ -1,10 +1,12 @@
 //! The trail: its public calls.
-ghost use Rattle.std.specs.Prelude.{◌≡◌, ℕ, ◌+◌, ◌<◌, ◌≤◌, ◌^◌, [], ◌∷◌, ◌++◌, length, Some, None, All, IfOk, IfErr, OnOk, OnErr, option_map, option_and_then, replicate, take, ◌-◌};
+ghost use Rattle.std.specs.Prelude.{◌≡◌, ℕ, ◌+◌, ◌<◌, ◌≤◌, ◌^◌, [], ◌∷◌, ◌++◌, length, Some, None, All, IfOk, IfErr};
+ghost use Rattle.std.specs.Prelude.{OnOk, OnErr, option_map, option_and_then, replicate, take, ◌-◌};
 ghost use Rattle.heesch_cnf.specs.Clauses.{IsClause};
 ghost use Rattle.heesch_cnf.specs.Lines.{IsNumber, numbered};
 ghost use Rattle.heesch_cnf.specs.Literals.{lit_value, is_true_value, is_false_value};
 ghost use Rattle.heesch_trail.specs.Fixpoint.{IsFixpoint};
-ghost use Rattle.heesch_trail.specs.State.{State, IsTrail, fact_of, values_of, made_by, level_of, up_to, Continues, IsPropagated, decision};
+ghost use Rattle.heesch_trail.specs.State.{State, IsTrail, fact_of, values_of, made_by, level_of, up_to, Continues};
+ghost use Rattle.heesch_trail.specs.State.{IsPropagated, decision};
 
 use crate::Step;
 use crate::assigned::Assigned;
@@ -38,8 +40,8 @@ impl Model for Trail {
 }
 
 impl Trail {
-    /// No assignments, over the clauses of the formula, which are taken over and not copied. The cost is the number of the
-    /// variables and of the clauses.
+    /// No assignments, over the clauses of the formula, which are taken over and not copied. The cost is the number of
+    /// the variables and of the clauses.
     pub fn over(alloc: Global, formula: FlatFormula) -> Result<Trail, NoMemory>
         ensures opened { IfOk result (λ t. t ≡ record { vars = formula.vars; clauses = formula.clauses; steps = [] }) }
         ensures valid { IfOk result IsTrail }
@@ -54,10 +56,11 @@ impl Trail {
         })
     }
 
-    /// No assignments, over the clauses of the formula, which are copied. A formula of 2^31 variables or more counts as want
-    /// of memory. The cost is the number of the variables and of all literals.
+    /// No assignments, over the clauses of the formula, which are copied. A formula of 2^31 variables or more counts
+    /// as want of memory. The cost is the number of the variables and of all literals.
     pub fn open(alloc: Global, formula: &Formula) -> Result<Trail, NoMemory>
-        ensures opened { IfOk result (λ t. t ≡ record { vars = formula.now.vars; clauses = formula.now.clauses; steps = [] }) }
+        ensures opened { IfOk result
+            (λ t. t ≡ record { vars = formula.now.vars; clauses = formula.now.clauses; steps = [] }) }
         ensures valid { IfOk result IsTrail }
     {
         Trail::over(alloc, FlatFormula::of(alloc, formula)?)
@@ -138,8 +141,8 @@ impl Trail {
         self.assigned.level_of(var)
     }
 
-    /// The number of the clause that a variable's value follows from, or None where it is open or was decided. The cost is
-    /// one look-up.
+    /// The number of the clause that a variable's value follows from, or None where it is open or was decided. The
+    /// cost is one look-up.
     pub fn reason_of(&self, var: u32) -> Option<u32>
         requires { var ≤ self.now.vars }
         ensures { result ≡ option_and_then (λ s. s.reason) (fact_of self.now.steps var) }
@@ -155,8 +158,8 @@ impl Trail {
         self.assigned.level()
     }
 
-    /// The clause stands last, and its number, from 1, is answered; the assignments stay. At want of memory nothing has
-    /// changed. The cost is the clause's length.
+    /// The clause stands last, and its number, from 1, is answered; the assignments stay. At want of memory nothing
+    /// has changed. The cost is the clause's length.
     pub fn add(&mut self, clause: Lits) -> Result<u32, NoMemory>
         requires form { IsClause self.old.vars clause }
         requires room { length self.old.clauses < 2 ^ 31 }
@@ -176,7 +179,11 @@ impl Trail {
         requires low { 1 ≤ lit.var }
         requires high { lit.var ≤ self.old.vars }
         requires is_open { values_of self.old.steps lit.var ≡ None }
-        ensures ok { OnOk result (self.new ≡ record self.old { steps = self.old.steps ++ decision lit (level_of self.old.steps + 1) ∷ [] }) }
+        ensures ok { OnOk result
+            (self.new ≡ record self.old {
+              steps = self.old.steps ++ decision lit
+                  (level_of self.old.steps + 1) ∷ [];
+            }) }
         ensures err { OnErr result (self.new ≡ self.old) }
         ensures valid { IsTrail self.new }
     {
@@ -197,11 +204,11 @@ impl Trail {
         Ok(())
     }
 
-    /// Makes assignments at the present level, each with the clause that it follows from, until every clause has a true
-    /// literal or two open ones (None), or until all literals of a clause are false (its number). After want of memory the
-    /// assignments made are consequences, and the call may be made again. The cost is that of reading the clauses of whose
-    /// two watched literals one was made false, and those that were added; after going back to a level, also a look at each
-    /// clause that was added since that level was left.
+    /// Makes assignments at the present level, each with the clause that it follows from, until every clause has a
+    /// true literal or two open ones (None), or until all literals of a clause are false (its number). After want of
+    /// memory the assignments made are consequences, and the call may be made again. The cost is that of reading the
+    /// clauses of whose two watched literals one was made false, and those that were added; after going back to a
+    /// level, also a look at each clause that was added since that level was left.
     pub fn propagate(&mut self) -> Result<Option<u32>, NoMemory>
         ensures goes_on { Continues self.old self.new }
         ensures found { IfOk result (IsPropagated self.new) }
@@ -214,14 +221,14 @@ impl Trail {
         drain(&mut self.assigned, &mut self.watches, &mut self.head)
     }
 
-    /// The number of clauses that `propagate` read since `open`, a look at a clause's watched literals after going back counted
-    /// too; it stays at the greatest `u64` once it is there. It takes no memory.
+    /// The number of clauses that `propagate` read since `open`, a look at a clause's watched literals after going
+    /// back counted too; it stays at the greatest `u64` once it is there. It takes no memory.
     pub fn visits(&self) -> u64 {
         self.watches.visits()
     }
 
-    /// The assignments above the level are gone, and the others stay, with their order, levels and reasons. The cost is the
-    /// number of the assignments that go.
+    /// The assignments above the level are gone, and the others stay, with their order, levels and reasons. The cost
+    /// is the number of the assignments that go.
     pub fn back_to(&mut self, level: u32)
         requires { level ≤ level_of self.old.steps }
         ensures back { self.new ≡ record self.old { steps = up_to level self.old.steps } }

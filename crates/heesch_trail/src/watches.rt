@@ -1,7 +1,9 @@
 //! Which literals watch which clause.
-ghost use Rattle.std.specs.Prelude.{◌≡◌, ◌≢◌, ℕ, ◌+◌, ◌*◌, ◌<◌, ◌^◌, ◌⊎◌, [], ◌∷◌, ◌++◌, length, set, replicate, None, Some, Contains, IfOk, OnOk, OnErr};
+ghost use Rattle.std.specs.Prelude.{◌≡◌, ◌≢◌, ℕ, ◌+◌, ◌*◌, ◌<◌, ◌^◌, ◌⊎◌, [], ◌∷◌, ◌++◌, length, set, replicate, None};
+ghost use Rattle.std.specs.Prelude.{Some, Contains, IfOk, OnOk, OnErr};
 ghost use Rattle.heesch_cnf.specs.Flat.{code_of};
-ghost use Rattle.heesch_trail.specs.Watches.{Watching, list_of, pair_of, AreKept, OthersStay, IsWithout, IsListed, Names, IsEntry, AreMore, HasPushed};
+ghost use Rattle.heesch_trail.specs.Watches.{Watching, list_of, pair_of, AreKept, OthersStay, IsWithout, IsListed};
+ghost use Rattle.heesch_trail.specs.Watches.{Names, IsEntry, AreMore, HasPushed};
 
 use crate::entry::Entry;
 use crate::pair::Pair;
@@ -11,8 +13,9 @@ use heesch_io::NoMemory;
 use std::alloc::Global;
 use std::marker::Model;
 
-/// The two literals that watch a clause, where there are such, and for each literal the clauses that it watches. Clauses
-/// are named by indices from 0. A list may also have entries of clauses that its literal doesn't watch: they are dropped when met.
+/// The two literals that watch a clause, where there are such, and for each literal the clauses that it watches.
+/// Clauses are named by indices from 0. A list may also have entries of clauses that its literal doesn't watch: they
+/// are dropped when met.
 #[derive(Drop)]
 pub struct Watches {
     pairs: Vec<Option<Pair>>,
@@ -64,8 +67,8 @@ fn counts(alloc: Global, formula: &FlatFormula) -> Result<Vec<u32>, NoMemory>
     Ok(counts)
 }
 
-/// The lists of all literals, without entries, each with room for the clauses that the literal watches at first, and for some
-/// that it watches later: a list that is just full doubles with the next entry.
+/// The lists of all literals, without entries, each with room for the clauses that the literal watches at first, and
+/// for some that it watches later: a list that is just full doubles with the next entry.
 fn lists_for(alloc: Global, formula: &FlatFormula) -> Result<Vec<WatchList>, NoMemory>
     ensures { IfOk result (λ v. v.items ≡ replicate (2 * formula.now.vars + 2) []) }
 {
@@ -82,7 +85,12 @@ fn lists_for(alloc: Global, formula: &FlatFormula) -> Result<Vec<WatchList>, NoM
 impl Watches {
     /// The clauses of the formula, which aren't watched. The cost is the number of these and of the variables.
     pub fn open(alloc: Global, formula: &FlatFormula) -> Result<Watches, NoMemory>
-        ensures { IfOk result (λ w. w ≡ record { pairs = replicate (length formula.now.clauses) None; lists = replicate (2 * formula.now.vars + 2) [] }) }
+        ensures { IfOk result
+            (λ w. w ≡ record {
+              pairs = replicate (length formula.now.clauses) None;
+              lists = replicate
+                  (2 * formula.now.vars + 2) [];
+            }) }
     {
         Ok(Watches {
             pairs: nones(alloc, formula.len())?,
@@ -103,7 +111,8 @@ impl Watches {
         self.visits
     }
 
-    /// One clause more, which isn't watched, or nothing has changed. The cost is one write, as an average over many calls.
+    /// One clause more, which isn't watched, or nothing has changed. The cost is one write, as an average over many
+    /// calls.
     pub fn add(&mut self) -> Result<(), NoMemory>
         ensures ok { OnOk result (self.new ≡ record self.old { pairs = self.old.pairs ++ None ∷ [] }) }
         ensures err { OnErr result (self.new ≡ self.old) }
@@ -135,7 +144,11 @@ impl Watches {
 
     fn push(&mut self, lit: PackedLit, entry: Entry) -> Result<(), NoMemory>
         requires { code_of lit < length self.old.lists }
-        ensures ok { OnOk result (self.new ≡ record self.old { lists = set self.old.lists (code_of lit) (list_of self.old.lists lit ++ entry ∷ []) }) }
+        ensures ok { OnOk result
+            (self.new ≡ record self.old {
+              lists = set self.old.lists (code_of lit)
+                  (list_of self.old.lists lit ++ entry ∷ []);
+            }) }
         ensures err { OnErr result (self.new ≡ self.old) }
     {
         self.lists[lit.code()].push(entry)
@@ -166,7 +179,8 @@ impl Watches {
         ensures kept { AreKept self.old.lists self.new.lists }
         ensures others { OthersStay lit self.old.lists self.new.lists }
         ensures there { IfOk result (λ _. Names (list_of self.new.lists lit) index) }
-        ensures more { (e : Entry) → Contains (list_of self.new.lists lit) e → Contains (list_of self.old.lists lit) e ⊎ IsEntry index beside binary e }
+        ensures more { (e : Entry) → Contains (list_of self.new.lists lit) e → Contains (list_of self.old.lists lit) e
+            ⊎ IsEntry index beside binary e }
     {
         if let Some(pair) = watched
             && pair.beside(lit).is_some()
@@ -176,8 +190,9 @@ impl Watches {
         self.push(lit, Entry::new(index, beside, binary))
     }
 
-    /// The pair watches the clause of an index from now on, in place of the one before; the clause has no other literals where
-    /// it is binary. At want of memory it is watched as before. The cost is that of two writes, as an average over many calls.
+    /// The pair watches the clause of an index from now on, in place of the one before; the clause has no other
+    /// literals where it is binary. At want of memory it is watched as before. The cost is that of two writes, as an
+    /// average over many calls.
     pub fn watch(
         &mut self,
         index: u32,
@@ -195,7 +210,8 @@ impl Watches {
         ensures err { OnErr result (self.new.pairs ≡ self.old.pairs) }
         ensures room { length self.new.lists ≡ length self.old.lists }
         ensures kept { AreKept self.old.lists self.new.lists }
-        ensures others { (l : Lit) → code_of l ≢ code_of pair.one → code_of l ≢ code_of pair.other → list_of self.new.lists l ≡ list_of self.old.lists l }
+        ensures others { (l : Lit) → code_of l ≢ code_of pair.one → code_of l ≢ code_of pair.other
+            → list_of self.new.lists l ≡ list_of self.old.lists l }
         ensures one_there { IfOk result (λ _. Names (list_of self.new.lists pair.one) index) }
         ensures other_there { IfOk result (λ _. Names (list_of self.new.lists pair.other) index) }
         ensures more { AreMore pair index binary self.old.lists self.new.lists }
@@ -206,8 +222,8 @@ impl Watches {
         Ok(())
     }
 
-    /// The first literal of the pair watches the clause of an index in place of the one that stood beside the second; at want
-    /// of memory nothing has changed. The cost is that of two writes, as an average over many calls.
+    /// The first literal of the pair watches the clause of an index in place of the one that stood beside the second;
+    /// at want of memory nothing has changed. The cost is that of two writes, as an average over many calls.
     pub fn replace(&mut self, index: u32, pair: Pair) -> Result<(), NoMemory>
         requires place { index < length self.old.pairs }
         requires small { index < 2 ^ 31 }

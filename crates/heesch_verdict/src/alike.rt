@@ -3,8 +3,7 @@ ghost use Rattle.std.specs.Prelude.{◌≡◌, ◌<◌, true};
 ghost use Rattle.heesch_verdict.specs.Alike.{IsAlikeOne};
 
 use heesch_grid::{Cell, Grid};
-use heesch_lattice::Triple;
-use heesch_lattice::{first_vector, is_turned, second_vector};
+use heesch_lattice::{Triple, first_vector, is_turned, second_vector};
 
 /// The pair less so many times another.
 fn less(u: Cell, times: i32, v: Cell) -> Cell {
@@ -14,8 +13,8 @@ fn less(u: Cell, times: i32, v: Cell) -> Cell {
     }
 }
 
-/// The triple of the lattice that two vectors span, as Euclid's algorithm over their second numbers finds it. Nothing rests on
-/// it: whoever asks tries the lattice that it answers.
+/// The triple of the lattice that two vectors span, as Euclid's algorithm over their second numbers finds it. Nothing
+/// rests on it: whoever asks tries the lattice that it answers.
 fn spanned(first: Cell, second: Cell) -> Option<Triple> {
     let (mut u, mut v) = (first, second);
     for _ in 0..32 {
@@ -43,8 +42,8 @@ fn is_found<G: Grid>(k: u32, triple: Triple, found: Triple, others: &[Triple]) -
     false
 }
 
-/// Whether a turn is found that carries the lattice onto that of one of these triples. Cost: for each turn an algorithm of
-/// Euclid and a look at each of them.
+/// Whether a turn is found that carries the lattice onto that of one of these triples. Cost: for each turn an
+/// algorithm of Euclid and a look at each of them.
 pub fn is_alike<G: Grid>(triple: Triple, others: &[Triple]) -> bool
     ensures { result ≡ true → IsAlikeOne G.geometry triple others.now }
 {

@@ -35,7 +35,8 @@ impl<'a, G: Grid> Subject<'a, G> {
         requires shape { IsCanonicalShape G.geometry self.now.shape.now }
         requires limits { AreLimits self.now.limits }
         requires domain { HasDomain G.geometry (length self.now.shape.now) triple }
-        ensures { IfOk result (IsTripleEnd G.geometry self.now.shape.now self.now.limits.turns triple settled.old settled.new) }
+        ensures { IfOk result
+            (IsTripleEnd G.geometry self.now.shape.now self.now.limits.turns triple settled.old settled.new) }
     {
         let log = match search(alloc, self.shape, triple, self.limits.turns)? {
             TorusAnswer::Tiles { tiling } => return Ok(Some(tiling)),

@@ -1,6 +1,8 @@
 //! The options behind the other words.
-ghost use Rattle.std.specs.Prelude.{◌≡◌, ◌≢◌, ◌<◌, ◌≤◌, ◌^◌, ℕ, true, false, List, ◌∷◌, map, string_bytes, decimal, IfOk, OnErr};
-ghost use Rattle.heesch_words.specs.Options.{Setting, AreOptions, HasWorkersAlone, HasSizeAndVersionAlone, workers_of, limits_of};
+ghost use Rattle.std.specs.Prelude.{◌≡◌, ◌≢◌, ◌<◌, ◌≤◌, ◌^◌, ℕ, true, false, List, ◌∷◌, map, string_bytes, decimal};
+ghost use Rattle.std.specs.Prelude.{IfOk, OnErr};
+ghost use Rattle.heesch_words.specs.Options.{Setting, AreOptions, HasWorkersAlone, HasSizeAndVersionAlone, workers_of};
+ghost use Rattle.heesch_words.specs.Options.{limits_of};
 ghost use Rattle.heesch_words.specs.Reading.{BeginWith, AddsSetting, CannotAdd};
 
 use crate::Usage;

@@ -1,10 +1,12 @@
 //! What words may ask for.
-ghost use Rattle.std.specs.Prelude.{◌≡◌, ◌∷◌, ℕ, Bool, false, if◌then◌else◌, map, string_bytes, codes, IfOk, OnErr, ◌≢◌, []};
+ghost use Rattle.std.specs.Prelude.{◌≡◌, ◌∷◌, ℕ, Bool, false, if◌then◌else◌, map, string_bytes, codes, IfOk, OnErr};
+ghost use Rattle.std.specs.Prelude.{◌≢◌, []};
 ghost use Rattle.heesch_cert.specs.declared.header.Subject.{Subject};
 ghost use Rattle.heesch_cert.specs.declared.limits.Limits.{Limits};
 ghost use Rattle.heesch_grid.specs.declared.GridName.{GridName};
 ghost use Rattle.heesch_cnf.specs.declared.version.Version.{Version as FormulaVersion};
-ghost use Rattle.heesch_words.specs.Requests.{Asks, HasListForm, HasClassifyForm, HasCheckForm, HasSampleForm, HasFormulaForm, HasShareForm};
+ghost use Rattle.heesch_words.specs.Requests.{Asks, HasListForm, HasClassifyForm, HasCheckForm, HasSampleForm};
+ghost use Rattle.heesch_words.specs.Requests.{HasFormulaForm, HasShareForm};
 
 use crate::numbers::number;
 use crate::options::Options;

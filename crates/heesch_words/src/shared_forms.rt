@@ -52,7 +52,8 @@ pub struct ClassifyForm {
 /// What these words give after `classify`, and after `outer` where they aren't brief.
 pub fn classify_form(words: &[String]) -> Result<ClassifyForm, Usage>
     ensures ok { IfOk result
-        (λ form. HasClassifyForm (map string_bytes words.now) form.grid form.subject form.limits form.workers form.brief) }
+        (λ form. HasClassifyForm
+        (map string_bytes words.now) form.grid form.subject form.limits form.workers form.brief) }
     ensures usage { OnErr result
         ((grid : GridName) (subject : Subject) (limits : Limits) (workers : ℕ) (brief : Bool)
         → ¬ HasClassifyForm (map string_bytes words.now) grid subject limits workers brief) }

@@ -22,7 +22,8 @@ pub fn classes_are_near()
     ensures { ClassesAreNear }
 {}
 
-/// The lines of a true entry whose cover is reduced, and whose numbers fit 32 bits, have the forms of a catalogue's lines.
+/// The lines of a true entry whose cover is reduced, and whose numbers fit 32 bits, have the forms of a catalogue's
+/// lines.
 pub fn true_entries_have_lines()
     ensures { TrueEntriesHaveLines }
 {}

@@ -136,8 +136,8 @@ fn gives<G: Grid>(
     )
 }
 
-/// The single square with two holes at level 2 gets the cut of the first of them; shapes that have a hole themselves get one
-/// without border.
+/// The single square with two holes at level 2 gets the cut of the first of them; shapes that have a hole themselves
+/// get one without border.
 #[test]
 fn models_with_holes_get_a_joined_one(rt: HostRuntime) -> Result<(), Fail> {
     let alloc = rt.alloc();

@@ -2,8 +2,8 @@
 use heesch_grid::Cell;
 use heesch_index::CellIndex;
 
-/// Three overlapping sets of squares: their numbers rise from 1 at each cell, whatever the order of the cells in between, and a
-/// cell that no set has gives none.
+/// Three overlapping sets of squares: their numbers rise from 1 at each cell, whatever the order of the cells in
+/// between, and a cell that no set has gives none.
 #[test]
 fn numbers_of_overlapping_sets_rise(rt: HostRuntime) -> Result<(), heesch_io::NoMemory> {
     let cell = |a, b| Cell { a, b };
@@ -25,8 +25,8 @@ fn numbers_of_overlapping_sets_rise(rt: HostRuntime) -> Result<(), heesch_io::No
     Ok(())
 }
 
-/// More sets than numbers of 16 bits can count, and than any bound near: each has the next number, and the last one is found at
-/// its cell, behind 512 others.
+/// More sets than numbers of 16 bits can count, and than any bound near: each has the next number, and the last one is
+/// found at its cell, behind 512 others.
 #[test]
 fn numbers_go_on_beyond_65536(rt: HostRuntime) -> Result<(), heesch_io::NoMemory> {
     let mut index = CellIndex::new(rt.alloc());

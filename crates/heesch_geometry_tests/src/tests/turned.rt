@@ -1,11 +1,10 @@
 //! Lattices turned by hand.
 use heesch_grid::{Hex, Square};
-use heesch_lattice::Triple;
-use heesch_lattice::is_turned;
+use heesch_lattice::{Triple, is_turned};
 use std::test::Fail;
 
-/// The turns of the square grid that exchange the coordinates carry (1, 0) and (0, 2) onto (2, 0) and (0, 1); four turns of the
-/// hexagonal one carry them onto (2, 0) and (1, 1). None carries a lattice onto a coarser or a finer one.
+/// The turns of the square grid that exchange the coordinates carry (1, 0) and (0, 2) onto (2, 0) and (0, 1); four
+/// turns of the hexagonal one carry them onto (2, 0) and (1, 1). None carries a lattice onto a coarser or a finer one.
 #[test]
 fn lattices_of_area_two(rt: HostRuntime) -> Result<(), Fail> {
     let high = Triple { p: 1, q: 2, s: 0 };

@@ -10,10 +10,10 @@ use std::test::Fail;
 /// How many variables the formula has.
 const VARS: u32 = 113;
 
-/// Dominoes on two boards of 6 by 6 cells, each without two opposite corners, in clauses that end with 0. They can't cover
-/// either board. A domino on a board is a variable; the numbers are shuffled. The cells of the first row have to be covered,
-/// on the second board where a variable of its own is true, and below each domino that lies on the board the cells beneath
-/// it; no two dominoes meet. So most clauses that ask for a cover have one negative literal.
+/// Dominoes on two boards of 6 by 6 cells, each without two opposite corners, in clauses that end with 0. They can't
+/// cover either board. A domino on a board is a variable; the numbers are shuffled. The cells of the first row have to
+/// be covered, on the second board where a variable of its own is true, and below each domino that lies on the board
+/// the cells beneath it; no two dominoes meet. So most clauses that ask for a cover have one negative literal.
 const BOARDS: &str =
     "3 15 0 7 13 15 0 1 13 98 0 94 98 99 0 2 99 0 3 -15 54 59 71 0 7 -15 54 84 110 0 -3 9 43 71 73 0 7 -13 54 84
 110 0 1 -13 14 19 110 0 6 -7 20 43 84 0 1 14 19 -98 110 0 14 25 80 94 -98 0 -1 19 20 44 81 0 14 25 80 94 -99 0
@@ -110,9 +110,9 @@ fn visits_of(rt: &impl Abort, alloc: Global) -> Result<u64, Fail> {
     Ok(trail.visits())
 }
 
-/// The bounds are what was counted when this was written, 100 conflicts, 294 literals and 49,005 visits, and a quarter more.
-/// An order that looks at no clause takes 255 conflicts, one that looks at no clause with a negative literal 270; clauses
-/// that aren't shortened have 452 literals.
+/// The bounds are what was counted when this was written, 100 conflicts, 294 literals and 49,005 visits, and a quarter
+/// more. An order that looks at no clause takes 255 conflicts, one that looks at no clause with a negative literal
+/// 270; clauses that aren't shortened have 452 literals.
 #[test]
 fn two_boards_take_little_effort(rt: HostRuntime) -> Result<(), Fail> {
     let alloc = rt.alloc();

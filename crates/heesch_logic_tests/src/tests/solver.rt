@@ -23,7 +23,8 @@ const ALL_EIGHT: [&[i32]; 8] = [
     &[-1, -2, -3],
 ];
 
-/// What the solver finds of these clauses over so many variables within so many turns, its log, and what is judged of it.
+/// What the solver finds of these clauses over so many variables within so many turns, its log, and what is judged of
+/// it.
 fn solved<R: Abort + Threads + Sync>(
     rt: &R,
     alloc: Global,

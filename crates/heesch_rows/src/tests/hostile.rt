@@ -50,8 +50,8 @@ const HEADER: &str = "invalid header\n";
 
 const ENTRY: &str = "invalid entry 1\n";
 
-/// Of a valid text one part, in a line that says what stands in it, in a tiling, in a refutation or in a corona, and another
-/// in its place.
+/// Of a valid text one part, in a line that says what stands in it, in a tiling, in a refutation or in a corona, and
+/// another in its place.
 #[test]
 fn an_altered_line_is_found(rt: HostRuntime) -> Result<(), Fail> {
     let alloc = rt.alloc();

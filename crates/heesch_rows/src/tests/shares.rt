@@ -4,8 +4,8 @@ use heesch_app::Status;
 use heesch_io::MemorySource;
 use std::test::Fail;
 
-/// A share without shapes is its line, the header and the end; the texts of both shares, joined, are the catalogue, and one of
-/// them alone, or none, has its fault.
+/// A share without shapes is its line, the header and the end; the texts of both shares, joined, are the catalogue,
+/// and one of them alone, or none, has its fault.
 #[test]
 fn shares_are_joined_to_their_catalogue(rt: HostRuntime) -> Result<(), Fail> {
     let alloc = rt.alloc();

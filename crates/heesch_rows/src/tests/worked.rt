@@ -135,8 +135,8 @@ const ROWS: [Row; 39] = [
         Status::Done,
         "heesch 2 square given turns 20000 levels 3 domain 4 size 60000000\nend 0\n",
     ),
-    // A tiling and an open Heesch number have no outer number; a hole that no tile fills leaves none more, by the wall's
-    // own refutation; and a list text has the faults that `classify` tells.
+    // A tiling and an open Heesch number have no outer number; a hole that no tile fills leaves none more, by the
+    // wall's own refutation; and a list text has the faults that `classify` tells.
     (
         "outer square given",
         "0,0 1,0 2,0 0,1 2,1 0,2 1,2\n",

@@ -152,7 +152,8 @@ fn free_layers<G: Grid>(alloc: Global, shape: &Shape<G>, h: u32) -> Result<Layer
     }
 }
 
-/// How many outer coronas are found of a shape with Heesch number h that has h + 1 coronas with holes; fewer aren't accepted.
+/// How many outer coronas are found of a shape with Heesch number h that has h + 1 coronas with holes; fewer aren't
+/// accepted.
 fn count_outer<G: Grid, T: Threads + Sync>(
     rt: &T,
     alloc: Global,

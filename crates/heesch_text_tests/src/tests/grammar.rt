@@ -144,7 +144,8 @@ fn rewritten(alloc: Global, text: &str) -> Result<Vec<u8>, Fail> {
     Ok(out)
 }
 
-/// The entries of rows 10 to 13 of the worked catalogues, and one with every part of a search, have the texts of their lines.
+/// The entries of rows 10 to 13 of the worked catalogues, and one with every part of a search, have the texts of their
+/// lines.
 #[test]
 fn entries_are_made_of_their_lines(rt: HostRuntime) -> Result<(), Fail> {
     let alloc = rt.alloc();
@@ -163,8 +164,8 @@ fn entries_are_made_of_their_lines(rt: HostRuntime) -> Result<(), Fail> {
     Ok(())
 }
 
-/// The numbers behind `wall`, `bare` and `end` are those of earlier lines; a tiling has a tile, a refutation doesn't end
-/// with `spent`, and a brief text has no evidence.
+/// The numbers behind `wall`, `bare` and `end` are those of earlier lines; a tiling has a tile, a refutation doesn't
+/// end with `spent`, and a brief text has no evidence.
 #[test]
 fn lines_out_of_place_are_refused(rt: HostRuntime) -> Result<(), Fail> {
     let alloc = rt.alloc();

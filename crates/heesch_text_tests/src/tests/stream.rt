@@ -1,7 +1,6 @@
 //! Small catalogues, read eight bytes at a time.
 use heesch_io::{MemorySource, NoMemory, Seq};
-use heesch_reader::{Item, Part};
-use heesch_reader::{Stream, StreamStop, Taken};
+use heesch_reader::{Item, Part, Stream, StreamStop, Taken};
 use std::alloc::Global;
 use std::test::Fail;
 

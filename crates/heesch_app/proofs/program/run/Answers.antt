@@ -9,7 +9,7 @@ use Rattle.heesch_app.proofs.Headline.{catalogued}
 use Rattle.heesch_app.proofs.OuterOutputs.{writes_outers}
 use Rattle.heesch_app.proofs.Ranges.{asked_in_range}
 use Rattle.heesch_app.proofs.ToldExchanges.{writes_formula, writes_answer}
-use Rattle.heesch_app.proofs.ValidOutputs.{valid_is_done, writes_valid, tallied_is_done, bad_is_long}
+use Rattle.heesch_app.proofs.ValidOutputs.{valid_is_done, writes_valid, joins_valid, tallied_is_done, bad_is_long}
 use Rattle.heesch_app.proofs.program.run.Goals as goal
 
 pub answer-requires-after_bounds : goal.answer-requires-after_bounds
@@ -44,6 +44,7 @@ returns-in-Ok g c =
       done = wrote Done tt;
       headline = λ done grid n workers limits asks. catalogued words left old new grid n workers limits asks (wrote Done tt done);
       checkable = λ done grid subject workers limits asks. writes_valid words left old new grid subject workers limits asks (wrote Done tt done);
+      joinable = λ done grid n limits outputs asks all told. joins_valid words left old new grid n limits outputs asks all told (wrote Done tt done);
       passes = λ input workers count told short asks valid.
           let says : (status : Status) → IsWhole status → result ≡ status → status ≡ Done = λ status whole same.
           let (text, is, appends) = wrote status whole same in

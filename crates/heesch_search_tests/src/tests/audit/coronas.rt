@@ -49,8 +49,8 @@ fn coronas(rt: HostRuntime) -> Result<(), Fail> {
     Ok(())
 }
 
-/// A layer too many, and one without its last tile; the first two tiles in the other order; and one by a greater turn, and by
-/// none of the grid's.
+/// A layer too many, and one without its last tile; the first two tiles in the other order; and one by a greater turn,
+/// and by none of the grid's.
 #[test]
 fn altered_coronas(rt: HostRuntime) -> Result<(), Fail> {
     let alloc = rt.alloc();

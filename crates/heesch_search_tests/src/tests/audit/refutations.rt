@@ -135,8 +135,8 @@ fn expect_final<R: Abort + Threads + Sync>(
     expect::<Square, _>(rt, alloc, &entry, LIMITS, part)
 }
 
-/// The steps count on from the formula's clauses: the first is learnt, and the clauses of the cuts are empty, since no tile
-/// fills the middle cell.
+/// The steps count on from the formula's clauses: the first is learnt, and the clauses of the cuts are empty, since no
+/// tile fills the middle cell.
 #[test]
 fn steps_count_on(rt: HostRuntime) -> Result<(), Fail> {
     let alloc = rt.alloc();
