@@ -1,5 +1,5 @@
 //! A box of cells, which numbers them row by row.
-ghost use Rattle.std.specs.Prelude.{◌≡◌, ◌<◌, ◌*◌, ◌+ℤ◌, ◌≤ℤ◌, ◌^◌, ℕ, true, pos, take, slice_index_or, IfOk, [], int_le, ◌&&◌};
+ghost use Rattle.std.specs.Prelude.{◌≡◌, ◌<◌, ◌*◌, ◌+ℤ◌, ◌≤ℤ◌, ◌^◌, ℕ, true, pos, slice_index_or, IfOk, [], int_le, ◌&&◌};
 ghost use Rattle.std.specs.Int.{int_min, int_max};
 ghost use Rattle.heesch_grid.specs.declared.Cell.{Cell};
 ghost use Rattle.heesch_grid.specs.Cells.{has};
@@ -75,7 +75,8 @@ impl Corners {
 
     /// The corners of the least box that has the cells of these sets.
     pub(crate) fn around_sets(sets: &CellSets) -> Corners
-        ensures { (i : ℕ) (c : Cell) → has (slice_index_or sets.now i []) c ≡ true → IsBetween result.low result.high c }
+        ensures { (i : ℕ) (c : Cell) → has (slice_index_or sets.now i []) c ≡ true
+            → IsBetween result.low result.high c }
     {
         let mut corners = Corners::none();
         for i in 0..sets.len() {

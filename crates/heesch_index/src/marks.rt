@@ -1,5 +1,5 @@
 //! Marks: a set of cells in a box.
-ghost use Rattle.std.specs.Prelude.{◌≡◌, ◌||◌, true, false, OnOk, IfOk};
+ghost use Rattle.std.specs.Prelude.{◌≡◌, ◌||◌, true, false, IfOk};
 ghost use Rattle.heesch_grid.specs.declared.Cell.{Cell};
 ghost use Rattle.heesch_grid.specs.Cells.{has, same_cell, cell_before};
 ghost use Rattle.heesch_grid.specs.Listing.{ListsExactly};
@@ -25,14 +25,19 @@ impl Model for CellMarks {
 
     ghost Value = { Marked };
 
-    ghost view = { λ s. record { low = s.bounds.low; high = s.bounds.high; wide = s.bounds.wide; marks = s.marks.items } };
+    ghost view = { λ s. record {
+      low = s.bounds.low;
+      high = s.bounds.high;
+      wide = s.bounds.wide;
+      marks = s.marks.items;
+    } };
 
     ghost invariant = { λ s. length s.marks.items ≡ area s.bounds };
 }
 
 impl CellMarks {
-    /// No cells, where those between the two corners can be added. If `low` lies past `high`, none lies between them. 2^32 cells
-    /// or more between them count as want of memory. The cost is their number.
+    /// No cells, where those between the two corners can be added. If `low` lies past `high`, none lies between them.
+    /// 2^32 cells or more between them count as want of memory. The cost is their number.
     pub fn within(alloc: Global, low: Cell, high: Cell) -> Result<CellMarks, NoMemory>
         ensures low { IfOk result (λ marks. marks.low ≡ low) }
         ensures high { IfOk result (λ marks. marks.high ≡ high) }
@@ -43,8 +48,8 @@ impl CellMarks {
         Ok(CellMarks { bounds, marks })
     }
 
-    /// The set of these cells, in any order. 2^32 cells or more in the box around them count as want of memory. The cost is the
-    /// number of cells in that box.
+    /// The set of these cells, in any order. 2^32 cells or more in the box around them count as want of memory. The
+    /// cost is the number of cells in that box.
     pub fn of(alloc: Global, cells: &[Cell]) -> Result<CellMarks, NoMemory>
         ensures { IfOk result (λ marks. (c : Cell) → is_marked marks c ≡ has cells.now c) }
     {

@@ -1,5 +1,4 @@
-use Rattle.std.proofs.Common.{arith}
-use Rattle.heesch_index.proofs.BoxFacts.{wide_pos, column_at, row_at, cell_at-inside, cell_at-place}
+use Rattle.heesch_index.proofs.BoxFacts.{column_at, row_at, cell_at-inside, cell_at-place}
 use Rattle.heesch_index.proofs.cell_box.CellBox.cell_at.Goals as goal
 
 pub cell_of-requires-clause-row : goal.cell_of-requires-clause-row

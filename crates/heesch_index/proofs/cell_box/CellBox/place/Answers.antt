@@ -1,5 +1,5 @@
 use Rattle.std.proofs.Common.{◌+◌, ◌*◌, ◌<◌, ap, arith}
-use Rattle.heesch_index.specs.Boxes.{place, area}
+use Rattle.heesch_index.specs.Boxes.{area}
 use Rattle.heesch_index.proofs.BoxFacts.{place_below}
 use Rattle.heesch_index.proofs.cell_box.CellBox.place.Goals as goal
 

@@ -1,6 +1,5 @@
 use Rattle.std.proofs.Common.{◌||◌, get_or, sym, ap, subst, ◌∙◌}
 use Rattle.std.proofs.lemmas.List.Folds.{list_any_at}
-use Rattle.heesch_grid.specs.declared.Cell.{Cell}
 use Rattle.heesch_grid.specs.Cells.{origin, same_cell}
 use Rattle.heesch_grid.specs.Pairs.{same_cell-refl}
 use Rattle.heesch_index.specs.Marking.{IsBetween}
@@ -17,8 +16,7 @@ add-requires c =
 pub loop-cell-preserved : goal.loop-cell-preserved
 loop-cell-preserved c =
     let cells = c.args.cells.now in
-    let i = c.loop-cell.cell-index in
-    (
+    let i = c.loop-cell.cell-index in (
       c.add.ensures.low ∙ c.loop-cell.invariant.0,
       c.add.ensures.high ∙ c.loop-cell.invariant.1,
       λ d. c.add.ensures.cells d ∙ ap (λ b. b || same_cell (get_or cells i origin) d) (c.loop-cell.invariant.2 d) ∙ sym (has_more cells i origin d c.loop-cell-test.true),
