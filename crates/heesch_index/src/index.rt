@@ -71,8 +71,8 @@ impl CellIndex {
         }
     }
 
-    /// The set stands last, with the next number, or nothing has changed. A set past 2^32 - 1 of them counts as want of memory. The
-    /// cost is one look-up for each cell.
+    /// The set stands last, with the next number, or nothing has changed. A set past 2^32 - 1 of them counts as want
+    /// of memory. The cost is one look-up for each cell.
     pub fn add(&mut self, cells: &[Cell]) -> Result<(), NoMemory>
         requires { IsRising cell_before cells.now }
         ensures ok { OnOk result (self.new ≡ self.old ++ cells.now ∷ []) }
