@@ -6,7 +6,7 @@ ghost use Rattle.heesch_cnf.specs.Lines.{IsSpent, LinesHold, LinesAreNew, clause
 ghost use Rattle.heesch_rup.specs.Answer.{IsFirstBad, IsLogAnswer};
 ghost use Rattle.heesch_rup.specs.Assigned.{all_open};
 
-use crate::added::add_formed;
+use crate::added::{add_formed, clauses_of};
 use crate::assignment::Assignment;
 use crate::check::{LogAnswer, final_answer, first_failing};
 use crate::newness::are_new_in_turn;
@@ -111,5 +111,21 @@ pub fn is_spent_in_turn<N: NewnessSource, S: Steps>(
     let Some(added) = used_up_in_turn(alloc, formula, steps, turns)? else {
         return Ok(false);
     };
+    are_new_in_turn(alloc, formula, &added, steps)
+}
+
+/// Whether no line contains an earlier clause, wherever the clauses and the lines stand, as `all_new_steps` tells it,
+/// but in the caller's thread alone. It asks for each line whether it is new; the clauses of the lines are copied
+/// once.
+pub fn all_new_in_turn<N: NewnessSource, S: Steps>(
+    alloc: Global,
+    formula: &N,
+    steps: &S,
+) -> Result<bool, NoMemory>
+    requires { let f = N.listed formula.now in LinesHold f.vars f.clauses (S.written steps.now).lines }
+    ensures { IfOk result
+        (λ yes. IsTrue yes ↔ LinesAreNew (N.listed formula.now).clauses (S.written steps.now).lines) }
+{
+    let added = clauses_of(alloc, formula.vars(), steps)?;
     are_new_in_turn(alloc, formula, &added, steps)
 }

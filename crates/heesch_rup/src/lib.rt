@@ -18,7 +18,7 @@ mod status;
 mod steps;
 
 pub use check::{LogAnswer, check_log, check_steps};
-pub use in_turn::{check_steps_in_turn, is_spent_in_turn};
+pub use in_turn::{all_new_in_turn, check_steps_in_turn, is_spent_in_turn};
 pub use newness::{all_new, all_new_steps};
 pub use spent::is_spent;
 pub use steps::Steps;
