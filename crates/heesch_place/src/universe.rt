@@ -1,10 +1,10 @@
 //! The variables of a corona formula.
-ghost use Rattle.std.specs.Prelude.{◌≡◌, ◌+◌, ◌≤◌, ◌<◌, ◌^◌, ℕ, List, map, length, All, IfOk, OnOk, MatchOption};
+ghost use Rattle.std.specs.Prelude.{◌≡◌, ◌+◌, ◌≤◌, ◌<◌, ◌^◌, ℕ, List, map, length, nat_le, All, IfOk, OnOk, MatchOption};
 ghost use Rattle.heesch_grid.specs.declared.Cell.{Cell};
 ghost use Rattle.heesch_grid.specs.Polyform.{IsCanonicalListOf};
 ghost use Rattle.heesch_grid.specs.Placement.{IsPlacement, IsLeastIsometry};
 ghost use Rattle.heesch_grid.specs.CoronaFormula.{Variable, IsUniverse, IsNumbered};
-ghost use Rattle.heesch_place.specs.Universes.{IsUniverseOf, covering, variable_cmp, HaveLeast, AddTiles};
+ghost use Rattle.heesch_place.specs.Universes.{IsUniverseOf, covering, level_at, variable_cmp, HaveLeast, AddTiles};
 
 use crate::level::Level;
 use crate::lists::add;
@@ -111,6 +111,17 @@ fn index_of<G: Grid>(alloc: Global, entries: &[Entry<G>]) -> Result<CellIndex, N
     Ok(index)
 }
 
+/// Whether the variable of a number has a level of at most `up_to`.
+fn is_up_to<G: Grid>(entries: &[Entry<G>], number: u32, up_to: u32) -> bool
+    ensures { result ≡ nat_le (level_at (map (λ e. e.level) entries.now) number) up_to }
+{
+    let place = number.saturating_sub(1) as usize;
+    if place >= entries.len() {
+        return true;
+    }
+    entries[place].level <= up_to
+}
+
 impl<G: Grid> Universe<G> {
     /// The universe of a canonical shape, at a level from 1 to 6. A universe of 2^31 variables or more
     /// counts as want of memory.
@@ -192,7 +203,7 @@ impl<G: Grid> Universe<G> {
     }
 
     /// The numbers, rising, of the variables of level at most `up_to` whose tile has the cell. One
-    /// look-up and a walk over the answer; it takes no memory.
+    /// look-up, and a binary search over what it gives; it takes no memory.
     pub fn covered_by(&self, c: Cell, up_to: u32) -> &[u32]
         ensures { result.now ≡ covering self.now.vars up_to c }
     {
@@ -200,12 +211,9 @@ impl<G: Grid> Universe<G> {
         if self.level <= up_to {
             return numbers;
         }
-        for (i, number) in numbers.iter().enumerate() {
-            if self.entries[*number as usize - 1].level > up_to {
-                return &numbers[..i];
-            }
-        }
-        numbers
+        let entries = self.entries.as_slice();
+        let end = numbers.partition_point(|number| is_up_to(entries, *number, up_to));
+        &numbers[..end]
     }
 
     /// The same numbers as a list of their own.
