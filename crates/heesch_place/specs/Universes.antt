@@ -9,7 +9,7 @@ use Rattle.std.specs.declared.cmp.Ordering.{Ordering}
 use Rattle.heesch_grid.specs.Cells.{cell_cmp}
 use Rattle.heesch_grid.specs.Geometry.{Geometry}
 use Rattle.heesch_grid.specs.Placement.{IsLeastIsometry}
-use Rattle.heesch_grid.specs.CoronaFormula.{Variable, IsUniverse, IsNumbered, covers}
+use Rattle.heesch_grid.specs.CoronaFormula.{Variable, IsUniverse, covers}
 
 -- a cell list, and an isometry that gives it
 pub record Placed : Type 0 where

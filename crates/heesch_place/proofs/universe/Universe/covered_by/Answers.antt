@@ -1,13 +1,12 @@
-use Rattle.std.proofs.Common.{◌≡◌, ℕ, true, false, List, map, sym, ap, subst, ◌∙◌, arith, rules}
+use Rattle.std.proofs.Common.{◌≡◌, ℕ, true, false, map, sym, ap, subst, ◌∙◌, arith, rules}
 use Rattle.std.specs.Prelude.{nat_le}
 use Rattle.std.specs.List.Sorted.{IsPartitionedBy, IsPartitionPoint}
 use Rattle.std.proofs.lemmas.List.Elements.{All-contains}
 use Rattle.std.proofs.lemmas.List.Sorted.{IsPartitionPoint-from_clause}
-use Rattle.heesch_grid.specs.declared.Cell.{Cell}
 use Rattle.heesch_grid.specs.CoronaFormula.{Variable, IsVariable}
 use Rattle.heesch_index.specs.Covering.{numbers_with}
 use Rattle.heesch_place.specs.Universes.{Levels, covering, level_at}
-use Rattle.heesch_place.proofs.Numbering.{is_low, are_parted, covering_parted, covering_all, index_tiles, levels_twice}
+use Rattle.heesch_place.proofs.Numbering.{are_parted, covering_parted, covering_all, index_tiles, levels_twice}
 use Rattle.heesch_place.specs.declared.universe.Entry.{Entry}
 use Rattle.heesch_place.proofs.universe.Universe.covered_by.Given as given
 use Rattle.heesch_place.proofs.universe.Universe.covered_by.Goals as goal
@@ -22,7 +21,7 @@ view g c = ap (λ (u : Levels). u.vars) c.self.view_is
 
 -- the numbers are those of the entries with the cell
 with_cell : (g : given.Over) (c : After-covering-numbers g) → c.covering-numbers.result.now ≡ numbers_with (map (λ x. x.tile) (map (variable g) c.self.inside.entries.items)) c.args.c
-with_cell g c = c.covering-numbers.ensures ∙ ap (λ sets. numbers_with sets c.args.c) (index_tiles (variable g) c.self.inside.entries.items c.self.inside.index c.self.invariant.indexed)
+with_cell g c = c.covering-numbers.ensures ∙ ap (λ sets. numbers_with sets c.args.c) (index_tiles (variable g) c.self.inside.entries.items c.self.inside.table c.self.invariant.indexed)
 
 pub returns : goal.returns
 returns g c =
