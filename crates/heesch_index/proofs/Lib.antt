@@ -1,2 +1,5 @@
 pub mod NumberFacts
+mod BoxFacts
+mod MarkFacts
+mod PartFacts
 mod EntryFacts

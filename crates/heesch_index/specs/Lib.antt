@@ -1,2 +1,5 @@
 pub mod Covering
 pub mod Entries
+pub mod Marking
+pub mod Boxes
+pub mod Parts
