@@ -136,11 +136,11 @@ module _ (g : Geometry) (shape : List Cell) (marks : Marked) where
             let apart : meet shape tile ≡ false = not-true (meet shape tile) b.0 in
             let clear : touch g shape tile ≡ false = not-true (touch g shape tile) b.1 in
             not_from_false (list_any (is_marked marks) tile) (not_true (list_any (is_marked marks) tile) (λ k.
-                let c = any_member (is_marked marks) tile k in
-                elim (near.only c.0 c.2) [
-                  | inl m ↦ true≢false (sym (meet-is shape tile c.0 m c.1) ∙ apart)
-                  | inr s ↦ true≢false (sym (touch_by g shape tile (record { apart = apart; first = s.source; second = c.0; in_first = s.inside; in_second = c.1; touching = s.gives })) ∙ clear)
-                ]))
+            let c = any_member (is_marked marks) tile k in
+            elim (near.only c.0 c.2) [
+              | inl m ↦ true≢false (sym (meet-is shape tile c.0 m c.1) ∙ apart)
+              | inr s ↦ true≢false (sym (touch_by g shape tile (record { apart = apart; first = s.source; second = c.0; in_first = s.inside; in_second = c.1; touching = s.gives })) ∙ clear)
+            ]))
 
 -- a tile with the cell of its own is not apart from itself
 pub apart_own : (inner : List (List Cell)) (tile : List Cell) (c : Cell) → has tile c ≡ true → false ≡ is_apart_at inner tile c

@@ -240,8 +240,7 @@ module _ (g : Geometry) (shape targets : List Cell) (marks : Marked) (orientatio
       let w = within d.0 (has-is targets d.0 d.1) in
       let r = reach t x.0 c.0 o.inside x.1 (has-is t c.0 c.1) in
       let ea = ap (λ z. z.a) c.2 in
-      let eb = ap (λ z. z.b) c.2 in
-      (
+      let eb = ap (λ z. z.b) c.2 in (
         plus s x.0,
         record {
           a_low = omega (arith, ints, w.a_low, r.a_low, ea, sum);

@@ -141,7 +141,8 @@ impl<G: Grid> Level<G> {
         prototile: &Prototile<G>,
     ) -> Result<Vec<Shape<G>>, NoMemory>
         requires { (tile : List Cell) (c : Cell) → Contains self.now tile → has tile c ≡ true → IsWithin 90000 c }
-        ensures { IfOk result (λ tiles. ListsExactly cells_before (IsBeyond G.geometry prototile.now self.now) tiles.items) }
+        ensures { IfOk result (λ tiles.
+            ListsExactly cells_before (IsBeyond G.geometry prototile.now self.now) tiles.items) }
     {
         let targets = cells_touching(alloc, self.tiles.as_slice())?;
         let mut tiles = placements_over(alloc, prototile, targets.as_slice())?;

@@ -1,12 +1,14 @@
 //! Placements that have one of some cells.
-ghost use Rattle.std.specs.Prelude.{◌≡◌, ℕ, ◌+◌, ◌*◌, ◌<◌, ◌≤◌, pos, neg_ℤ, ◌+ℤ◌, ◌≤ℤ◌, true, List, Contains, OnOk, IfOk};
+ghost use Rattle.std.specs.Prelude.{◌≡◌, ℕ, ◌+◌, ◌*◌, ◌<◌, ◌≤◌, pos, ◌+ℤ◌, ◌≤ℤ◌};
+ghost use Rattle.std.specs.Prelude.{true, List, Contains, OnOk, IfOk};
 ghost use Rattle.std.specs.List.{list_any};
 ghost use Rattle.heesch_grid.specs.declared.Cell.{Cell};
 ghost use Rattle.heesch_grid.specs.Cells.{cell, cells_before, has};
 ghost use Rattle.heesch_grid.specs.Listing.{ListsExactly};
 ghost use Rattle.heesch_grid.specs.Vectors.{IsWithin, minus, plus};
 ghost use Rattle.heesch_index.specs.Marking.{is_marked};
-ghost use Rattle.heesch_place.specs.Found.{Adds, FromOne, IsMovedOver, row_start, IsInRow, IsInSquare, IsPlacementOver};
+ghost use Rattle.heesch_place.specs.Found.{Adds, FromOne, IsMovedOver};
+ghost use Rattle.heesch_place.specs.Found.{row_start, IsInRow, IsInSquare, IsPlacementOver};
 ghost use Rattle.heesch_place.specs.Steps.{IsFirstOf};
 
 use crate::lists::{add, listed_tiles};
@@ -43,7 +45,8 @@ fn add_moved<G: Grid>(
 ) -> Result<(), NoMemory>
     requires near { (c : Cell) → has orientation.now c ≡ true → IsWithin 5000 c }
     requires first { IsWithin 200000 first }
-    ensures { OnOk result (Adds (IsMovedOver G.geometry targets.now first orientation.now) all.old.items all.new.items) }
+    ensures { OnOk result
+        (Adds (IsMovedOver G.geometry targets.now first orientation.now) all.old.items all.new.items) }
 {
     let cells = orientation.cells();
     let step = difference(first_of(cells), first);
@@ -70,7 +73,8 @@ fn add_with_first<G: Grid>(
 ) -> Result<(), NoMemory>
     requires near { (t : List Cell) (c : Cell) → Contains orientations.now t → has t c ≡ true → IsWithin 5000 c }
     requires first { IsWithin 200000 first }
-    ensures { OnOk result (Adds (FromOne (IsMovedOver G.geometry targets.now first) orientations.now) all.old.items all.new.items) }
+    ensures { OnOk result
+        (Adds (FromOne (IsMovedOver G.geometry targets.now first) orientations.now) all.old.items all.new.items) }
 {
     for orientation in orientations {
         add_moved(all, orientation, first, targets)?;
@@ -115,7 +119,8 @@ fn add_row<G: Grid>(
     requires near { (t : List Cell) (c : Cell) → Contains orientations.now t → has t c ≡ true → IsWithin 5000 c }
     requires low { IsWithin 150000 low }
     requires wide { (low.a +ℤ pos wide) ≤ℤ pos 200000 }
-    ensures { OnOk result (Adds (IsInRow G.geometry targets.now orientations.now low wide) all.old.items all.new.items) }
+    ensures { OnOk result
+        (Adds (IsInRow G.geometry targets.now orientations.now low wide) all.old.items all.new.items) }
 {
     for i in 0..wide {
         add_with_first(all, orientations, along(low, i), targets)?;
@@ -141,7 +146,8 @@ fn add_rows<G: Grid>(
 ) -> Result<(), NoMemory>
     requires near { (t : List Cell) (c : Cell) → Contains orientations.now t → has t c ≡ true → IsWithin 5000 c }
     requires most { most ≤ 110000 }
-    ensures { OnOk result (Adds (IsInSquare G.geometry targets.now orientations.now most) all.old.items all.new.items) }
+    ensures { OnOk result
+        (Adds (IsInSquare G.geometry targets.now orientations.now most) all.old.items all.new.items) }
 {
     let wide = 2 * most + 1;
     for row in 0..wide {
@@ -174,7 +180,8 @@ fn greater(m: u32, n: u32) -> u32
 /// How far a cell of one of the tiles lies from the first cell of the tile, or more.
 fn reach<G: Grid>(tiles: &[Shape<G>]) -> u32
     requires { (t : List Cell) (c : Cell) → Contains tiles.now t → has t c ≡ true → IsWithin 5000 c }
-    ensures within { (t : List Cell) (first c : Cell) → Contains tiles.now t → IsFirstOf t first → has t c ≡ true → IsWithin result (minus first c) }
+    ensures within { (t : List Cell) (first c : Cell) → Contains tiles.now t → IsFirstOf t first
+        → has t c ≡ true → IsWithin result (minus first c) }
     ensures bound { result ≤ 10000 }
 {
     let mut reach = 0;
@@ -195,7 +202,8 @@ pub(crate) fn placements_over<G: Grid>(
     targets: &[Cell],
 ) -> Result<Vec<Shape<G>>, NoMemory>
     requires { (c : Cell) → has targets.now c ≡ true → IsWithin 100000 c }
-    ensures { IfOk result (λ all. ListsExactly cells_before (IsPlacementOver G.geometry prototile.now targets.now) all.items) }
+    ensures { IfOk result (λ all.
+        ListsExactly cells_before (IsPlacementOver G.geometry prototile.now targets.now) all.items) }
 {
     let orientations = prototile.orientations();
     let marks = CellMarks::of(alloc, targets)?;

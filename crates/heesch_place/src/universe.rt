@@ -1,5 +1,6 @@
 //! The variables of a corona formula.
-ghost use Rattle.std.specs.Prelude.{◌≡◌, true, ◌+◌, ◌≤◌, ◌<◌, ◌^◌, ℕ, List, map, length, nat_le, All, IfOk, OnOk, MatchOption};
+ghost use Rattle.std.specs.Prelude.{◌≡◌, true, ◌+◌, ◌≤◌, ◌<◌, ◌^◌, ℕ};
+ghost use Rattle.std.specs.Prelude.{List, map, length, nat_le, All, IfOk, OnOk, MatchOption};
 ghost use Rattle.heesch_grid.specs.declared.Cell.{Cell};
 ghost use Rattle.heesch_grid.specs.Cells.{has};
 ghost use Rattle.heesch_grid.specs.Polyform.{IsCanonicalListOf};
@@ -33,7 +34,8 @@ struct Entry<G: Grid> {
 impl<G: Grid> Entry<G> {
     /// How the variable compares with one of this level and these cells.
     fn compared(&self, level: u32, tile: &Shape<G>) -> Ordering
-        ensures { result ≡ variable_cmp (record { level = self.now.level; tile = self.now.place.tile }) (record { level = level; tile = tile.now }) }
+        ensures { result ≡ variable_cmp (record { level = self.now.level; tile = self.now.place.tile })
+            (record { level = level; tile = tile.now }) }
     {
         self.level.cmp(&level).then(self.place.shape().cmp(tile))
     }
@@ -58,9 +60,14 @@ impl<G: Grid> Model for Universe<G> {
 
     ghost Value = { Levels };
 
-    ghost view = { λ u. record { shape = u.shape; level = u.level; vars = map (λ e. record { level = e.level; tile = e.place.tile }) u.entries.items } };
+    ghost view = { λ u. record {
+      shape = u.shape;
+      level = u.level;
+      vars = map (λ e. record { level = e.level; tile = e.place.tile }) u.entries.items;
+    } };
 
-    ghost invariant = { λ u. AreIndexed (λ e. record { level = e.level; tile = e.place.tile }) (λ e. e.place.by) G.geometry u.shape u.level u.entries.items u.table };
+    ghost invariant = { λ u. AreIndexed (λ e. record { level = e.level; tile = e.place.tile }) (λ e. e.place.by) G.geometry
+        u.shape u.level u.entries.items u.table };
 }
 
 /// Adds a variable of this level for each of the tiles.
@@ -71,7 +78,9 @@ fn add_entries<G: Grid>(
     tiles: Vec<Shape<G>>,
 ) -> Result<(), NoMemory>
     requires { All (IsPlacement G.geometry prototile.now) tiles.items }
-    ensures { OnOk result (AddTiles (λ e. record { level = e.level; tile = e.place.tile }) (λ e. e.place.by) G.geometry prototile.now level tiles.items entries.old.items entries.new.items) }
+    ensures { OnOk result
+        (AddTiles (λ e. record { level = e.level; tile = e.place.tile }) (λ e. e.place.by) G.geometry prototile.now
+        level tiles.items entries.old.items entries.new.items) }
 {
     for tile in tiles {
         let place = Placement::onto(prototile, tile);
@@ -88,8 +97,12 @@ fn entries_of<G: Grid>(
 ) -> Result<Vec<Entry<G>>, NoMemory>
     requires level { (1 ≤ level) × (level ≤ 6) }
     requires near { (c : Cell) → has prototile.now c ≡ true → IsWithin 200 c }
-    ensures universe { IfOk result (λ all. IsUniverse G.geometry prototile.now level (map (λ e. record { level = e.level; tile = e.place.tile }) all.items)) }
-    ensures least { IfOk result (λ all. HaveLeast (λ e. record { level = e.level; tile = e.place.tile }) (λ e. e.place.by) G.geometry prototile.now all.items) }
+    ensures universe { IfOk result (λ all.
+        IsUniverse G.geometry prototile.now level
+        (map (λ e. record { level = e.level; tile = e.place.tile }) all.items)) }
+    ensures least { IfOk result (λ all.
+        HaveLeast (λ e. record { level = e.level; tile = e.place.tile }) (λ e. e.place.by) G.geometry
+        prototile.now all.items) }
 {
     let mut entries = Vec::new(alloc);
     let mut tiles = first_level(alloc, prototile)?;

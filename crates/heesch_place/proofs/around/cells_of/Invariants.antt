@@ -9,5 +9,5 @@ abbrev pub invariant-loop-tile : goal.invariant-loop-tile
 invariant-loop-tile g l = record {
   exact : Adds (FromOne Contains (take l.tile-index l.tiles)) [] l.all.items;
   cells : (c : Cell) → Contains l.all.items c → IsCell g.G.Grid.geometry c;
-  within : (c : Cell) → Contains l.all.items c → IsWithin 1000000 c
+  within : (c : Cell) → Contains l.all.items c → IsWithin 1000000 c;
 }

@@ -8,5 +8,5 @@ use Rattle.heesch_place.proofs.onto.radius.Given as goal
 abbrev pub invariant-loop-c : goal.invariant-loop-c
 invariant-loop-c l = record {
   within : (c : Cell) → has (take l.c-index l.cells) c ≡ true → IsWithin l.radius c;
-  bound : (n : ℕ) → ((c : Cell) → has l.cells c ≡ true → IsWithin n c) → l.radius ≤ n
+  bound : (n : ℕ) → ((c : Cell) → has l.cells c ≡ true → IsWithin n c) → l.radius ≤ n;
 }

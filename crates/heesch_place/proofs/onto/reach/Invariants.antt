@@ -8,5 +8,5 @@ use Rattle.heesch_place.proofs.onto.reach.Given as goal
 abbrev pub invariant-loop-tile : goal.invariant-loop-tile
 invariant-loop-tile g l = record {
   within : (t : List Cell) (first c : Cell) → Contains (take l.tile-index l.tiles) t → IsFirstOf t first → has t c ≡ true → IsWithin l.reach (minus first c);
-  bound : l.reach ≤ 10000
+  bound : l.reach ≤ 10000;
 }

@@ -9,5 +9,5 @@ abbrev pub invariant-loop-k : goal.invariant-loop-k
 invariant-loop-k g l = record {
   universe : IsUniverse g.G.Grid.geometry l.prototile (l.k - 1) (map (λ e. record { level = e.level; tile = e.place.tile }) l.entries.items);
   least : HaveLeast (λ e. record { level = e.level; tile = e.place.tile }) (λ e. e.place.by) g.G.Grid.geometry l.prototile l.entries.items;
-  outer : ListsExactly cells_before (IsAtLevel g.G.Grid.geometry l.prototile l.k) l.tiles.items
+  outer : ListsExactly cells_before (IsAtLevel g.G.Grid.geometry l.prototile l.k) l.tiles.items;
 }

@@ -25,7 +25,7 @@ loop-k-preserved g c =
     let shape = c.args.shape.now in
     let tile = c.image-tile.result in
     none_more geometry shape tile c.loop-k.k c.loop-k.invariant (λ other turn l.
-        c.in_default.ensures.none other (leads geometry c.loop-k.k other shape c.turned.result.items tile turn c.turned.ensures.list l ∙ ap (map (plus (step_of geometry other))) (sym c.as_slice.ensures.value)))
+    c.in_default.ensures.none other (leads geometry c.loop-k.k other shape c.turned.result.items tile turn c.turned.ensures.list l ∙ ap (map (plus (step_of geometry other))) (sym c.as_slice.ensures.value)))
 
 pub returns-clause-least : goal.returns-clause-least
 returns-clause-least g c =

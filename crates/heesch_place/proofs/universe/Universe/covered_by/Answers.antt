@@ -43,6 +43,6 @@ returns-then-self-up_to g c =
     let at = (goal.at.returns-then-self-up_to g c).After-covering-numbers in
     let vars = map (variable g) c.self.inside.entries.items in
     covering_all vars c.args.up_to c.args.c c.covering-numbers.result.now (with_cell g at) (λ x m.
-        let top = (All-contains (IsVariable g.G.Grid.geometry c.self.inside.shape c.self.inside.level) vars x c.self.invariant.universe.only m).level_to in
-        omega (arith, top, c.if-self-up_to.true))
+    let top = (All-contains (IsVariable g.G.Grid.geometry c.self.inside.shape c.self.inside.level) vars x c.self.invariant.universe.only m).level_to in
+    omega (arith, top, c.if-self-up_to.true))
     ∙ ap (λ vs. covering vs c.args.up_to c.args.c) (view g at)
