@@ -1,9 +1,9 @@
 -- What is kept of the placements over targets is a level.
-use Rattle.std.proofs.Common.{◌≡◌, ℕ, ◌+◌, ◌-◌, Bool, true, false, not, ◌&&◌, List, [], ◌∷◌, filter, get_or, Contains, sym, ap, subst, ◌∙◌, arith, inl, inr, true≢false}
+use Rattle.std.proofs.Common.{◌≡◌, refl, ℕ, ◌+◌, ◌-◌, Bool, true, false, not, ◌&&◌, List, [], ◌∷◌, ◌++◌, filter, get_or, Contains, sym, ap, subst, ◌∙◌, arith, inl, inr, true≢false}
 use Rattle.std.specs.List.{list_any}
 use Rattle.std.proofs.lemmas.Int.{ints}
 use Rattle.std.proofs.lemmas.Bool.{and_parts, and_from, cases_Bool, not-true, not_from_false}
-use Rattle.std.proofs.lemmas.List.Elements.{All-contains}
+use Rattle.std.proofs.lemmas.List.Elements.{All-contains, Contains-append_cases, Contains-append_left, Contains-append_right}
 use Rattle.heesch_grid.specs.declared.Cell.{Cell}
 use Rattle.heesch_grid.specs.Listing.{ListsExactly}
 use Rattle.heesch_grid.specs.Cells.{cell_before, cells_before, has, meet}
@@ -19,8 +19,9 @@ use Rattle.heesch_grid.proofs.ListFacts.{All-from_members, rising_filter, filter
 use Rattle.heesch_grid.proofs.TileFacts.{Apart-symmetric, contact, touch_by}
 use Rattle.heesch_index.specs.Covering.{numbers_with}
 use Rattle.heesch_index.proofs.NumberFacts.{numbers_with-range, has-numbers_with, Contains-numbers_with}
-use Rattle.heesch_place.specs.Found.{FromOne, TouchesSome, IsPlacementOver, IsBeyond, is_apart_at}
-use Rattle.heesch_place.proofs.Gathering.{member_at, any_default}
+use Rattle.heesch_index.specs.Marking.{Marked, is_marked}
+use Rattle.heesch_place.specs.Found.{Adds, FromOne, TouchesSome, AreNear, IsPlacementOver, IsBeyond, is_apart_at}
+use Rattle.heesch_place.proofs.Gathering.{member_at, any_default, adds_same, was_added}
 
 -- what passes a test of a list of exactly what has a property
 filtered : {X : Type 0} (before : X → X → Bool) (P Q : X → Type 0) (test : X → Bool) (xs ys : List X) → ys ≡ filter test xs → ListsExactly before P xs → ((x : X) → P x → test x ≡ true → Q x) → ((x : X) → Q x → P x × (test x ≡ true)) → ListsExactly before Q ys
@@ -33,9 +34,9 @@ filtered {X} before P Q test xs ys is l f h =
 
 module _ (g : Geometry) (law : IsGrid g) (shape : List Cell) where
   -- a cell that touches a cell of the tile is one of the targets
-  pub targets_near : (tiles : List (List Cell)) (targets : List Cell) → ListsExactly cell_before (TouchesSome g tiles) targets → ((tile : List Cell) (c : Cell) → Contains tiles tile → has tile c ≡ true → IsWithin 90000 c) → (c : Cell) → has targets c ≡ true → IsWithin 100000 c
+  pub targets_near : (tiles : List (List Cell)) (targets : List Cell) → Adds (TouchesSome g tiles) [] targets → ((tile : List Cell) (c : Cell) → Contains tiles tile → has tile c ≡ true → IsWithin 90000 c) → (c : Cell) → has targets c ≡ true → IsWithin 100000 c
   targets_near tiles targets l near c h =
-      let t = All-contains (TouchesSome g tiles) targets c l.only (has-true targets c h) in
+      let t = was_added (TouchesSome g tiles) targets c l (has-true targets c h) in
       let w = near t.source t.gives.source t.inside (has-is t.source t.gives.source t.gives.inside) in
       let n = touching_near g law t.gives.source c t.gives.gives in
       record { a_low = omega (arith, ints, w.a_low, n.a_low); a_high = omega (arith, ints, w.a_high, n.a_high); b_low = omega (arith, ints, w.b_low, n.b_low); b_high = omega (arith, ints, w.b_high, n.b_high) }
@@ -48,17 +49,17 @@ module _ (g : Geometry) (law : IsGrid g) (shape : List Cell) where
       ]
 
   -- ---- the first level
-  pub first_level : (targets : List Cell) (tiles kept : List (List Cell)) → ListsExactly cell_before (TouchesSome g (shape ∷ [])) targets → ListsExactly cells_before (IsPlacementOver g shape targets) tiles → kept ≡ filter (λ t. not (meet t shape)) tiles → ListsExactly cells_before (IsAtLevel g shape 1) kept
+  pub first_level : (targets : List Cell) (tiles kept : List (List Cell)) → Adds (TouchesSome g (shape ∷ [])) [] targets → ListsExactly cells_before (IsPlacementOver g shape targets) tiles → kept ≡ filter (λ t. not (meet t shape)) tiles → ListsExactly cells_before (IsAtLevel g shape 1) kept
   first_level targets tiles kept around over is =
       filtered cells_before (IsPlacementOver g shape targets) (IsAtLevel g shape 1) (λ t. not (meet t shape)) tiles kept is over
       (λ t p a.
       let d = meet-true targets t p.meets in
-      let from = All-contains (TouchesSome g (shape ∷ [])) targets d.0 around.only d.1 in
+      let from = was_added (TouchesSome g (shape ∷ [])) targets d.0 around d.1 in
       let in_shape : Contains shape from.gives.source = elim (member_cases shape [] from.source from.inside) [ inl e ↦ subst (λ z. Contains z from.gives.source) (sym e) from.gives.inside | inr none ↦ absurd (no_member from.source none) ] in
       (p.placement, touch_by g shape t (record { apart = Apart-symmetric t shape (not-true (meet t shape) a); first = from.gives.source; second = d.0; in_first = in_shape; in_second = d.2; touching = from.gives.gives })))
       (λ t l.
       let k = contact g shape t l.1 in
-      let target = around.every k.second (record { source = shape; inside = member_here shape []; gives = record { source = k.first; inside = k.in_first; gives = k.touching } }) in
+      let target = around.all k.second (record { source = shape; inside = member_here shape []; gives = record { source = k.first; inside = k.in_first; gives = k.touching } }) in
       (record { placement = l.0; meets = meet-is targets t k.second target k.in_second }, not_from_false (meet t shape) (Apart-symmetric shape t k.apart)))
 
   -- ---- the next level
@@ -71,7 +72,7 @@ module _ (g : Geometry) (law : IsGrid g) (shape : List Cell) where
   not_touch : (t : List Cell) → (Touch g shape t → ⊥) → touch g shape t ≡ false
   not_touch t n = elim (cases_Bool (touch g shape t)) [ inl e ↦ absurd (n e) | inr f ↦ f ]
 
-  pub next_level : (inner : List (List Cell)) (targets : List Cell) (tiles kept : List (List Cell)) → ListsExactly cell_before (TouchesSome g inner) targets → ListsExactly cells_before (IsPlacementOver g shape targets) tiles → kept ≡ filter (λ t. (not (meet shape t) && not (touch g shape t)) && list_any (λ s. touch g s t) inner) tiles → ListsExactly cells_before (IsBeyond g shape inner) kept
+  pub next_level : (inner : List (List Cell)) (targets : List Cell) (tiles kept : List (List Cell)) → Adds (TouchesSome g inner) [] targets → ListsExactly cells_before (IsPlacementOver g shape targets) tiles → kept ≡ filter (λ t. (not (meet shape t) && not (touch g shape t)) && list_any (λ s. touch g s t) inner) tiles → ListsExactly cells_before (IsBeyond g shape inner) kept
   next_level inner targets tiles kept around over is =
       filtered cells_before (IsPlacementOver g shape targets) (IsBeyond g shape inner) (λ t. (not (meet shape t) && not (touch g shape t)) && list_any (λ s. touch g s t) inner) tiles kept is over
       (λ t p a.
@@ -81,10 +82,76 @@ module _ (g : Geometry) (law : IsGrid g) (shape : List Cell) where
       (λ t l.
       let s = l.touched in
       let k = contact g s.source t s.gives in
-      let target = around.every k.second (record { source = s.source; inside = s.inside; gives = record { source = k.first; inside = k.in_first; gives = k.touching } }) in (
+      let target = around.all k.second (record { source = s.source; inside = s.inside; gives = record { source = k.first; inside = k.in_first; gives = k.touching } }) in (
         record { placement = l.placement; meets = meet-is targets t k.second target k.in_second },
         and_from (not (meet shape t) && not (touch g shape t)) (list_any (λ s. touch g s t) inner) (and_from (not (meet shape t)) (not (touch g shape t)) (not_from_false (meet shape t) l.apart) (not_from_false (touch g shape t) (not_touch t l.clear))) (source_any inner t s),
       ))
+
+-- ---- cells around tiles, each once
+module _ (g : Geometry) (tiles : List (List Cell)) (covered once : List Cell) (marks : Marked) (exact : Adds (FromOne Contains tiles) [] covered) (marked : (c : Cell) → is_marked marks c ≡ has covered c) (listed : ListsExactly cell_before (λ c. is_marked marks c ≡ true) once) where
+  pub once_covered : (c : Cell) → Contains once c → Contains covered c
+  once_covered c m = has-true covered c (sym (marked c) ∙ All-contains (λ d. is_marked marks d ≡ true) once c listed.only m)
+
+  pub around_once : (all : List Cell) → Adds (FromOne (Touching g) once) [] all → Adds (TouchesSome g tiles) [] all
+  around_once all a =
+      adds_same (FromOne (Touching g) once) (TouchesSome g tiles) [] all
+      (λ c h.
+      let t = was_added (FromOne Contains tiles) covered h.source exact (once_covered h.source h.inside) in
+      record { source = t.source; inside = t.inside; gives = record { source = h.source; inside = t.gives; gives = h.gives } })
+      (λ c h.
+      let s = h.gives.source in
+      record { source = s; inside = listed.every s (marked s ∙ has-is covered s (exact.all s (record { source = h.source; inside = h.inside; gives = h.gives.inside }))); gives = h.gives.gives })
+      a
+
+-- marks of the shape's cells and of those around them
+module _ (g : Geometry) (shape : List Cell) (marks : Marked) where
+  pub near_of : (touching all : List Cell) → Adds (TouchesSome g (shape ∷ [])) [] touching → all ≡ touching ++ shape → ((c : Cell) → is_marked marks c ≡ has all c) → AreNear g shape marks
+  near_of touching all a is marked = record {
+    only = λ c h. elim (Contains-append_cases touching shape c (subst (λ zs. Contains zs c) is (has-true all c (sym (marked c) ∙ h)))) [
+      | inl t ↦ inr (let s = was_added (TouchesSome g (shape ∷ [])) touching c a t in elim (member_cases shape [] s.source s.inside) [ inl e ↦ subst (λ z. FromOne (Touching g) z c) (sym e) s.gives | inr none ↦ absurd (no_member s.source none) ])
+      | inr m ↦ inl m
+    ];
+    own = λ c m. marked c ∙ has-is all c (subst (λ zs. Contains zs c) (sym is) (Contains-append_right touching shape c m));
+    touching = λ c h. marked c ∙ has-is all c (subst (λ zs. Contains zs c) (sym is) (Contains-append_left touching shape c (a.all c (record { source = shape; inside = member_here shape []; gives = h }))));
+  }
+
+  module _ (near : AreNear g shape marks) (tile : List Cell) where
+    not_true : (b : Bool) → (b ≡ true → ⊥) → b ≡ false
+    not_true true f = absurd (f refl)
+    not_true false f = refl
+
+    pub clear_is : not (list_any (is_marked marks) tile) ≡ (not (meet shape tile) && not (touch g shape tile))
+    clear_is = same_truth (not (list_any (is_marked marks) tile)) (not (meet shape tile) && not (touch g shape tile)) forth back
+      where
+        forth : not (list_any (is_marked marks) tile) ≡ true → (not (meet shape tile) && not (touch g shape tile)) ≡ true
+        forth h =
+            let none : (c : Cell) → Contains tile c → is_marked marks c ≡ true → ⊥ = λ c m k. true≢false (sym (member_any (is_marked marks) tile c m k) ∙ not-true (list_any (is_marked marks) tile) h) in
+            and_from (not (meet shape tile)) (not (touch g shape tile))
+            (not_from_false (meet shape tile) (not_true (meet shape tile) (λ k. let d = meet-true shape tile k in none d.0 d.2 (near.own d.0 d.1))))
+            (not_from_false (touch g shape tile) (not_true (touch g shape tile) (λ k. let d = contact g shape tile k in none d.second d.in_second (near.touching d.second (record { source = d.first; inside = d.in_first; gives = d.touching })))))
+
+        back : (not (meet shape tile) && not (touch g shape tile)) ≡ true → not (list_any (is_marked marks) tile) ≡ true
+        back h =
+            let b = and_parts (not (meet shape tile)) (not (touch g shape tile)) h in
+            let apart : meet shape tile ≡ false = not-true (meet shape tile) b.0 in
+            let clear : touch g shape tile ≡ false = not-true (touch g shape tile) b.1 in
+            not_from_false (list_any (is_marked marks) tile) (not_true (list_any (is_marked marks) tile) (λ k.
+            let c = any_member (is_marked marks) tile k in
+            elim (near.only c.0 c.2) [
+              | inl m ↦ true≢false (sym (meet-is shape tile c.0 m c.1) ∙ apart)
+              | inr s ↦ true≢false (sym (touch_by g shape tile (record { apart = apart; first = s.source; second = c.0; in_first = s.inside; in_second = c.1; touching = s.gives })) ∙ clear)
+            ]))
+
+-- a tile with the cell of its own is not apart from itself
+pub apart_own : (inner : List (List Cell)) (tile : List Cell) (c : Cell) → has tile c ≡ true → false ≡ is_apart_at inner tile c
+apart_own inner tile c h = sym (go (is_apart_at inner tile c) refl)
+  where
+    go : (b : Bool) → is_apart_at inner tile c ≡ b → is_apart_at inner tile c ≡ false
+    go false e = e
+    go true e =
+        let t = any_member (λ t. has t c && not (meet t tile)) inner e in
+        let b = and_parts (has t.0 c) (not (meet t.0 tile)) t.2 in
+        absurd (true≢false (sym (meet-is t.0 tile c (has-true t.0 c b.0) (has-true tile c h)) ∙ not-true (meet t.0 tile) b.1))
 
 -- ---- tiles by their numbers
 pub numbered_any : (inner : List (List Cell)) (tile : List Cell) (c : Cell) → list_any (λ n. not (meet (get_or inner (n - 1) []) tile)) (numbers_with inner c) ≡ is_apart_at inner tile c

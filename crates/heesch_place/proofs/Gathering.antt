@@ -50,6 +50,21 @@ module _ {X : Type 0} where
     ];
   }
 
+  pub adds_list : (ys old new : List X) → new ≡ old ++ ys → Adds (Contains ys) old new
+  adds_list ys old new is = record {
+    kept = λ x m. subst (λ zs. Contains zs x) (sym is) (Contains-append_left old ys x m);
+    all = λ x m. subst (λ zs. Contains zs x) (sym is) (Contains-append_right old ys x m);
+    only = λ x m. Contains-append_cases old ys x (subst (λ zs. Contains zs x) is m);
+  }
+
+  -- what was added to none
+  pub was_added : (P : X → Type 0) (new : List X) (x : X) → Adds P [] new → Contains new x → P x
+  was_added P new x a m = elim (a.only x m) [ inl none ↦ absurd (no_member x none) | inr h ↦ h ]
+
+  -- what the old list and what is added have, the new list has
+  pub kept_more : (P : X → Type 0) (old ys new : List X) → new ≡ old ++ ys → ((x : X) → Contains old x → P x) → ((x : X) → Contains ys x → P x) → (x : X) → Contains new x → P x
+  kept_more P old ys new is f h x m = elim (Contains-append_cases old ys x (subst (λ zs. Contains zs x) is m)) [ inl o ↦ f x o | inr o ↦ h x o ]
+
   module _ {Y : Type 0} (R : Y → X → Type 0) (ys : List Y) where
     pub from_none : (old : List X) → Adds (FromOne R []) old old
     from_none old = adds_nothing (FromOne R []) old (λ x h. no_member h.source h.inside)

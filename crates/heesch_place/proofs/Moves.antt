@@ -1,5 +1,5 @@
 -- Moves of cell lists, and isometries that differ by a move.
-use Rattle.std.proofs.Common.{◌≡◌, refl, sym, ap, subst, ◌∙◌, ℕ, zero, suc, ◌+◌, ◌<◌, ◌≤◌, true, List, [], ◌∷◌, ◌++◌, map, length, get_or, take, ℤ, pos, ◌*ℤ◌, inl, inr, arith, All, Contains}
+use Rattle.std.proofs.Common.{◌≡◌, refl, sym, ap, subst, ◌∙◌, ℕ, zero, suc, ◌+◌, ◌*◌, ◌<◌, ◌≤◌, true, List, [], ◌∷◌, ◌++◌, map, length, get_or, take, ℤ, pos, ◌*ℤ◌, inl, inr, arith, Contains}
 use Rattle.std.specs.Prelude.{nat_lt, false}
 use Rattle.std.proofs.lemmas.Int.{ints}
 use Rattle.std.proofs.lemmas.Bool.{cases_Bool}
@@ -10,11 +10,13 @@ use Rattle.heesch_grid.specs.declared.Cell.{Cell}
 use Rattle.heesch_grid.specs.declared.isometries.Iso.{Iso}
 use Rattle.heesch_grid.specs.Lists.{rising_by_test}
 use Rattle.heesch_grid.specs.Cells.{cell, cell_before, has, IsCellListOf}
-use Rattle.heesch_grid.specs.Geometry.{Geometry, IsIsometry, apply, image}
+use Rattle.heesch_grid.specs.Geometry.{Geometry, IsGrid, IsIsometry, apply, image}
+use Rattle.heesch_grid.specs.Listing.{IsRising}
 use Rattle.heesch_grid.specs.Placement.{IsLeastIsometry}
 use Rattle.heesch_grid.specs.Vectors.{AreUnitsOf, IsWithin, plus}
 use Rattle.heesch_grid.specs.Pairs.{Cell-eta}
 use Rattle.heesch_grid.specs.PatternLaws.{rises_moved}
+use Rattle.heesch_grid.proofs.Images.{unit_product}
 use Rattle.heesch_grid.proofs.CellFacts.{cell_before-irreflexive, cell_before-asymmetric, has-is}
 use Rattle.heesch_grid.proofs.ListFacts.{same_listing, All-from_members}
 use Rattle.heesch_grid.proofs.WindowFacts.{member_map, map_member}
@@ -59,30 +61,36 @@ pub image_list : (g : Geometry) (by : Iso) (shape turned : List Cell) → IsCell
 image_list g by shape turned l =
     subst (λ zs. IsCellListOf zs (map (plus (move_of g by)) turned)) (moved_image g by shape) (moved_list (move_of g by) (map (g.turn by.turn) shape) turned l)
 
-move_is : (g : Geometry) (unit : ℤ) (by : Iso) (units s : Cell) → unit ≡ pos g.unit → by.da ≡ units.a → by.db ≡ units.b → AreUnitsOf unit units s → move_of g by ≡ s
+pub move_is : (g : Geometry) (unit : ℤ) (by : Iso) (units s : Cell) → unit ≡ pos g.unit → by.da ≡ units.a → by.db ≡ units.b → AreUnitsOf unit units s → move_of g by ≡ s
 move_is g unit by units s e ea eb h =
     Cell-eta (move_of g by) s (ap (λ u. u *ℤ by.da) (sym e) ∙ ap (λ z. unit *ℤ z) ea ∙ h.in_a) (ap (λ u. u *ℤ by.db) (sym e) ∙ ap (λ z. unit *ℤ z) eb ∙ h.in_b)
-
--- an isometry of the turn whose move takes the turned cells to the tile gives the tile
-pub gives_tile : (g : Geometry) (unit : ℤ) (by : Iso) (units s : Cell) (shape turned tile : List Cell) → unit ≡ pos g.unit → by.da ≡ units.a → by.db ≡ units.b → AreUnitsOf unit units s → IsCellListOf (map (g.turn by.turn) shape) turned → tile ≡ map (plus s) turned → IsCellListOf (image g by shape) tile
-gives_tile g unit by units s shape turned tile e ea eb h l is =
-    subst (IsCellListOf (image g by shape)) (ap (λ m. map (plus m) turned) (move_is g unit by units s e ea eb h) ∙ sym is) (image_list g by shape turned l)
 
 pub plus_once : (s t c : Cell) → plus s c ≡ plus t c → s ≡ t
 plus_once s t c e = let a = ap (λ z. z.a) e in let b = ap (λ z. z.b) e in Cell-eta s t (omega (arith, ints, a)) (omega (arith, ints, b))
 
-head_of : (x y : Cell) (xs ys : List Cell) → x ∷ xs ≡ y ∷ ys → x ≡ y
+pub head_of : (x y : Cell) (xs ys : List Cell) → x ∷ xs ≡ y ∷ ys → x ≡ y
 head_of x y xs ys e = cc
 
--- an isometry of the turn that gives the tile moves the first turned cell to the first cell of the tile
+-- a move that takes a list to another takes the first cell to the first cell
+pub one_step : (from to : List Cell) (x y s m : Cell) → IsFirstOf from x → IsFirstOf to y → plus s x ≡ y → to ≡ map (plus m) from → m ≡ s
+one_step from to x y s m fx fy d is =
+    let first : plus m x ∷ map (plus m) fx.rest ≡ y ∷ fy.rest = sym (ap (map (plus m)) fx.is) ∙ sym is ∙ fy.is in
+    plus_once m s x (head_of (plus m x) y (map (plus m) fx.rest) fy.rest first ∙ sym d)
+
+-- an isometry of the turn gives the tile just where its move takes the turned cells to the tile
+pub led : (g : Geometry) (k : ℕ) (by : Iso) (shape turned tile : List Cell) → by.turn ≡ k → IsCellListOf (map (g.turn k) shape) turned → tile ≡ map (plus (move_of g by)) turned → IsCellListOf (image g by shape) tile
+led g k by shape turned tile turn t is = subst (IsCellListOf (image g by shape)) (sym is) (image_list g by shape turned (subst (λ j. IsCellListOf (map (g.turn j) shape) turned) (sym turn) t))
+
+pub leads : (g : Geometry) (k : ℕ) (by : Iso) (shape turned tile : List Cell) → by.turn ≡ k → IsCellListOf (map (g.turn k) shape) turned → IsCellListOf (image g by shape) tile → tile ≡ map (plus (move_of g by)) turned
+leads g k by shape turned tile turn t l =
+    one_cell_list (image g by shape) tile (map (plus (move_of g by)) turned) l (image_list g by shape turned (subst (λ j. IsCellListOf (map (g.turn j) shape) turned) (sym turn) t))
+
+-- and so it moves the first turned cell to the first cell of the tile
 pub must_move : (g : Geometry) (k : ℕ) (by : Iso) (shape turned tile : List Cell) (x y s : Cell) → by.turn ≡ k → IsCellListOf (map (g.turn k) shape) turned → IsCellListOf (image g by shape) tile → IsFirstOf turned x → IsFirstOf tile y → plus s x ≡ y → (move_of g by ≡ s) × (tile ≡ map (plus s) turned)
 must_move g k by shape turned tile x y s turn t l fx fy d =
-    let m = move_of g by in
-    let here = subst (λ j. IsCellListOf (map (g.turn j) shape) turned) (sym turn) t in
-    let same : tile ≡ map (plus m) turned = one_cell_list (image g by shape) tile (map (plus m) turned) l (image_list g by shape turned here) in
-    let first : plus m x ∷ map (plus m) fx.rest ≡ y ∷ fy.rest = sym (ap (map (plus m)) fx.is) ∙ sym same ∙ fy.is in
-    let e : m ≡ s = plus_once m s x (head_of (plus m x) y (map (plus m) fx.rest) fy.rest first ∙ sym d) in
-    (e, same ∙ ap (λ z. map (plus z) turned) e)
+    let is = leads g k by shape turned tile turn t l in
+    let e : move_of g by ≡ s = one_step turned tile x y s (move_of g by) fx fy d is in
+    (e, is ∙ ap (λ z. map (plus z) turned) e)
 
 pub must_be_units : (g : Geometry) (unit : ℤ) (by : Iso) (s : Cell) → unit ≡ pos g.unit → move_of g by ≡ s → AreUnitsOf unit (cell by.da by.db) s
 must_be_units g unit by s e h = record { in_a = ap (λ u. u *ℤ by.da) e ∙ ap (λ c. c.a) h; in_b = ap (λ u. u *ℤ by.db) e ∙ ap (λ c. c.b) h }
@@ -117,6 +125,28 @@ none_more g shape tile k old now other less l =
     equal : (m n : ℕ) → m < n + 1 → nat_lt m n ≡ false → m ≡ n
     equal m n l e = grind arith
 
--- the image of a shape with the cells of the tile lies where the tile lies
-pub image_within : (g : Geometry) (by : Iso) (shape tile : List Cell) → IsCellListOf (image g by shape) tile → ((c : Cell) → has tile c ≡ true → IsWithin 1000000 c) → All (IsWithin 1000000) (image g by shape)
-image_within g by shape tile l within = All-from_members (IsWithin 1000000) (image g by shape) (λ c m. within c (has-is tile c (l.every c m)))
+-- ---- moves without a turn
+module _ (g : Geometry) (law : IsGrid g) where
+  unturned : (xs : List Cell) → map (g.turn 0) xs ≡ xs
+  unturned [] = refl
+  unturned (x ∷ xs) = λ i. law.identity x i ∷ unturned xs i
+
+  -- the image of a list in cell order by a move is the moved list
+  pub carried : (by : Iso) (xs ys : List Cell) → by.turn ≡ 0 → IsRising cell_before xs → IsCellListOf (image g by xs) ys → ys ≡ map (plus (move_of g by)) xs
+  carried by xs ys turn r l =
+      leads g 0 by xs xs ys turn (subst (λ zs. IsCellListOf zs xs) (sym (unturned xs)) (record { rising = r; only = All-from_members (Contains xs) xs (λ c m. m); every = λ c m. m })) l
+
+  -- a move by few units is short
+  pub step_near : (by : Iso) (units : Cell) (n : ℕ) → by.da ≡ units.a → by.db ≡ units.b → IsWithin n units → IsWithin (6 * n) (move_of g by)
+  step_near by units n ea eb w =
+      let a = unit_product g law (pos g.unit *ℤ by.da) (pos g.unit) by.da units.a n refl refl ea w.a_low w.a_high in
+      let b = unit_product g law (pos g.unit *ℤ by.db) (pos g.unit) by.db units.b n refl refl eb w.b_low w.b_high in
+      record { a_low = a.1; a_high = a.2; b_low = b.1; b_high = b.2 }
+
+  -- and lies near where the list lies
+  pub carried_near : (by : Iso) (xs : List Cell) (n m : ℕ) → by.turn ≡ 0 → ((c : Cell) → has xs c ≡ true → IsWithin n c) → IsWithin m (move_of g by) → (d : Cell) → Contains (image g by xs) d → IsWithin (n + m) d
+  carried_near by xs n m turn near w d inside =
+      let c = map_member (apply g by) xs d inside in
+      let v = near c.0 (has-is xs c.0 c.1) in
+      let e : apply g by c.0 ≡ plus (move_of g by) c.0 = sym (applied g by c.0) ∙ ap (λ k. plus (move_of g by) (g.turn k c.0)) turn ∙ ap (plus (move_of g by)) (law.identity c.0) in
+      subst (IsWithin (n + m)) (sym e ∙ c.2) (record { a_low = omega (arith, ints, v.a_low, w.a_low); a_high = omega (arith, ints, v.a_high, w.a_high); b_low = omega (arith, ints, v.b_low, w.b_low); b_high = omega (arith, ints, v.b_high, w.b_high) })

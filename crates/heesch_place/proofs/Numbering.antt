@@ -1,18 +1,18 @@
 -- Variables by their numbers: a binary search, and the numbers that have a cell.
-use Rattle.std.proofs.Common.{◌≡◌, ℕ, zero, suc, ◌+◌, ◌-◌, ◌<◌, ◌≤◌, Bool, true, false, cond, ◌||◌, ◌&&◌, ◌==◌, List, [], ◌∷◌, ◌++◌, map, filter, length, take, get_or, Contains, Ordering, refl, sym, ap, subst, ◌∙◌, arith, inl, inr, true≢false}
+use Rattle.std.proofs.Common.{◌≡◌, ℕ, zero, suc, ◌+◌, ◌-◌, ◌<◌, ◌≤◌, Bool, true, false, cond, ◌||◌, ◌&&◌, ◌==◌, List, [], ◌∷◌, map, filter, length, take, get_or, Contains, Ordering, refl, sym, ap, subst, ◌∙◌, arith, inl, inr, true≢false}
 use Rattle.std.specs.Prelude.{IsTrue, Some, None, nat_lt, nat_le, unwrap_or, option_map}
 use Rattle.std.specs.declared.cmp.Ordering.TheVariants.{Less, Equal, Greater}
 use Rattle.std.specs.Cmp.{IsTotalOrder}
 use Rattle.std.specs.Cmp.Lexicographic.{slice_cmp}
 use Rattle.std.specs.List.{enumerate_from, slice_get, HoldsAt}
-use Rattle.std.specs.List.Sorted.{IsNonDecreasingBy, IsPartitionPoint}
+use Rattle.std.specs.List.Sorted.{IsNonDecreasingBy, IsPartitionedBy, IsPartitionPoint}
 use Rattle.std.specs.Ordering.{is_lt, is_eq, nat_cmp, ordering_index, ordering_then, ordering_reverse}
 use Rattle.std.proofs.Math.Seq.{take-length}
 use Rattle.std.proofs.lemmas.Bool.{and_parts, or_cases, cases_lt, le-leb, eqb-true, ltb-true}
 use Rattle.std.proofs.lemmas.Bool.Decides.{nat_tests}
 use Rattle.std.proofs.lemmas.Cmp.{then_total, on_total, nat_cmp_total, tied_itself}
-use Rattle.std.proofs.lemmas.List.{take_more}
-use Rattle.std.proofs.lemmas.List.Elements.{All-contains, Contains-append_cases}
+use Rattle.std.proofs.lemmas.List.Elements.{All-contains}
+use Rattle.std.proofs.lemmas.List.Sorted.{IsPartitionedBy-leb, IsNonDecreasingBy-from_default}
 use Rattle.std.proofs.lemmas.Option.{slice_get-map, get_or_from_slice_get}
 use Rattle.heesch_grid.specs.declared.Cell.{Cell}
 use Rattle.heesch_grid.specs.Cells.{cell_cmp, cells_before, has}
@@ -20,13 +20,13 @@ use Rattle.heesch_grid.specs.CoronaFormula.{Variable, variable_before, covers, I
 use Rattle.heesch_grid.specs.Integers.{same_truth}
 use Rattle.heesch_grid.specs.Listing.{IsRising}
 use Rattle.heesch_grid.proofs.ClauseFacts.{entry_at}
-use Rattle.heesch_grid.proofs.ListFacts.{member_cases, member_here, member_there, no_member, All-from_members}
+use Rattle.heesch_grid.proofs.ListFacts.{member_here, member_there, member_at as member_of_get}
 use Rattle.heesch_grid.proofs.OrderFacts.{cells_less}
 use Rattle.heesch_shape.specs.Order.{list_total}
 use Rattle.heesch_index.specs.Covering.{numbers_with}
 use Rattle.heesch_index.proofs.NumberFacts.{IsRising-numbers_with, numbers_with-at}
-use Rattle.heesch_place.specs.Universes.{LevelsUpTo, covering, variable_cmp}
-use Rattle.heesch_place.proofs.Gathering.{member_at}
+use Rattle.heesch_place.specs.Universes.{covering, level_at, variable_cmp}
+use Rattle.heesch_place.proofs.Gathering.{member_at, any_default}
 use Rattle.heesch_place.proofs.Sorting.{tied_lists}
 
 -- ---- the order of variables
@@ -205,119 +205,87 @@ filter_front p (n ∷ ns) zero good bad =
 filter_front p (n ∷ ns) (suc i) good bad =
     ap (λ b. cond b (n ∷ filter p ns) (filter p ns)) (good 0 (omega arith) (omega arith)) ∙ ap (λ ys. n ∷ ys) (filter_front p ns i (λ j l m. good (suc j) (omega arith) (omega arith)) (λ j l m. bad (suc j) (omega arith) (omega arith)))
 
+-- the order goes by level first
+before_levels : (x y : Variable) → variable_before x y ≡ true → x.level ≤ y.level
+before_levels x y h =
+    elim (or_cases (nat_lt x.level y.level) (x.level == y.level && cells_before x.tile y.tile) h) [
+      | inl l ↦ let m = ltb-true x.level y.level l in omega arith
+      | inr l ↦ let e = eqb-true x.level y.level (and_parts (x.level == y.level) (cells_before x.tile y.tile) l).0 in omega arith
+    ]
+
 module _ (vars : List Variable) (k : ℕ) (c : Cell) where
-  level_at : ℕ → ℕ
-  level_at n = unwrap_or (option_map (λ (x : Variable). x.level) (slice_get vars (n - 1))) 0
+  abbrev levels : List ℕ
+  levels = map (λ (x : Variable). x.level) vars
 
-  level_is : (n : ℕ) (x : Variable) → slice_get vars (n - 1) ≡ Some x → level_at n ≡ x.level
-  unfolding level_at
-  level_is n x e = ap (λ o. unwrap_or (option_map (λ (x : Variable). x.level) o) 0) e
+  -- the test of a number by its level
+  abbrev pub is_low : ℕ → Bool
+  is_low n = nat_le (level_at (map (λ (x : Variable). x.level) vars) n) k
 
-  covering_is : covering vars k c ≡ filter (λ n. nat_le (level_at n) k) (numbers_with (map (λ x. x.tile) vars) c)
+  level_is : (n : ℕ) (x : Variable) → slice_get vars (n - 1) ≡ Some x → level_at levels n ≡ x.level
+  level_is n x e =
+      get_or-mapped (λ (x : Variable). x.level) vars (n - 1) x 0 (some_within vars (n - 1) x e) ∙ ap (λ (z : Variable). z.level) (get_or_from_slice_get vars (n - 1) x x e)
+
+  covering_is : covering vars k c ≡ filter is_low (numbers_with (map (λ x. x.tile) vars) c)
   covering_is =
-      ap (map (λ x. x.0)) (filter_on (covers k c) (λ x. nat_le (level_at x.0) k && has x.1.tile c) (enumerate_from 1 vars) (λ x m. ap (λ l. nat_le l k && has x.1.tile c) (sym (level_is x.0 x.1 (entry_at vars 1 x m).1))))
-      ∙ filter_numbers (λ n. nat_le (level_at n) k) (λ (x : Variable). has x.tile c) (enumerate_from 1 vars)
-      ∙ ap (filter (λ n. nat_le (level_at n) k)) (sym (same_numbers (λ (x : Variable). x.tile) c 1 vars))
+      ap (map (λ x. x.0)) (filter_on (covers k c) (λ x. is_low x.0 && has x.1.tile c) (enumerate_from 1 vars) (λ x m. ap (λ l. nat_le l k && has x.1.tile c) (sym (level_is x.0 x.1 (entry_at vars 1 x m).1))))
+      ∙ filter_numbers is_low (λ (x : Variable). has x.tile c) (enumerate_from 1 vars)
+      ∙ ap (filter is_low) (sym (same_numbers (λ (x : Variable). x.tile) c 1 vars))
 
-  not_le : (m n : ℕ) → n < m → nat_le m n ≡ false
-  not_le m n l = grind (arith, nat_tests)
-
-  -- a number of the list is that of a variable
-  numbered_at : (ns : List ℕ) → ns ≡ numbers_with (map (λ x. x.tile) vars) c → (j : ℕ) → j < length ns → (x : Variable) × IsNumbered vars (get_or ns j 0) x × (level_at (get_or ns j 0) ≡ x.level)
-  numbered_at ns is j m =
-      let at = numbers_with-at (map (λ x. x.tile) vars) c ns is j m in
-      let long = length-mapped (λ (x : Variable). x.tile) vars in
-      let one = at.0 in
-      let top = at.1 in
-      let x = item_at vars (get_or ns j 0 - 1) (omega arith) in
-      (x.0, (one, x.1), level_is (get_or ns j 0) x.0 x.1)
-
-  -- the front of the numbers is the answer, where these have small levels and the next does not
-  pub covering_front : (ns : List ℕ) (i : ℕ) → ns ≡ numbers_with (map (λ x. x.tile) vars) c → LevelsUpTo vars k (take i ns) → ((j : ℕ) → i ≤ j → j < length ns → (x : Variable) → IsNumbered vars (get_or ns j 0) x → k < x.level) → take i ns ≡ covering vars k c
-  covering_front ns i is low high =
-      sym (filter_front (λ n. nat_le (level_at n) k) ns i
-      (λ j l m.
-      let x = numbered_at ns is j m in
-      let front : Contains (take i ns) (get_or ns j 0) = taken ns i j l m in
-      ap (λ z. nat_le z k) x.2 ∙ le-leb x.0.level k (All-contains (λ n. (x : Variable) → IsNumbered vars n x → x.level ≤ k) (take i ns) (get_or ns j 0) low front x.0 x.1))
-      (λ j l m. let x = numbered_at ns is j m in ap (λ z. nat_le z k) x.2 ∙ not_le x.0.level k (high j l m x.0 x.1)))
-      ∙ ap (filter (λ n. nat_le (level_at n) k)) is
-      ∙ sym covering_is
-    where
-      taken : (ns : List ℕ) (i j : ℕ) → j < i → j < length ns → Contains (take i ns) (get_or ns j 0)
-      taken [] i j l m = absurd (omega arith)
-      taken (n ∷ ns) zero j l m = absurd (omega arith)
-      taken (n ∷ ns) (suc i) zero l m = member_here n (take i ns)
-      taken (n ∷ ns) (suc i) (suc j) l m = member_there n (take i ns) (get_or ns j 0) (taken ns i j (omega arith) (omega arith))
-
--- and so the front up to the first number of a greater level
-pub covering_cut : (vars : List Variable) (k : ℕ) (c : Cell) (ns : List ℕ) (i : ℕ) → IsRising variable_before vars → ns ≡ numbers_with (map (λ x. x.tile) vars) c → LevelsUpTo vars k (take i ns) → i < length ns → ((x : Variable) → IsNumbered vars (get_or ns i 0) x → k < x.level) → take i ns ≡ covering vars k c
-covering_cut vars k c ns i rising is low less above = covering_front vars k c ns i is low high
-  where
-    high : (j : ℕ) → i ≤ j → j < length ns → (x : Variable) → IsNumbered vars (get_or ns j 0) x → k < x.level
-    high j from within x at =
-        let first = numbers_with-at (map (λ x. x.tile) vars) c ns is i less in
+  module _ (ns : List ℕ) (is : ns ≡ numbers_with (map (λ x. x.tile) vars) c) where
+    -- a number of the list is that of a variable
+    numbered_at : (j : ℕ) → j < length ns → (x : Variable) × IsNumbered vars (get_or ns j 0) x × (level_at levels (get_or ns j 0) ≡ x.level)
+    numbered_at j m =
+        let at = numbers_with-at (map (λ x. x.tile) vars) c ns is j m in
         let long = length-mapped (λ (x : Variable). x.tile) vars in
-        let one = first.0 in
-        let top = first.1 in
-        let y = item_at vars (get_or ns i 0 - 1) (omega arith) in
-        let big = above y.0 (one, y.1) in
+        let one = at.0 in
+        let top = at.1 in
+        let x = item_at vars (get_or ns j 0 - 1) (omega arith) in
+        (x.0, (one, x.1), level_is (get_or ns j 0) x.0 x.1)
+
+    -- a later number has no lower level
+    levels_rise : IsRising variable_before vars → (i j : ℕ) → i ≤ j → j < length ns → level_at levels (get_or ns i 0) ≤ level_at levels (get_or ns j 0)
+    levels_rise rising i j low within =
         elim (cases_lt i j) [
           | inl l ↦
-              let numbers_rise : get_or ns i 0 < get_or ns j 0 = ltb-true (get_or ns i 0) (get_or ns j 0) (rising_at nat_lt ns (subst (IsRising nat_lt) (sym is) (IsRising-numbers_with (map (λ x. x.tile) vars) c)) i j 0 l within) in
-              let x_in = some_within vars (get_or ns j 0 - 1) x at.1 in
-              let before = rising_at variable_before vars rising (get_or ns i 0 - 1) (get_or ns j 0 - 1) y.0 (omega arith) x_in in
-              let x_is : get_or vars (get_or ns j 0 - 1) y.0 ≡ x = get_or_from_slice_get vars (get_or ns j 0 - 1) x y.0 at.1 in
-              let ordered = before_levels y.0 x (ap (λ z. variable_before z x) (sym y.2) ∙ ap (variable_before (get_or vars (get_or ns i 0 - 1) y.0)) (sym x_is) ∙ before) in
-              omega arith
-          | inr l ↦
-              let e : i ≡ j = omega arith in
-              above x (subst (λ n. IsNumbered vars (get_or ns n 0) x) (sym e) at)
+              let x = numbered_at i (omega arith) in
+              let y = numbered_at j within in
+              let low_x = x.1.0 in
+              let low_y = y.1.0 in
+              let less : get_or ns i 0 < get_or ns j 0 = ltb-true (get_or ns i 0) (get_or ns j 0) (rising_at nat_lt ns (subst (IsRising nat_lt) (sym is) (IsRising-numbers_with (map (λ x. x.tile) vars) c)) i j 0 l within) in
+              let before = rising_at variable_before vars rising (get_or ns i 0 - 1) (get_or ns j 0 - 1) y.0 (omega arith) (some_within vars (get_or ns j 0 - 1) y.0 y.1.1) in
+              let x_is : get_or vars (get_or ns i 0 - 1) y.0 ≡ x.0 = get_or_from_slice_get vars (get_or ns i 0 - 1) x.0 y.0 x.1.1 in
+              let y_is : get_or vars (get_or ns j 0 - 1) y.0 ≡ y.0 = get_or_from_slice_get vars (get_or ns j 0 - 1) y.0 y.0 y.1.1 in
+              let ordered = before_levels x.0 y.0 (ap (λ z. variable_before z y.0) (sym x_is) ∙ ap (variable_before (get_or vars (get_or ns i 0 - 1) y.0)) (sym y_is) ∙ before) in
+              omega (arith, x.2, y.2)
+          | inr l ↦ let e : i ≡ j = omega arith in subst (λ n. level_at levels (get_or ns i 0) ≤ level_at levels (get_or ns n 0)) e (omega arith)
         ]
-      where
-        before_levels : (x y : Variable) → variable_before x y ≡ true → x.level ≤ y.level
-        before_levels x y h =
-            elim (or_cases (nat_lt x.level y.level) (x.level == y.level && cells_before x.tile y.tile) h) [
-              | inl l ↦ let m = ltb-true x.level y.level l in omega arith
-              | inr l ↦ let e = eqb-true x.level y.level (and_parts (x.level == y.level) (cells_before x.tile y.tile) l).0 in omega arith
-            ]
 
--- and the whole list, where no level is greater
-pub covering_all : (vars : List Variable) (k : ℕ) (c : Cell) (ns : List ℕ) (i : ℕ) → ns ≡ numbers_with (map (λ x. x.tile) vars) c → i ≡ length ns → LevelsUpTo vars k (take i ns) → ns ≡ covering vars k c
-covering_all vars k c ns i is e low =
-    sym (take-length ns) ∙ ap (λ n. take n ns) (sym e) ∙ covering_front vars k c ns i is low (λ j l m. absurd (omega arith))
+    pub are_parted : IsRising variable_before vars → IsPartitionedBy is_low ns
+    are_parted rising = IsPartitionedBy-leb (level_at levels) ns k (IsNonDecreasingBy-from_default (level_at levels) ns 0 (levels_rise rising))
 
--- no number is above the greatest level
-pub levels_all : (vars : List Variable) (k : ℕ) (ns : List ℕ) → ((x : Variable) → Contains vars x → x.level ≤ k) → LevelsUpTo vars k ns
-levels_all vars k ns low i d l x at =
-    low x (subst (Contains vars) (get_or_from_slice_get vars (get_or ns i d - 1) x x at.1) (member_at vars (get_or ns i d - 1) x (some_within vars (get_or ns i d - 1) x at.1)))
+    -- the numbers up to the place that parts the low levels from the others are the answer
+    pub covering_parted : (i : ℕ) → IsPartitionPoint (λ n. is_low n ≡ true) (λ n. is_low n ≡ false) ns i → take i ns ≡ covering vars k c
+    covering_parted i parts =
+        sym (filter_front is_low ns i (λ j l m. parts.0 j 0 (omega arith) l) (λ j l m. parts.1 j 0 l m)) ∙ ap (filter is_low) is ∙ sym covering_is
 
--- ---- entries by their numbers
-module _ {E : Type 0} (variable : E → Variable) (entries : List E) where
-  pub numbered_entry : (n : ℕ) (x : Variable) (e : E) → IsNumbered (map variable entries) n x → e ≡ get_or entries (n - 1) e → variable e ≡ x
-  numbered_entry n x e at is =
-      let long = length-mapped variable entries in
-      let within = some_within (map variable entries) (n - 1) x at.1 in
-      let less : n - 1 < length entries = omega arith in
-      ap variable is ∙ sym (get_or-mapped variable entries (n - 1) e x less) ∙ get_or_from_slice_get (map variable entries) (n - 1) x x at.1
+    -- and so are all, where no level is greater
+    pub covering_all : ((x : Variable) → Contains vars x → x.level ≤ k) → ns ≡ covering vars k c
+    covering_all low =
+        sym (take-length ns)
+        ∙ covering_parted (length ns) (
+          λ j d l m. ap is_low (any_default ns j d 0 m) ∙ (let x = numbered_at j m in le-leb (level_at levels (get_or ns j 0)) k (omega (arith, x.2, low x.0 (member_of_get vars (get_or ns j 0 - 1) x.0 x.1.1)))),
+          λ j d l m. absurd (omega arith),
+        )
 
-  pub levels_more : (k : ℕ) (ns : List ℕ) (i : ℕ) (e : E) → i < length ns → e ≡ get_or entries (get_or ns i 0 - 1) e → (variable e).level ≤ k → LevelsUpTo (map variable entries) k (take i ns) → LevelsUpTo (map variable entries) k (take (i + 1) ns)
-  levels_more k ns i e less is low old =
-      subst (LevelsUpTo (map variable entries) k) (sym (take_more ns i 0 less)) (All-from_members (λ n. (x : Variable) → IsNumbered (map variable entries) n x → x.level ≤ k) (take i ns ++ get_or ns i 0 ∷ []) (λ n m. elim (Contains-append_cases (take i ns) (get_or ns i 0 ∷ []) n m) [
-        | inl o ↦ All-contains (λ n. (x : Variable) → IsNumbered (map variable entries) n x → x.level ≤ k) (take i ns) n old o
-        | inr o ↦ λ x at.
-            elim (member_cases (get_or ns i 0) [] n o) [
-              | inl s ↦
-                  let at' : IsNumbered (map variable entries) (get_or ns i 0) x = subst (λ z. IsNumbered (map variable entries) z x) (sym s) at in
-                  let same = ap (λ (z : Variable). z.level) (numbered_entry (get_or ns i 0) x e at' is) in
-                  omega (arith, same, low)
-              | inr none ↦ absurd (no_member n none)
-            ]
-      ]))
-
+-- ---- entries as variables
+module _ {E : Type 0} (variable : E → Variable) where
   tiles_twice : (xs : List E) → map (λ e. (variable e).tile) xs ≡ map (λ x. x.tile) (map variable xs)
   tiles_twice [] = refl
   tiles_twice (x ∷ xs) = ap (λ ts. (variable x).tile ∷ ts) (tiles_twice xs)
 
-  pub index_tiles : (index : List (List Cell)) → index ≡ map (λ e. (variable e).tile) entries → index ≡ map (λ x. x.tile) (map variable entries)
-  index_tiles index is = is ∙ tiles_twice entries
+  pub index_tiles : (entries : List E) (index : List (List Cell)) → index ≡ map (λ e. (variable e).tile) entries → index ≡ map (λ x. x.tile) (map variable entries)
+  index_tiles entries index is = is ∙ tiles_twice entries
+
+  pub levels_twice : (xs : List E) → map (λ e. (variable e).level) xs ≡ map (λ x. x.level) (map variable xs)
+  levels_twice [] = refl
+  levels_twice (x ∷ xs) = ap (λ ls. (variable x).level ∷ ls) (levels_twice xs)

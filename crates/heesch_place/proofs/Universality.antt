@@ -1,9 +1,9 @@
 -- Levels one after another are the universe, and lie near 0.
-use Rattle.std.proofs.Common.{◌≡◌, ℕ, zero, suc, ◌+◌, ◌*◌, ◌<◌, ◌≤◌, Bool, true, ◌&&◌, ◌==◌, ◌-ℤ◌, List, [], ◌∷◌, ◌++◌, map, length, take, get_or, All, Contains, refl, sym, ap, subst, ◌∙◌, arith, inl, inr, append_assoc}
+use Rattle.std.proofs.Common.{◌≡◌, ℕ, zero, suc, ◌+◌, ◌-◌, ◌*◌, ◌≤◌, Bool, true, ◌&&◌, ◌==◌, ◌-ℤ◌, List, [], ◌∷◌, ◌++◌, map, length, All, Contains, refl, sym, ap, subst, ◌∙◌, arith, inl, inr, append_assoc}
 use Rattle.std.specs.Prelude.{IsTrue, nat_lt}
 use Rattle.std.proofs.lemmas.Int.{ints}
 use Rattle.std.proofs.lemmas.Bool.{lt-ltb, eq-eqb, or_left, or_right, and_from, cases_lt}
-use Rattle.std.proofs.lemmas.List.{take_more, map-append}
+use Rattle.std.proofs.lemmas.List.{map-append}
 use Rattle.std.proofs.lemmas.List.Elements.{All-contains, All-nil, Contains-append_cases, Contains-append_left, Contains-append_right}
 use Rattle.heesch_grid.specs.declared.Cell.{Cell}
 use Rattle.heesch_grid.specs.declared.isometries.Iso.{Iso}
@@ -138,20 +138,44 @@ module _ (g : Geometry) (shape : List Cell) where
 
 -- ---- entries
 module _ {E : Type 0} (variable : E → Variable) (by : E → Iso) (g : Geometry) (shape : List Cell) (level : ℕ) where
-  pub tiles_more : (tiles : List (List Cell)) (i : ℕ) (d : List Cell) (old mid new : List E) (e : E) → i < length tiles → AddTiles variable by g shape level (take i tiles) old mid → new ≡ mid ++ e ∷ [] → variable e ≡ record { level = level; tile = get_or tiles i d } → IsLeastIsometry g shape (variable e).tile (by e) → AddTiles variable by g shape level (take (i + 1) tiles) old new
-  tiles_more tiles i d old mid new e less a is at least = record {
+  nothing_after : (xs : List Variable) → xs ≡ xs ++ []
+  nothing_after [] = refl
+  nothing_after (x ∷ xs) = ap (λ zs. x ∷ zs) (nothing_after xs)
+
+  pub tiles_none : (old : List E) → AddTiles variable by g shape level [] old old
+  tiles_none old = record { variables = nothing_after (map variable old); least = λ h. h }
+
+  pub tiles_push : (tiles : List (List Cell)) (t : List Cell) (old mid new : List E) (e : E) → AddTiles variable by g shape level tiles old mid → new ≡ mid ++ e ∷ [] → variable e ≡ record { level = level; tile = t } → IsLeastIsometry g shape (variable e).tile (by e) → AddTiles variable by g shape level (tiles ++ t ∷ []) old new
+  tiles_push tiles t old mid new e a is at least = record {
     variables =
         ap (map variable) is ∙ map-append variable mid (e ∷ []) ∙ ap (λ zs. zs ++ variable e ∷ []) a.variables
-        ∙ ap (λ v. (map variable old ++ map (variable_at level) (take i tiles)) ++ v ∷ []) at
-        ∙ append_assoc (map variable old) (map (variable_at level) (take i tiles)) (variable_at level (get_or tiles i d) ∷ [])
-        ∙ ap (λ zs. map variable old ++ zs) (sym (map-append (variable_at level) (take i tiles) (get_or tiles i d ∷ [])) ∙ ap (map (variable_at level)) (sym (take_more tiles i d less)));
+        ∙ ap (λ v. (map variable old ++ map (variable_at level) tiles) ++ v ∷ []) at
+        ∙ append_assoc (map variable old) (map (variable_at level) tiles) (variable_at level t ∷ [])
+        ∙ ap (λ zs. map variable old ++ zs) (sym (map-append (variable_at level) tiles (t ∷ [])));
     least = λ h. subst (HaveLeast variable by g shape) (sym is) (All-from_members (λ e. IsLeastIsometry g shape (variable e).tile (by e)) (mid ++ e ∷ []) (λ x m. elim (Contains-append_cases mid (e ∷ []) x m) [
       | inl n ↦ All-contains (λ e. IsLeastIsometry g shape (variable e).tile (by e)) mid x (a.least h) n
       | inr n ↦ elim (member_cases e [] x n) [ inl s ↦ subst (λ z. IsLeastIsometry g shape (variable z).tile (by z)) s least | inr none ↦ absurd (no_member x none) ]
     ]));
   }
 
+  -- the tiles that a loop has taken, and those that are left
+  pub tiles_all : (taken left tiles : List (List Cell)) (old new : List E) → length left ≡ 0 → taken ++ left ≡ tiles → AddTiles variable by g shape level taken old new → AddTiles variable by g shape level tiles old new
+  tiles_all taken left tiles old new none whole a =
+      subst (λ ts. AddTiles variable by g shape level ts old new) (all left none taken ∙ whole) a
+    where
+      all : (left : List (List Cell)) → length left ≡ 0 → (taken : List (List Cell)) → taken ≡ taken ++ left
+      all [] e [] = refl
+      all [] e (t ∷ ts) = ap (λ zs. t ∷ zs) (all [] e ts)
+      all (x ∷ xs) e taken = absurd (omega arith)
+
 -- the entries of a level after a universe
-pub level_added : {E : Type 0} (variable : E → Variable) (by : E → Iso) (g : Geometry) (shape : List Cell) (k : ℕ) (tiles : List (List Cell)) (old new : List E) → AddTiles variable by g shape (k + 1) tiles old new → IsUniverse g shape k (map variable old) → HaveLeast variable by g shape old → ListsExactly cells_before (IsAtLevel g shape (k + 1)) tiles → IsUniverse g shape (k + 1) (map variable new) × HaveLeast variable by g shape new
+level_added : {E : Type 0} (variable : E → Variable) (by : E → Iso) (g : Geometry) (shape : List Cell) (k : ℕ) (tiles : List (List Cell)) (old new : List E) → AddTiles variable by g shape (k + 1) tiles old new → IsUniverse g shape k (map variable old) → HaveLeast variable by g shape old → ListsExactly cells_before (IsAtLevel g shape (k + 1)) tiles → IsUniverse g shape (k + 1) (map variable new) × HaveLeast variable by g shape new
 level_added variable by g shape k tiles old new a u least l =
     (subst (IsUniverse g shape (k + 1)) (sym a.variables) (universe_more g shape k (map variable old) tiles u l), a.least least)
+
+-- the same, with the level before that of the tiles
+pub level_put : {E : Type 0} (variable : E → Variable) (by : E → Iso) (g : Geometry) (shape : List Cell) (k : ℕ) (tiles : List (List Cell)) (old new : List E) → 1 ≤ k → AddTiles variable by g shape k tiles old new → IsUniverse g shape (k - 1) (map variable old) → HaveLeast variable by g shape old → ListsExactly cells_before (IsAtLevel g shape k) tiles → IsUniverse g shape k (map variable new) × HaveLeast variable by g shape new
+level_put variable by g shape k tiles old new low a u least l =
+    let e : k - 1 + 1 ≡ k = omega arith in
+    let r = level_added variable by g shape (k - 1) tiles old new (subst (λ n. AddTiles variable by g shape n tiles old new) (sym e) a) u least (subst (λ n. ListsExactly cells_before (IsAtLevel g shape n) tiles) (sym e) l) in
+    (subst (λ n. IsUniverse g shape n (map variable new)) e r.0, r.1)

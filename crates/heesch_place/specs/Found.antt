@@ -1,10 +1,13 @@
 -- Lists to which is added what other lists give, and where the placements of a level come from.
-use Rattle.std.specs.Prelude.{◌≡◌, ℕ, ◌⊎◌, Bool, true, not, ◌&&◌, List, ℤ, pos, ◌+ℤ◌, ◌*ℤ◌, Contains}
+use Rattle.std.specs.Prelude.{◌≡◌, ℕ, ◌+◌, ◌*◌, ◌⊎◌, ◌<◌, Bool, true, not, ◌&&◌, List, pos, neg_ℤ, ◌+ℤ◌, ◌*ℤ◌, Contains, map, length, slice_index_or, []}
 use Rattle.std.specs.List.{list_any}
 use Rattle.heesch_grid.specs.declared.Cell.{Cell}
-use Rattle.heesch_grid.specs.Cells.{has, meet, IsCellListOf}
-use Rattle.heesch_grid.specs.Geometry.{Geometry, Touching, image}
+use Rattle.heesch_grid.specs.Cells.{cell, has, meet, IsCellListOf}
+use Rattle.heesch_grid.specs.Geometry.{Geometry, Touching}
 use Rattle.heesch_grid.specs.Placement.{IsPlacement, Apart, Touch}
+use Rattle.heesch_grid.specs.Vectors.{IsWithin, plus}
+use Rattle.heesch_index.specs.Marking.{Marked, is_marked}
+use Rattle.heesch_place.specs.Steps.{IsFirstOf}
 
 -- the new list has what the old one had, and what has the property, and nothing else
 pub record Adds {X : Type 0} (P : X → Type 0) (old new : List X) : Type 0 where
@@ -22,22 +25,51 @@ pub record FromOne {X Y : Type 0} (R : Y → X → Type 0) (ys : List Y) (x : X)
 abbrev pub TouchesSome : Geometry → List (List Cell) → Cell → Type 0
 TouchesSome g tiles c = FromOne (FromOne (Touching g)) tiles c
 
--- so many units in each coordinate lead from the one cell to the other
-pub record LeadsTo (unit : ℤ) (from to units : Cell) : Type 0 where
-  pub in_a : from.a +ℤ unit *ℤ units.a ≡ to.a
-  pub in_b : from.b +ℤ unit *ℤ units.b ≡ to.b
+-- the second list is the first, each cell moved by the same whole units
+pub record IsMoved (g : Geometry) (from to : List Cell) : Type 0 where
+  pub units : Cell
+  pub is : to ≡ map (plus (cell (pos g.unit *ℤ units.a) (pos g.unit *ℤ units.b))) from
 
--- so many units lead from one of the cells, turned, to one of the targets
-abbrev pub LeadsOnto : Geometry → ℕ → List Cell → List Cell → Cell → Type 0
-LeadsOnto g k cells targets units = FromOne (λ c. FromOne (LeadsTo (pos g.unit) (g.turn k c)) targets) cells units
+-- the lists are the cell lists of the shape under each turn
+pub record AreTurned (g : Geometry) (shape : List Cell) (lists : List (List Cell)) : Type 0 where
+  pub long : length lists ≡ g.turns
+  pub each : (k : ℕ) → k < g.turns → IsCellListOf (map (g.turn k) shape) (slice_index_or lists k [])
 
--- the tile is the cell list of the image by turn k and so many units
-abbrev pub IsImageBy : Geometry → ℕ → List Cell → Cell → List Cell → Type 0
-IsImageBy g k shape units tile = IsCellListOf (image g (record { turn = k; da = units.a; db = units.b }) shape) tile
+-- the lists are placements near 0, and each placement is one of them moved by whole units
+pub record AreOrientations (g : Geometry) (shape : List Cell) (lists : List (List Cell)) : Type 0 where
+  pub placed : (t : List Cell) → Contains lists t → IsPlacement g shape t
+  pub near : (t : List Cell) (c : Cell) → Contains lists t → has t c ≡ true → IsWithin 5000 c
+  pub every : (tile : List Cell) → IsPlacement g shape tile → FromOne (IsMoved g) lists tile
 
--- the tile is a placement by turn k that has one of the targets
-abbrev pub IsTurnedOver : Geometry → List Cell → List Cell → ℕ → List Cell → Type 0
-IsTurnedOver g shape targets k tile = (units : Cell) × LeadsOnto g k shape targets units × IsImageBy g k shape units tile
+-- the marks are those of the cells of the shape and of the cells that touch one of them
+pub record AreNear (g : Geometry) (shape : List Cell) (marks : Marked) : Type 0 where
+  pub only : (c : Cell) → is_marked marks c ≡ true → Contains shape c ⊎ FromOne (Touching g) shape c
+  pub own : (c : Cell) → Contains shape c → is_marked marks c ≡ true
+  pub touching : (c : Cell) → FromOne (Touching g) shape c → is_marked marks c ≡ true
+
+-- what is made of a shape once
+pub record IsPrepared (g : Geometry) (shape : List Cell) (turned orientations : List (List Cell)) (near : Marked) : Type 0 where
+  pub are_turned : AreTurned g shape turned
+  pub are_orientations : AreOrientations g shape orientations
+  pub are_near : AreNear g shape near
+
+-- the tile is the orientation, moved by whole units so that its first cell is this one, and has a marked cell
+pub record IsMovedOver (g : Geometry) (targets : Marked) (first : Cell) (orientation tile : List Cell) : Type 0 where
+  pub moved : IsMoved g orientation tile
+  pub begins : IsFirstOf tile first
+  pub meets : list_any (is_marked targets) tile ≡ true
+
+-- the first cell of the row of this number, of those that lie within `most` of 0
+abbrev pub row_start : ℕ → ℕ → Cell
+row_start most row = cell (neg_ℤ (pos most)) (neg_ℤ (pos most) +ℤ pos row)
+
+-- the tile is an orientation, moved over a target and beginning in the row of so many cells from `low` on
+abbrev pub IsInRow : Geometry → Marked → List (List Cell) → Cell → ℕ → List Cell → Type 0
+IsInRow g targets orientations low wide tile = (i : ℕ) × (i < wide) × FromOne (IsMovedOver g targets (cell (low.a +ℤ pos i) low.b)) orientations tile
+
+-- the tile is an orientation, moved over a target and beginning within `most` of 0
+abbrev pub IsInSquare : Geometry → Marked → List (List Cell) → ℕ → List Cell → Type 0
+IsInSquare g targets orientations most tile = (row : ℕ) × (row < 2 * most + 1) × IsInRow g targets orientations (row_start most row) (2 * most + 1) tile
 
 -- the tile is a placement that has one of the targets
 pub record IsPlacementOver (g : Geometry) (shape targets tile : List Cell) : Type 0 where

@@ -1,5 +1,5 @@
 -- Universes and placements as contracts see them.
-use Rattle.std.specs.Prelude.{◌≡◌, ℕ, ◌≤◌, ◌<◌, ◌^◌, List, ◌++◌, map, filter, length, All}
+use Rattle.std.specs.Prelude.{◌≡◌, ℕ, ◌-◌, ◌≤◌, ◌<◌, ◌^◌, slice_index, List, ◌++◌, map, filter, length, All}
 use Rattle.std.specs.Cmp.Lexicographic.{slice_cmp}
 use Rattle.std.specs.List.{enumerate_from}
 use Rattle.heesch_grid.specs.declared.Cell.{Cell}
@@ -9,7 +9,7 @@ use Rattle.std.specs.declared.cmp.Ordering.{Ordering}
 use Rattle.heesch_grid.specs.Cells.{cell_cmp}
 use Rattle.heesch_grid.specs.Geometry.{Geometry}
 use Rattle.heesch_grid.specs.Placement.{IsLeastIsometry}
-use Rattle.heesch_grid.specs.CoronaFormula.{Variable, IsUniverse, IsNumbered, covers}
+use Rattle.heesch_grid.specs.CoronaFormula.{Variable, IsUniverse, covers}
 
 -- a cell list, and an isometry that gives it
 pub record Placed : Type 0 where
@@ -30,9 +30,9 @@ IsUniverseOf g u = IsUniverse g u.shape u.level u.vars
 abbrev pub covering : List Variable → ℕ → Cell → List ℕ
 covering vars k c = map (λ x. x.0) (filter (covers k c) (enumerate_from 1 vars))
 
--- the variables of these numbers have a level of at most k
-abbrev pub LevelsUpTo : List Variable → ℕ → List ℕ → Type 0
-LevelsUpTo vars k numbers = All (λ n. (x : Variable) → IsNumbered vars n x → x.level ≤ k) numbers
+-- of the levels of numbered values the one of this number, from 1, and 0 past the last
+abbrev pub level_at : List ℕ → ℕ → ℕ
+level_at levels n = slice_index levels (n - 1)
 
 -- the order of variables, as an answer of three
 abbrev pub variable_cmp : Variable → Variable → Ordering

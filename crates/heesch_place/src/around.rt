@@ -1,16 +1,25 @@
 //! The cells that touch tiles.
-ghost use Rattle.std.specs.Prelude.{OnOk, IfOk};
-ghost use Rattle.heesch_grid.specs.Cells.{cell_before};
+ghost use Rattle.std.specs.Prelude.{◌≡◌, [], Contains, OnOk, IfOk};
+ghost use Rattle.std.specs.List.{list_any};
+ghost use Rattle.heesch_grid.specs.declared.Cell.{Cell};
 ghost use Rattle.heesch_grid.specs.Geometry.{IsCell, Touching};
-ghost use Rattle.heesch_grid.specs.Listing.{ListsExactly};
 ghost use Rattle.heesch_grid.specs.Vectors.{IsWithin};
+ghost use Rattle.heesch_index.specs.Marking.{is_marked};
 ghost use Rattle.heesch_place.specs.Found.{Adds, FromOne, TouchesSome};
 
-use crate::lists::{add, listed_cells};
+use crate::lists::add;
 use heesch_grid::{Cell, Grid};
+use heesch_index::CellMarks;
 use heesch_io::NoMemory;
 use heesch_shape::Shape;
 use std::alloc::Global;
+
+/// Whether one of the cells is marked.
+pub(crate) fn has_marked(cells: &[Cell], marks: &CellMarks) -> bool
+    ensures { result ≡ list_any (is_marked marks.now) cells.now }
+{
+    cells.iter().any(|c| marks.has(*c))
+}
 
 /// Adds the cells that touch c.
 fn add_touching<G: Grid>(all: &mut Vec<Cell>, c: Cell) -> Result<(), NoMemory>
@@ -24,28 +33,32 @@ fn add_touching<G: Grid>(all: &mut Vec<Cell>, c: Cell) -> Result<(), NoMemory>
     Ok(())
 }
 
-/// Adds the cells that touch a cell of the tile.
-fn add_beside<G: Grid>(all: &mut Vec<Cell>, tile: &Shape<G>) -> Result<(), NoMemory>
-    ensures { OnOk result (Adds (FromOne (Touching G.geometry) tile.now) all.old.items all.new.items) }
+/// The cells of the tiles, tile by tile.
+fn cells_of<G: Grid>(alloc: Global, tiles: &[Shape<G>]) -> Result<Vec<Cell>, NoMemory>
+    ensures exact { IfOk result (λ cells. Adds (FromOne Contains tiles.now) [] cells.items) }
+    ensures cells { IfOk result (λ cells. (c : Cell) → Contains cells.items c → IsCell G.geometry c) }
+    ensures within { IfOk result (λ cells. (c : Cell) → Contains cells.items c → IsWithin 1000000 c) }
 {
-    let cells = tile.cells();
-    for c in cells {
-        add_touching::<G>(all, *c)?;
+    let mut all = Vec::new(alloc);
+    for tile in tiles {
+        all.extend_from_slice(tile.cells())?;
     }
-    Ok(())
+    Ok(all)
 }
 
-/// The cells that touch a cell of one of the tiles, each once, in cell order. It sorts at most 12
-/// cells for each cell of a tile.
+/// The cells that touch a cell of one of the tiles. Each cell of the tiles is looked at once,
+/// however many tiles have it.
 pub(crate) fn cells_touching<G: Grid>(
     alloc: Global,
     tiles: &[Shape<G>],
 ) -> Result<Vec<Cell>, NoMemory>
-    ensures { IfOk result (λ cells. ListsExactly cell_before (TouchesSome G.geometry tiles.now) cells.items) }
+    ensures { IfOk result (λ cells. Adds (TouchesSome G.geometry tiles.now) [] cells.items) }
 {
+    let covered = cells_of(alloc, tiles)?;
+    let once = CellMarks::of(alloc, covered.as_slice())?.cells(alloc)?;
     let mut all = Vec::new(alloc);
-    for tile in tiles {
-        add_beside(&mut all, tile)?;
+    for c in &once {
+        add_touching::<G>(&mut all, *c)?;
     }
-    Ok(listed_cells(all))
+    Ok(all)
 }

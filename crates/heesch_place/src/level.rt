@@ -12,19 +12,20 @@ ghost use Rattle.heesch_place.specs.Found.{is_apart_at, IsBeyond};
 
 use crate::around::cells_touching;
 use crate::onto::placements_over;
+use crate::prototile::Prototile;
 use heesch_grid::{Cell, Grid};
-use heesch_index::CellIndex;
+use heesch_index::{CellSets, CellTable};
 use heesch_io::NoMemory;
 use heesch_shape::Shape;
 use std::alloc::Global;
 use std::marker::Model;
 use std::slice::from_ref;
 
-/// The placements of a level, with an index by cell.
+/// The placements of a level, with a table by cell.
 #[derive(Drop)]
 pub(crate) struct Level<G: Grid> {
     tiles: Vec<Shape<G>>,
-    index: CellIndex,
+    table: CellTable,
 }
 
 impl<G: Grid> Model for Level<G> {
@@ -35,60 +36,60 @@ impl<G: Grid> Model for Level<G> {
 
     ghost view = { λ s. s.tiles.items };
 
-    ghost invariant = { λ s. s.index ≡ s.tiles.items };
+    ghost invariant = { λ s. s.table ≡ s.tiles.items };
 }
 
-/// The index of the tiles.
-fn index_of<G: Grid>(alloc: Global, tiles: &[Shape<G>]) -> Result<CellIndex, NoMemory>
-    ensures { IfOk result (λ index. index ≡ tiles.now) }
+/// The table of the tiles.
+fn table_of<G: Grid>(alloc: Global, tiles: &[Shape<G>]) -> Result<CellTable, NoMemory>
+    ensures { IfOk result (λ table. table ≡ tiles.now) }
 {
-    let mut index = CellIndex::new(alloc);
+    let mut sets = CellSets::new(alloc);
     for tile in tiles {
-        index.add(tile.cells())?;
+        sets.push(tile.cells())?;
     }
-    Ok(index)
+    CellTable::of(alloc, sets)
 }
 
-/// Whether the tile is apart from the shape and does not touch it.
-fn is_clear<G: Grid>(shape: &Shape<G>, tile: &Shape<G>) -> bool
-    ensures { result ≡ (not (meet shape.now tile.now) && not (touch G.geometry shape.now tile.now)) }
+/// The placements that touch the shape, by their cell lists. For each cell that may be the first of
+/// one, each orientation is tried once.
+pub(crate) fn first_level<G: Grid>(
+    alloc: Global,
+    prototile: &Prototile<G>,
+) -> Result<Vec<Shape<G>>, NoMemory>
+    requires { (c : Cell) → has prototile.now c ≡ true → IsWithin 200 c }
+    ensures { IfOk result (λ tiles. ListsExactly cells_before (IsAtLevel G.geometry prototile.now 1) tiles.items) }
 {
-    !shape.meets(tile) && !shape.touches(tile)
+    let shape = prototile.shape();
+    let targets = cells_touching(alloc, from_ref(shape))?;
+    let mut tiles = placements_over(alloc, prototile, targets.as_slice())?;
+    tiles.retain(|tile| !tile.meets(shape));
+    Ok(tiles)
 }
 
 impl<G: Grid> Level<G> {
     /// The level of these tiles.
-    fn of(alloc: Global, tiles: Vec<Shape<G>>) -> Result<Level<G>, NoMemory>
+    pub(crate) fn of(alloc: Global, tiles: Vec<Shape<G>>) -> Result<Level<G>, NoMemory>
         ensures { IfOk result (λ level. level ≡ tiles.items) }
     {
-        let index = index_of(alloc, tiles.as_slice())?;
-        Ok(Level { tiles, index })
+        let table = table_of(alloc, tiles.as_slice())?;
+        Ok(Level { tiles, table })
     }
 
-    /// The tiles, by their cell lists.
-    pub(crate) fn tiles(&self) -> &[Shape<G>]
-        ensures { result.now ≡ self.now }
+    /// The tiles, alone.
+    pub(crate) fn into_tiles(self) -> Vec<Shape<G>>
+        ensures { result.items ≡ self }
     {
-        self.tiles.as_slice()
-    }
-
-    /// The placements that touch the shape, by their cell lists. Each cell around the shape is tried
-    /// once with each turn and each cell of the shape.
-    pub(crate) fn first(alloc: Global, shape: &Shape<G>) -> Result<Level<G>, NoMemory>
-        requires { (c : Cell) → has shape.now c ≡ true → IsWithin 200 c }
-        ensures { IfOk result (λ level. ListsExactly cells_before (IsAtLevel G.geometry shape.now 1) level) }
-    {
-        let targets = cells_touching(alloc, from_ref(shape))?;
-        let mut tiles = placements_over(alloc, shape, targets.as_slice())?;
-        tiles.retain(|tile| !tile.meets(shape));
-        Level::of(alloc, tiles)
+        self.tiles
     }
 
     /// Whether one of the tiles has the cell and is apart from the tile.
     fn is_apart_at(&self, c: Cell, tile: &Shape<G>) -> bool
         ensures { result ≡ is_apart_at self.now tile.now c }
     {
-        for number in self.index.covering(c) {
+        if tile.has(c) {
+            return false;
+        }
+        for number in self.table.covering(c) {
             if !self.tiles[*number as usize - 1].meets(tile) {
                 return true;
             }
@@ -110,8 +111,8 @@ impl<G: Grid> Level<G> {
         false
     }
 
-    /// Whether one of the tiles touches the tile. Only tiles of the index that have a cell next to one
-    /// of its own are looked at, up to the first that is apart from it.
+    /// Whether one of the tiles touches the tile. Only tiles that have a cell next to one of its own
+    /// are looked at, up to the first that is apart from it.
     fn touches(&self, tile: &Shape<G>) -> bool
         ensures { result ≡ list_any (λ inner. touch G.geometry inner tile.now) self.now }
     {
@@ -125,24 +126,27 @@ impl<G: Grid> Level<G> {
     }
 
     /// Whether the tile is apart from the shape, does not touch it, and touches one of the tiles.
-    fn is_next(&self, shape: &Shape<G>, tile: &Shape<G>) -> bool
-        ensures { result ≡ ((not (meet shape.now tile.now) && not (touch G.geometry shape.now tile.now))
+    fn is_next(&self, prototile: &Prototile<G>, tile: &Shape<G>) -> bool
+        ensures { result ≡ ((not (meet prototile.now tile.now) && not (touch G.geometry prototile.now tile.now))
             && list_any (λ inner. touch G.geometry inner tile.now) self.now) }
     {
-        is_clear(shape, tile) && self.touches(tile)
+        prototile.is_clear(tile) && self.touches(tile)
     }
 
     /// The placements apart from the shape and not touching it that touch one of the tiles, by their
-    /// cell lists. Each cell that touches a tile is tried once with each turn and each cell of the
-    /// shape, however many tiles it touches.
-    pub(crate) fn next(&self, alloc: Global, shape: &Shape<G>) -> Result<Level<G>, NoMemory>
-        requires near { (c : Cell) → has shape.now c ≡ true → IsWithin 200 c }
-        requires within { (tile : List Cell) (c : Cell) → Contains self.now tile → has tile c ≡ true → IsWithin 90000 c }
-        ensures { IfOk result (λ level. ListsExactly cells_before (IsBeyond G.geometry shape.now self.now) level) }
+    /// cell lists. For each cell that may be the first of one, each orientation is tried once.
+    pub(crate) fn next(
+        &self,
+        alloc: Global,
+        prototile: &Prototile<G>,
+    ) -> Result<Vec<Shape<G>>, NoMemory>
+        requires { (tile : List Cell) (c : Cell) → Contains self.now tile → has tile c ≡ true → IsWithin 90000 c }
+        ensures { IfOk result (λ tiles.
+            ListsExactly cells_before (IsBeyond G.geometry prototile.now self.now) tiles.items) }
     {
         let targets = cells_touching(alloc, self.tiles.as_slice())?;
-        let mut tiles = placements_over(alloc, shape, targets.as_slice())?;
-        tiles.retain(|tile| self.is_next(shape, tile));
-        Level::of(alloc, tiles)
+        let mut tiles = placements_over(alloc, prototile, targets.as_slice())?;
+        tiles.retain(|tile| self.is_next(prototile, tile));
+        Ok(tiles)
     }
 }

@@ -1,9 +1,9 @@
 //! Placements of a shape, and those that the levels of a corona formula name.
 //!
 //! `Placement::new` states its condition over the image alone; the least isometry's translation may be longer than
-//! the argument's. A level is listed from the cells that touch the level below, each tried once with each turn and
-//! each cell of the shape. `number_of` is a binary search over the variables. `covered_by` answers from an index of
-//! their cells, without memory.
+//! the argument's. A level is listed by its first cells: for each that a placement with a cell next to the level
+//! below may begin with, each orientation of the shape is tried once. `number_of` is a binary search over the
+//! variables. `covered_by` answers from a table of their cells, without memory.
 #![tactic(auto)]
 
 mod around;
@@ -11,6 +11,7 @@ mod level;
 mod lists;
 mod onto;
 mod placement;
+mod prototile;
 mod turned;
 mod universe;
 

@@ -1,9 +1,9 @@
 //! Lists that grow, and are then sorted and kept once.
 ghost use Rattle.std.specs.Prelude.{◌≡◌, ◌++◌, ◌∷◌, [], Contains, OnOk};
-ghost use Rattle.heesch_grid.specs.Cells.{cell_before, cells_before};
+ghost use Rattle.heesch_grid.specs.Cells.{cells_before};
 ghost use Rattle.heesch_grid.specs.Listing.{ListsExactly};
 
-use heesch_grid::{Cell, Grid};
+use heesch_grid::Grid;
 use heesch_io::NoMemory;
 use heesch_shape::Shape;
 
@@ -15,15 +15,6 @@ pub(crate) fn add<T: Drop>(all: &mut Vec<T>, item: T) -> Result<(), NoMemory>
         Ok(()) => Ok(()),
         Err(_) => Err(NoMemory),
     }
-}
-
-/// The same cells, each once, in cell order.
-pub(crate) fn listed_cells(mut all: Vec<Cell>) -> Vec<Cell>
-    ensures { ListsExactly cell_before (Contains all.items) result.items }
-{
-    all.sort_unstable();
-    all.dedup();
-    all
 }
 
 /// The same tiles, each once, in the order of their cell lists.

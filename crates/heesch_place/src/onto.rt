@@ -1,122 +1,214 @@
 //! Placements that have one of some cells.
-ghost use Rattle.std.specs.Prelude.{◌≡◌, ◌<◌, ◌≤ℤ◌, true, pos, All, Contains, OnOk, IfOk};
+ghost use Rattle.std.specs.Prelude.{◌≡◌, ℕ, ◌+◌, ◌*◌, ◌<◌, ◌≤◌, pos, ◌+ℤ◌, ◌≤ℤ◌};
+ghost use Rattle.std.specs.Prelude.{true, List, Contains, OnOk, IfOk};
+ghost use Rattle.std.specs.List.{list_any};
 ghost use Rattle.heesch_grid.specs.declared.Cell.{Cell};
-ghost use Rattle.heesch_grid.specs.Cells.{cell_before, cells_before, has};
-ghost use Rattle.heesch_grid.specs.Geometry.{image};
+ghost use Rattle.heesch_grid.specs.Cells.{cell, cells_before, has};
 ghost use Rattle.heesch_grid.specs.Listing.{ListsExactly};
-ghost use Rattle.heesch_grid.specs.Vectors.{IsWithin};
-ghost use Rattle.heesch_place.specs.Found.{Adds, FromOne, LeadsTo, LeadsOnto, IsImageBy, IsTurnedOver, IsPlacementOver};
+ghost use Rattle.heesch_grid.specs.Vectors.{IsWithin, minus, plus};
+ghost use Rattle.heesch_index.specs.Marking.{is_marked};
+ghost use Rattle.heesch_place.specs.Found.{Adds, FromOne, IsMovedOver};
+ghost use Rattle.heesch_place.specs.Found.{row_start, IsInRow, IsInSquare, IsPlacementOver};
+ghost use Rattle.heesch_place.specs.Steps.{IsFirstOf};
 
-use crate::lists::{add, listed_cells, listed_tiles};
-use heesch_grid::moves::{difference, units_of};
+use crate::lists::{add, listed_tiles};
+use crate::prototile::Prototile;
+use crate::turned::first_of;
+use heesch_grid::moves::{difference, moved, units_of};
 use heesch_grid::{Cell, Grid, Iso};
+use heesch_index::CellMarks;
 use heesch_io::NoMemory;
 use heesch_shape::Shape;
 use std::alloc::Global;
 
-/// Adds the units that lead from the one cell to the other, if there are.
-fn add_units(all: &mut Vec<Cell>, from: Cell, to: Cell, unit: i32) -> Result<(), NoMemory>
-    requires positive { pos 1 ≤ℤ unit }
-    requires small { unit ≤ℤ pos 6 }
-    requires from { IsWithin 2000000 from }
-    requires to { IsWithin 1000000 to }
-    ensures { OnOk result (Adds (LeadsTo unit from to) all.old.items all.new.items) }
+/// Whether one of the cells, moved by the step, is marked.
+fn reaches(cells: &[Cell], step: Cell, marks: &CellMarks) -> bool
+    requires cells { (c : Cell) → has cells.now c ≡ true → IsWithin 5000 c }
+    requires step { IsWithin 300000 step }
+    ensures { result ≡ list_any (λ c. is_marked marks.now (plus step c)) cells.now }
 {
-    match units_of(difference(from, to), unit) {
-        Some(units) => add(all, units),
-        None => Ok(()),
-    }
-}
-
-/// Adds the units that lead from the cell to one of the targets.
-fn add_leading(all: &mut Vec<Cell>, from: Cell, targets: &[Cell], unit: i32) -> Result<(), NoMemory>
-    requires positive { pos 1 ≤ℤ unit }
-    requires small { unit ≤ℤ pos 6 }
-    requires from { IsWithin 2000000 from }
-    requires targets { (c : Cell) → has targets.now c ≡ true → IsWithin 1000000 c }
-    ensures { OnOk result (Adds (FromOne (LeadsTo unit from) targets.now) all.old.items all.new.items) }
-{
-    for to in targets {
-        add_units(all, from, *to, unit)?;
-    }
-    Ok(())
-}
-
-/// The units that lead from a cell of the shape under turn k to one of the targets, each once.
-fn units_onto<G: Grid>(
-    alloc: Global,
-    shape: &Shape<G>,
-    k: u32,
-    targets: &[Cell],
-) -> Result<Vec<Cell>, NoMemory>
-    requires turn { k < G.geometry.turns }
-    requires targets { (c : Cell) → has targets.now c ≡ true → IsWithin 1000000 c }
-    ensures { IfOk result (λ all. ListsExactly cell_before (LeadsOnto G.geometry k shape.now targets.now) all.items) }
-{
-    let mut all = Vec::new(alloc);
-    let cells = shape.cells();
     for c in cells {
-        add_leading(&mut all, G::turn(k, *c), targets, G::UNIT)?;
+        if marks.has(moved(*c, step)) {
+            return true;
+        }
     }
-    Ok(listed_cells(all))
+    false
 }
 
-/// Adds the images of the shape by turn k and each of the numbers of units.
-fn add_images<G: Grid>(
+/// Adds the orientation, moved to have this first cell, where the move is by whole units and
+/// the tile has a target.
+fn add_moved<G: Grid>(
     all: &mut Vec<Shape<G>>,
-    shape: &Shape<G>,
-    k: u32,
-    moves: &[Cell],
+    orientation: &Shape<G>,
+    first: Cell,
+    targets: &CellMarks,
 ) -> Result<(), NoMemory>
-    requires turn { k < G.geometry.turns }
-    requires near { (units : Cell) → Contains moves.now units → IsWithin 2000000 units }
-    requires within { (units : Cell) → Contains moves.now units → All (IsWithin 1000000) (image G.geometry (record { turn = k; da = units.a; db = units.b }) shape.now) }
-    ensures { OnOk result (Adds (FromOne (IsImageBy G.geometry k shape.now) moves.now) all.old.items all.new.items) }
+    requires near { (c : Cell) → has orientation.now c ≡ true → IsWithin 5000 c }
+    requires first { IsWithin 200000 first }
+    ensures { OnOk result
+        (Adds (IsMovedOver G.geometry targets.now first orientation.now) all.old.items all.new.items) }
 {
-    for units in moves {
-        let by = Iso {
-            turn: k,
-            da: units.a,
-            db: units.b,
-        };
-        add(all, shape.image(by))?;
+    let cells = orientation.cells();
+    let step = difference(first_of(cells), first);
+    let Some(units) = units_of(step, G::UNIT) else {
+        return Ok(());
+    };
+    if !reaches(cells, step, targets) {
+        return Ok(());
+    }
+    let by = Iso {
+        turn: 0,
+        da: units.a,
+        db: units.b,
+    };
+    add(all, orientation.image(by))
+}
+
+/// Adds the orientations, each moved to have this first cell, that have a target then.
+fn add_with_first<G: Grid>(
+    all: &mut Vec<Shape<G>>,
+    orientations: &[Shape<G>],
+    first: Cell,
+    targets: &CellMarks,
+) -> Result<(), NoMemory>
+    requires near { (t : List Cell) (c : Cell) → Contains orientations.now t → has t c ≡ true → IsWithin 5000 c }
+    requires first { IsWithin 200000 first }
+    ensures { OnOk result
+        (Adds (FromOne (IsMovedOver G.geometry targets.now first) orientations.now) all.old.items all.new.items) }
+{
+    for orientation in orientations {
+        add_moved(all, orientation, first, targets)?;
     }
     Ok(())
 }
 
-/// Adds the placements by turn k that have one of the targets.
-fn add_turned<G: Grid>(
-    all: &mut Vec<Shape<G>>,
-    alloc: Global,
-    shape: &Shape<G>,
-    k: u32,
-    targets: &[Cell],
-) -> Result<(), NoMemory>
-    requires turn { k < G.geometry.turns }
-    requires near { (c : Cell) → has shape.now c ≡ true → IsWithin 200 c }
-    requires targets { (c : Cell) → has targets.now c ≡ true → IsWithin 100000 c }
-    ensures { OnOk result (Adds (IsTurnedOver G.geometry shape.now targets.now k) all.old.items all.new.items) }
+/// The cell so far along the row from this one.
+fn along(low: Cell, far: u32) -> Cell
+    requires low { IsWithin 150000 low }
+    requires far { (low.a +ℤ pos far) ≤ℤ pos 200000 }
+    ensures { result ≡ cell (low.a +ℤ pos far) low.b }
 {
-    let moves = units_onto(alloc, shape, k, targets)?;
-    add_images(all, shape, k, moves.as_slice())
+    Cell {
+        a: low.a + far as i32,
+        b: low.b,
+    }
+}
+
+/// Where the row of this number begins, of those that lie within `most` of 0.
+fn row_start(most: u32, row: u32) -> Cell
+    requires most { most ≤ 110000 }
+    requires row { row ≤ 2 * most }
+    ensures is { result ≡ row_start most row }
+    ensures within { IsWithin 110000 result }
+{
+    let most = most as i32;
+    Cell {
+        a: -most,
+        b: row as i32 - most,
+    }
+}
+
+/// Adds the same for each first cell of a row, which begins with the cell `low`.
+fn add_row<G: Grid>(
+    all: &mut Vec<Shape<G>>,
+    orientations: &[Shape<G>],
+    low: Cell,
+    wide: u32,
+    targets: &CellMarks,
+) -> Result<(), NoMemory>
+    requires near { (t : List Cell) (c : Cell) → Contains orientations.now t → has t c ≡ true → IsWithin 5000 c }
+    requires low { IsWithin 150000 low }
+    requires wide { (low.a +ℤ pos wide) ≤ℤ pos 200000 }
+    ensures { OnOk result
+        (Adds (IsInRow G.geometry targets.now orientations.now low wide) all.old.items all.new.items) }
+{
+    for i in 0..wide {
+        add_with_first(all, orientations, along(low, i), targets)?;
+    }
+    Ok(())
+}
+
+/// The radius, or the distance of the cell from 0 where that is more.
+fn widened(radius: u32, c: Cell) -> u32
+    ensures more { radius ≤ result }
+    ensures within { IsWithin result c }
+    ensures bound { (n : ℕ) → radius ≤ n → IsWithin n c → result ≤ n }
+{
+    radius.max(c.a.unsigned_abs()).max(c.b.unsigned_abs())
+}
+
+/// Adds the same for each first cell within `most` of 0.
+fn add_rows<G: Grid>(
+    all: &mut Vec<Shape<G>>,
+    orientations: &[Shape<G>],
+    most: u32,
+    targets: &CellMarks,
+) -> Result<(), NoMemory>
+    requires near { (t : List Cell) (c : Cell) → Contains orientations.now t → has t c ≡ true → IsWithin 5000 c }
+    requires most { most ≤ 110000 }
+    ensures { OnOk result
+        (Adds (IsInSquare G.geometry targets.now orientations.now most) all.old.items all.new.items) }
+{
+    let wide = 2 * most + 1;
+    for row in 0..wide {
+        add_row(all, orientations, row_start(most, row), wide, targets)?;
+    }
+    Ok(())
+}
+
+/// How far from 0 the cells lie.
+fn radius(cells: &[Cell]) -> u32
+    ensures within { (c : Cell) → has cells.now c ≡ true → IsWithin result c }
+    ensures bound { (n : ℕ) → ((c : Cell) → has cells.now c ≡ true → IsWithin n c) → result ≤ n }
+{
+    let mut radius = 0;
+    for c in cells {
+        radius = widened(radius, *c);
+    }
+    radius
+}
+
+/// The greater of the two.
+fn greater(m: u32, n: u32) -> u32
+    ensures first { m ≤ result }
+    ensures second { n ≤ result }
+    ensures least { (k : ℕ) → m ≤ k → n ≤ k → result ≤ k }
+{
+    m.max(n)
+}
+
+/// How far a cell of one of the tiles lies from the first cell of the tile, or more.
+fn reach<G: Grid>(tiles: &[Shape<G>]) -> u32
+    requires { (t : List Cell) (c : Cell) → Contains tiles.now t → has t c ≡ true → IsWithin 5000 c }
+    ensures within { (t : List Cell) (first c : Cell) → Contains tiles.now t → IsFirstOf t first
+        → has t c ≡ true → IsWithin result (minus first c) }
+    ensures bound { result ≤ 10000 }
+{
+    let mut reach = 0;
+    for tile in tiles {
+        let cells = tile.cells();
+        reach = greater(reach, widened(0, first_of(cells)) + radius(cells));
+    }
+    reach
 }
 
 /// The placements that have one of the targets, each once, in the order of their cell lists.
 ///
-/// For each turn it goes through the pairs of a cell of the shape and a target; what these come to is
-/// sorted and kept once before an image is made, so each isometry is tried once.
+/// For each cell that may be the first of such a placement, and each orientation, it looks among
+/// marks of the targets for the cells. Tiles come in their order, so that the sort is one walk.
 pub(crate) fn placements_over<G: Grid>(
     alloc: Global,
-    shape: &Shape<G>,
+    prototile: &Prototile<G>,
     targets: &[Cell],
 ) -> Result<Vec<Shape<G>>, NoMemory>
-    requires near { (c : Cell) → has shape.now c ≡ true → IsWithin 200 c }
-    requires targets { (c : Cell) → has targets.now c ≡ true → IsWithin 100000 c }
-    ensures { IfOk result (λ all. ListsExactly cells_before (IsPlacementOver G.geometry shape.now targets.now) all.items) }
+    requires { (c : Cell) → has targets.now c ≡ true → IsWithin 100000 c }
+    ensures { IfOk result (λ all.
+        ListsExactly cells_before (IsPlacementOver G.geometry prototile.now targets.now) all.items) }
 {
+    let orientations = prototile.orientations();
+    let marks = CellMarks::of(alloc, targets)?;
+    let most = radius(targets) + reach(orientations);
     let mut all = Vec::new(alloc);
-    for k in 0..G::TURNS {
-        add_turned(&mut all, alloc, shape, k, targets)?;
-    }
+    add_rows(&mut all, orientations, most, &marks)?;
     Ok(listed_tiles(all))
 }

@@ -6,7 +6,8 @@ ghost use Rattle.heesch_grid.specs.Vectors.{IsWithin};
 ghost use Rattle.heesch_grid.specs.Placement.{touch, IsPlacement, IsLeastIsometry};
 ghost use Rattle.heesch_shape.specs.Walks.{IsShape};
 
-use crate::turned::leading;
+use crate::prototile::Prototile;
+use crate::turned::{leading, turned};
 use heesch_grid::{Grid, Iso};
 use heesch_shape::Shape;
 use std::marker::Model;
@@ -39,28 +40,25 @@ impl<G: Grid> Placement<G> {
         ensures least { IsLeastIsometry G.geometry shape.now result.tile result.by }
         ensures shape { IsShape G.geometry result.tile }
     {
+        let _cells = shape.cells();
         let tile = shape.image(by);
         for k in 0..by.turn {
-            if let Some(least) = leading(shape, k, &tile) {
+            if let Some(least) = leading(turned(shape, k).as_slice(), k, &tile) {
                 return Placement { by: least, tile };
             }
         }
         Placement { by, tile }
     }
 
-    /// The placement of the shape that has just the cells of the tile.
-    pub(crate) fn onto(shape: &Shape<G>, tile: &Shape<G>) -> Placement<G>
-        requires { IsPlacement G.geometry shape.now tile.now }
-        ensures tile { result.tile ≡ tile.now }
-        ensures least { IsLeastIsometry G.geometry shape.now result.tile result.by }
+    /// The placement of the prototile that has just the cells of the tile.
+    pub(crate) fn onto(prototile: &Prototile<G>, tile: Shape<G>) -> Placement<G>
+        requires { IsPlacement G.geometry prototile.now tile }
+        ensures tile { result.tile ≡ tile }
+        ensures least { IsLeastIsometry G.geometry prototile.now result.tile result.by }
     {
-        let _cells = tile.cells();
-        for k in 0..G::TURNS {
-            if let Some(by) = leading(shape, k, tile) {
-                return Placement {
-                    by,
-                    tile: shape.image(by),
-                };
+        for (k, turned) in prototile.turned().iter().enumerate() {
+            if let Some(by) = leading(turned.cells(), k as u32, &tile) {
+                return Placement { by, tile };
             }
         }
         unreachable!()

@@ -1,11 +1,10 @@
-//! Isometries of one turn that carry a shape to a tile.
+//! The cells of a shape under a turn, and isometries of one turn that carry it to a tile.
 ghost use Rattle.std.specs.Prelude.{◌≡◌, ◌≢◌, ◌<◌, ◌≤◌, true, false, map, length, IfSome, IfNone};
 ghost use Rattle.heesch_grid.specs.declared.Cell.{Cell};
 ghost use Rattle.heesch_grid.specs.declared.isometries.Iso.{Iso};
 ghost use Rattle.heesch_grid.specs.Cells.{has, IsCellListOf};
-ghost use Rattle.heesch_grid.specs.Geometry.{image};
 ghost use Rattle.heesch_grid.specs.Vectors.{IsWithin, plus};
-ghost use Rattle.heesch_place.specs.Steps.{IsFirstOf};
+ghost use Rattle.heesch_place.specs.Steps.{IsFirstOf, step_of};
 
 use arrayvec::ArrayVec;
 use heesch_grid::moves::{difference, units_of};
@@ -27,7 +26,7 @@ fn turned_cells<G: Grid>(cells: &[Cell], k: u32) -> ArrayVec<Cell, CELLS_MAX>
 }
 
 /// The cells of the shape under turn k, in cell order.
-fn turned<G: Grid>(shape: &Shape<G>, k: u32) -> ArrayVec<Cell, CELLS_MAX>
+pub(crate) fn turned<G: Grid>(shape: &Shape<G>, k: u32) -> ArrayVec<Cell, CELLS_MAX>
     requires { k < G.geometry.turns }
     ensures list { IsCellListOf (map (G.geometry.turn k) shape.now) result.items }
     ensures within { (c : Cell) → has result.items c ≡ true → IsWithin 2000000 c }
@@ -57,7 +56,7 @@ fn is_moved(from: &[Cell], step: Cell, to: &[Cell]) -> bool
 }
 
 /// The first cell.
-fn first_of(cells: &[Cell]) -> Cell
+pub(crate) fn first_of(cells: &[Cell]) -> Cell
     requires { 1 ≤ length cells.now }
     ensures first { IsFirstOf cells.now result }
     ensures member { has cells.now result ≡ true }
@@ -65,19 +64,18 @@ fn first_of(cells: &[Cell]) -> Cell
     cells[0]
 }
 
-/// The isometry of turn k that carries the shape to the tile, if there is one. It turns each cell of
-/// the shape and sorts them; the first cells then say how far they are to be moved.
-pub(crate) fn leading<G: Grid>(shape: &Shape<G>, k: u32, tile: &Shape<G>) -> Option<Iso>
-    requires { k < G.geometry.turns }
+/// The isometry of turn k that carries a shape to the tile, if there is one. The shape's cells under
+/// turn k stand in cell order; the first cells then say how far they are to be moved.
+pub(crate) fn leading<G: Grid>(turned: &[Cell], k: u32, tile: &Shape<G>) -> Option<Iso>
+    requires some { 1 ≤ length turned.now }
+    requires within { (c : Cell) → has turned.now c ≡ true → IsWithin 2000000 c }
     ensures turn { IfSome result (λ by. by.turn ≡ k) }
-    ensures some { IfSome result (λ by. IsCellListOf (image G.geometry by shape.now) tile.now) }
-    ensures none { IfNone result ((by : Iso) → by.turn ≡ k → IsCellListOf (image G.geometry by shape.now) tile.now → ⊥) }
+    ensures some { IfSome result (λ by. tile.now ≡ map (plus (step_of G.geometry by)) turned.now) }
+    ensures none { IfNone result ((by : Iso) → tile.now ≢ map (plus (step_of G.geometry by)) turned.now) }
 {
-    let _shape = shape.cells();
-    let turned = turned(shape, k);
     let cells = tile.cells();
-    let step = difference(first_of(turned.as_slice()), first_of(cells));
-    if !is_moved(turned.as_slice(), step, cells) {
+    let step = difference(first_of(turned), first_of(cells));
+    if !is_moved(turned, step, cells) {
         return None;
     }
     let Some(units) = units_of(step, G::UNIT) else {

@@ -1,16 +1,20 @@
 //! The variables of a corona formula.
-ghost use Rattle.std.specs.Prelude.{◌≡◌, ◌+◌, ◌≤◌, ◌<◌, ◌^◌, ℕ, List, map, length, All, IfOk, OnOk, MatchOption};
+ghost use Rattle.std.specs.Prelude.{◌≡◌, true, ◌+◌, ◌≤◌, ◌<◌, ◌^◌, ℕ};
+ghost use Rattle.std.specs.Prelude.{List, map, length, nat_le, All, IfOk, OnOk, MatchOption};
 ghost use Rattle.heesch_grid.specs.declared.Cell.{Cell};
+ghost use Rattle.heesch_grid.specs.Cells.{has};
 ghost use Rattle.heesch_grid.specs.Polyform.{IsCanonicalListOf};
 ghost use Rattle.heesch_grid.specs.Placement.{IsPlacement, IsLeastIsometry};
 ghost use Rattle.heesch_grid.specs.CoronaFormula.{Variable, IsUniverse, IsNumbered};
-ghost use Rattle.heesch_place.specs.Universes.{IsUniverseOf, covering, variable_cmp, HaveLeast, AddTiles};
+ghost use Rattle.heesch_grid.specs.Vectors.{IsWithin};
+ghost use Rattle.heesch_place.specs.Universes.{IsUniverseOf, covering, level_at, variable_cmp, HaveLeast, AddTiles};
 
-use crate::level::Level;
+use crate::level::{Level, first_level};
 use crate::lists::add;
 use crate::placement::Placement;
+use crate::prototile::Prototile;
 use heesch_grid::{Cell, Grid};
-use heesch_index::CellIndex;
+use heesch_index::{CellSets, CellTable};
 use heesch_io::{NoMemory, Seq};
 use heesch_shape::Shape;
 use std::alloc::Global;
@@ -30,7 +34,8 @@ struct Entry<G: Grid> {
 impl<G: Grid> Entry<G> {
     /// How the variable compares with one of this level and these cells.
     fn compared(&self, level: u32, tile: &Shape<G>) -> Ordering
-        ensures { result ≡ variable_cmp (record { level = self.now.level; tile = self.now.place.tile }) (record { level = level; tile = tile.now }) }
+        ensures { result ≡ variable_cmp (record { level = self.now.level; tile = self.now.place.tile })
+            (record { level = level; tile = tile.now }) }
     {
         self.level.cmp(&level).then(self.place.shape().cmp(tile))
     }
@@ -39,14 +44,14 @@ impl<G: Grid> Entry<G> {
 /// The variables of the levels 1 to a level: all placements that the corona formula names, each with
 /// its least isometry, once at each level that it is at.
 ///
-/// They are numbered from 1, by level and then by cell list. An index by cell says which variables'
+/// They are numbered from 1, by level and then by cell list. A table by cell says which variables'
 /// tiles have it.
 #[derive(Drop)]
 pub struct Universe<G: Grid> {
     shape: Shape<G>,
     level: u32,
     entries: Vec<Entry<G>>,
-    index: CellIndex,
+    table: CellTable,
 }
 
 impl<G: Grid> Model for Universe<G> {
@@ -55,23 +60,30 @@ impl<G: Grid> Model for Universe<G> {
 
     ghost Value = { Levels };
 
-    ghost view = { λ u. record { shape = u.shape; level = u.level; vars = map (λ e. record { level = e.level; tile = e.place.tile }) u.entries.items } };
+    ghost view = { λ u. record {
+      shape = u.shape;
+      level = u.level;
+      vars = map (λ e. record { level = e.level; tile = e.place.tile }) u.entries.items;
+    } };
 
-    ghost invariant = { λ u. AreIndexed (λ e. record { level = e.level; tile = e.place.tile }) (λ e. e.place.by) G.geometry u.shape u.level u.entries.items u.index };
+    ghost invariant = { λ u. AreIndexed (λ e. record { level = e.level; tile = e.place.tile }) (λ e. e.place.by) G.geometry
+        u.shape u.level u.entries.items u.table };
 }
 
 /// Adds a variable of this level for each of the tiles.
 fn add_entries<G: Grid>(
     entries: &mut Vec<Entry<G>>,
-    shape: &Shape<G>,
+    prototile: &Prototile<G>,
     level: u32,
-    tiles: &[Shape<G>],
+    tiles: Vec<Shape<G>>,
 ) -> Result<(), NoMemory>
-    requires { All (IsPlacement G.geometry shape.now) tiles.now }
-    ensures { OnOk result (AddTiles (λ e. record { level = e.level; tile = e.place.tile }) (λ e. e.place.by) G.geometry shape.now level tiles.now entries.old.items entries.new.items) }
+    requires { All (IsPlacement G.geometry prototile.now) tiles.items }
+    ensures { OnOk result
+        (AddTiles (λ e. record { level = e.level; tile = e.place.tile }) (λ e. e.place.by) G.geometry prototile.now
+        level tiles.items entries.old.items entries.new.items) }
 {
     for tile in tiles {
-        let place = Placement::onto(shape, tile);
+        let place = Placement::onto(prototile, tile);
         add(entries, Entry { level, place })?;
     }
     Ok(())
@@ -80,44 +92,58 @@ fn add_entries<G: Grid>(
 /// The variables of the levels 1 to this one.
 fn entries_of<G: Grid>(
     alloc: Global,
-    shape: &Shape<G>,
+    prototile: &Prototile<G>,
     level: u32,
 ) -> Result<Vec<Entry<G>>, NoMemory>
     requires level { (1 ≤ level) × (level ≤ 6) }
-    requires canonical { IsCanonicalListOf G.geometry shape.now shape.now }
-    ensures universe { IfOk result (λ all. IsUniverse G.geometry shape.now level (map (λ e. record { level = e.level; tile = e.place.tile }) all.items)) }
-    ensures least { IfOk result (λ all. HaveLeast (λ e. record { level = e.level; tile = e.place.tile }) (λ e. e.place.by) G.geometry shape.now all.items) }
+    requires near { (c : Cell) → has prototile.now c ≡ true → IsWithin 200 c }
+    ensures universe { IfOk result (λ all.
+        IsUniverse G.geometry prototile.now level
+        (map (λ e. record { level = e.level; tile = e.place.tile }) all.items)) }
+    ensures least { IfOk result (λ all.
+        HaveLeast (λ e. record { level = e.level; tile = e.place.tile }) (λ e. e.place.by) G.geometry
+        prototile.now all.items) }
 {
-    let _cells = shape.cells();
     let mut entries = Vec::new(alloc);
-    let mut current = Level::first(alloc, shape)?;
-    add_entries(&mut entries, shape, 1, current.tiles())?;
+    let mut tiles = first_level(alloc, prototile)?;
     for k in 1..level {
-        let next = current.next(alloc, shape)?;
-        add_entries(&mut entries, shape, k + 1, next.tiles())?;
-        current = next;
+        let inner = Level::of(alloc, tiles)?;
+        tiles = inner.next(alloc, prototile)?;
+        add_entries(&mut entries, prototile, k, inner.into_tiles())?;
     }
+    add_entries(&mut entries, prototile, level, tiles)?;
     Ok(entries)
 }
 
-/// The index of the variables' tiles.
-fn index_of<G: Grid>(alloc: Global, entries: &[Entry<G>]) -> Result<CellIndex, NoMemory>
-    ensures { IfOk result (λ index. index ≡ map (λ e. e.place.tile) entries.now) }
+/// The table of the variables' tiles.
+fn table_of<G: Grid>(alloc: Global, entries: &[Entry<G>]) -> Result<CellTable, NoMemory>
+    ensures { IfOk result (λ table. table ≡ map (λ e. e.place.tile) entries.now) }
 {
-    let mut index = CellIndex::new(alloc);
+    let mut sets = CellSets::new(alloc);
     for entry in entries {
-        index.add(entry.place.shape().cells())?;
+        sets.push(entry.place.shape().cells())?;
     }
-    Ok(index)
+    CellTable::of(alloc, sets)
+}
+
+/// Whether the variable of a number has a level of at most `up_to`.
+fn is_up_to<G: Grid>(entries: &[Entry<G>], number: u32, up_to: u32) -> bool
+    ensures { result ≡ nat_le (level_at (map (λ e. e.level) entries.now) number) up_to }
+{
+    let place = number.saturating_sub(1) as usize;
+    if place >= entries.len() {
+        return true;
+    }
+    entries[place].level <= up_to
 }
 
 impl<G: Grid> Universe<G> {
     /// The universe of a canonical shape, at a level from 1 to 6. A universe of 2^31 variables or more
     /// counts as want of memory.
     ///
-    /// For each level, each cell that touches a placement of the level below is tried once, with each
-    /// turn and each cell of the shape; so the cost grows with the area that the levels fill and not
-    /// with the square of the number of variables.
+    /// For each level, each cell that a placement of it may begin with is tried once, with each
+    /// orientation of the shape; so the cost grows with the area that the levels fill and not with the
+    /// square of the number of variables.
     pub fn of(alloc: Global, shape: &Shape<G>, level: u32) -> Result<Universe<G>, NoMemory>
         requires level { (1 ≤ level) × (level ≤ 6) }
         requires canonical { IsCanonicalListOf G.geometry shape.now shape.now }
@@ -126,16 +152,17 @@ impl<G: Grid> Universe<G> {
         ensures level { IfOk result (λ u. u.level ≡ level) }
         ensures few { IfOk result (λ u. length u.vars < 2 ^ 31) }
     {
-        let entries = entries_of(alloc, shape, level)?;
+        let prototile = Prototile::of(alloc, shape.canonical())?;
+        let entries = entries_of(alloc, &prototile, level)?;
         if entries.len() >= VARIABLES_MAX {
             return Err(NoMemory);
         }
-        let index = index_of(alloc, entries.as_slice())?;
+        let table = table_of(alloc, entries.as_slice())?;
         Ok(Universe {
-            shape: shape.canonical(),
+            shape: prototile.into_shape(),
             level,
             entries,
-            index,
+            table,
         })
     }
 
@@ -192,20 +219,17 @@ impl<G: Grid> Universe<G> {
     }
 
     /// The numbers, rising, of the variables of level at most `up_to` whose tile has the cell. One
-    /// look-up and a walk over the answer; it takes no memory.
+    /// look-up, and a binary search over what it gives; it takes no memory.
     pub fn covered_by(&self, c: Cell, up_to: u32) -> &[u32]
         ensures { result.now ≡ covering self.now.vars up_to c }
     {
-        let numbers = self.index.covering(c);
+        let numbers = self.table.covering(c);
         if self.level <= up_to {
             return numbers;
         }
-        for (i, number) in numbers.iter().enumerate() {
-            if self.entries[*number as usize - 1].level > up_to {
-                return &numbers[..i];
-            }
-        }
-        numbers
+        let entries = self.entries.as_slice();
+        let end = numbers.partition_point(|number| is_up_to(entries, *number, up_to));
+        &numbers[..end]
     }
 
     /// The same numbers as a list of their own.

@@ -1,27 +1,50 @@
-use Rattle.std.proofs.Common.{[], sym, ◌∙◌, subst, arith}
-use Rattle.heesch_grid.specs.Cells.{cell_before}
+use Rattle.std.proofs.Common.{◌≡◌, [], Contains, get_or, pos, sym, subst, ap, ◌∙◌, arith}
+use Rattle.heesch_grid.specs.declared.Cell.{Cell}
+use Rattle.heesch_grid.specs.Cells.{cell, has}
 use Rattle.heesch_grid.specs.Geometry.{Touching}
-use Rattle.heesch_place.specs.Found.{Adds, FromOne, TouchesSome}
-use Rattle.heesch_place.proofs.Gathering.{from_none, from_more, from_all, any_default, lists_added}
+use Rattle.heesch_place.specs.Found.{Adds, FromOne}
+use Rattle.heesch_index.specs.Marking.{is_marked}
+use Rattle.heesch_place.proofs.Beyond.{once_covered, around_once}
+use Rattle.heesch_place.proofs.Gathering.{from_none, from_more, from_all, member_at}
+use Rattle.heesch_place.proofs.around.cells_touching.Given as given
 use Rattle.heesch_place.proofs.around.cells_touching.Goals as goal
+use Rattle.heesch_place.proofs.around.cells_touching.Goals.{After-deref-c-items}
 
-pub loop-tile-init : goal.loop-tile-init
-loop-tile-init g c =
-    let R = FromOne (Touching g.G.Grid.geometry) in
-    subst (Adds (FromOne R []) []) (sym c.new-all.ensures.items) (from_none R [] [])
+abbrev zero_cell : Cell
+zero_cell = cell (pos 0) (pos 0)
 
-pub loop-tile-preserved : goal.loop-tile-preserved
-loop-tile-preserved g c =
-    let R = FromOne (Touching g.G.Grid.geometry) in
-    let tiles = c.args.tiles.now in
-    let l = c.loop-tile in
-    from_more R tiles l.tile-index [] [] l.all.items c.add_beside.new.all.items c.loop-tile-test.true l.invariant
-    (subst (λ z. Adds (R z) l.all.items c.add_beside.new.all.items) (c.tile-item.is ∙ any_default tiles l.tile-index c.tile-item.result [] c.loop-tile-test.true) c.in_ok-add_beside.ensures)
+marked : (g : given.Over) (c : After-deref-c-items g) (d : Cell) → is_marked c.in_ok-of.field-0 d ≡ has c.in_ok-covered.covered.items d
+marked g c d = c.in_ok-of.ensures d ∙ ap (λ zs. has zs d) c.as_slice.ensures.value
+
+-- the cell at a place of the list is a cell of a tile
+covered : (g : given.Over) (c : After-deref-c-items g) (d : Cell) → Contains c.deref-c-items.result.now d → Contains c.in_ok-covered.covered.items d
+covered g c d m =
+    once_covered g.G.Grid.geometry c.args.tiles.now c.in_ok-covered.covered.items c.in_ok-once.once.items c.in_ok-of.field-0 c.in_ok-covered.ensures.exact (marked g c) c.in_ok-once.ensures d (subst (λ zs. Contains zs d) c.deref-c-items.ensures.value m)
+
+pub add_touching-requires-clause-cell : goal.add_touching-requires-clause-cell
+add_touching-requires-clause-cell g c =
+    let ds = c.deref-c-items.result.now in
+    let d = get_or ds c.loop-c.c-index zero_cell in
+    c.in_ok-covered.ensures.cells d (covered g (goal.at.add_touching-requires-clause-cell g c).After-deref-c-items d (member_at ds c.loop-c.c-index zero_cell c.loop-c-test.true))
+
+pub add_touching-requires-clause-within : goal.add_touching-requires-clause-within
+add_touching-requires-clause-within g c =
+    let ds = c.deref-c-items.result.now in
+    let d = get_or ds c.loop-c.c-index zero_cell in
+    c.in_ok-covered.ensures.within d (covered g (goal.at.add_touching-requires-clause-within g c).After-deref-c-items d (member_at ds c.loop-c.c-index zero_cell c.loop-c-test.true))
+
+pub loop-c-init : goal.loop-c-init
+loop-c-init g c = subst (Adds (FromOne (Touching g.G.Grid.geometry) []) []) (sym c.new-all.ensures.items) (from_none (Touching g.G.Grid.geometry) c.deref-c-items.result.now [])
+
+pub loop-c-preserved : goal.loop-c-preserved
+loop-c-preserved g c =
+    from_more (Touching g.G.Grid.geometry) c.deref-c-items.result.now c.loop-c.c-index zero_cell [] c.loop-c.all.items c.add_touching.new.all.items c.loop-c-test.true c.loop-c.invariant c.in_ok-add_touching.ensures
 
 pub returns : goal.returns
 returns g c =
-    let R = FromOne (Touching g.G.Grid.geometry) in
-    let tiles = c.args.tiles.now in
-    let l = c.loop-tile in
-    let made = from_all R tiles l.tile-index [] l.all.items (omega (arith, c.loop-tile-test.false, l.auto.tile-index-end)) l.invariant in
-    lists_added cell_before (TouchesSome g.G.Grid.geometry tiles) l.all.items c.listed_cells.result.items made c.listed_cells.ensures
+    let at = (goal.at.returns g c).After-deref-c-items in
+    let geometry = g.G.Grid.geometry in
+    let ds = c.deref-c-items.result.now in
+    let all = c.loop-c.all.items in
+    let made = from_all (Touching geometry) ds c.loop-c.c-index [] all (omega (arith, c.loop-c-test.false, c.loop-c.auto.c-index-end)) c.loop-c.invariant in
+    around_once geometry c.args.tiles.now c.in_ok-covered.covered.items c.in_ok-once.once.items c.in_ok-of.field-0 c.in_ok-covered.ensures.exact (marked g at) c.in_ok-once.ensures all (subst (λ zs. Adds (FromOne (Touching geometry) zs) [] all) c.deref-c-items.ensures.value made)

@@ -1,25 +1,19 @@
-use Rattle.std.proofs.Common.{◌<◌, [], sym, subst, arith}
-use Rattle.std.specs.Prelude.{ℕ}
+use Rattle.std.proofs.Common.{[], ◌+◌, refl, subst}
 use Rattle.heesch_grid.specs.Cells.{cells_before}
-use Rattle.heesch_place.specs.Found.{Adds, IsTurnedOver, IsPlacementOver}
-use Rattle.heesch_place.proofs.Gathering.{below_none, below_more, below_all, lists_added}
-use Rattle.heesch_place.proofs.Reaching.{turned_over, over_turned}
+use Rattle.heesch_place.specs.Found.{Adds, IsInSquare, IsPlacementOver}
+use Rattle.heesch_place.proofs.Gathering.{lists_added}
+use Rattle.heesch_place.proofs.Moving.{rows_over}
 use Rattle.heesch_place.proofs.onto.placements_over.Goals as goal
-
-pub loop-k-init : goal.loop-k-init
-loop-k-init g c =
-    let P = IsTurnedOver g.G.Grid.geometry c.args.shape.now c.args.targets.now in
-    subst (Adds (λ tile. (k : ℕ) × (k < 0) × P k tile) []) (sym c.new-all.ensures.items) (below_none P [])
-
-pub loop-k-preserved : goal.loop-k-preserved
-loop-k-preserved g c =
-    let P = IsTurnedOver g.G.Grid.geometry c.args.shape.now c.args.targets.now in
-    below_more P c.loop-k.k [] c.loop-k.all.items c.add_turned.new.all.items c.loop-k.invariant c.in_ok-add_turned.ensures
 
 pub returns : goal.returns
 returns g c =
     let geometry = g.G.Grid.geometry in
-    let shape = c.args.shape.now in
+    let shape = c.args.prototile.now in
     let targets = c.args.targets.now in
-    let made : Adds (IsPlacementOver geometry shape targets) [] c.loop-k.all.items = below_all (IsTurnedOver geometry shape targets) (IsPlacementOver geometry shape targets) c.loop-k.k geometry.turns [] c.loop-k.all.items (omega (arith, c.loop-k-test.false, c.loop-k.auto.k-end, c.TURNS-k-end.ensures, g.met.G.Grid.sizes.turns_is)) (λ t k less h. turned_over geometry g.met.G.Grid.laws shape targets t k less h) (over_turned geometry g.met.G.Grid.laws shape targets) c.loop-k.invariant in
-    lists_added cells_before (IsPlacementOver geometry shape targets) c.loop-k.all.items c.listed_tiles.result.items made c.listed_tiles.ensures
+    let all = c.add_rows.new.all.items in
+    let most = c.radius.result + c.reach.result in
+    let o = c.orientations-orientations in
+    let marks = c.in_ok-marks.marks in
+    let added = subst (λ old. Adds (IsInSquare geometry marks o.result.now most) old all) c.new-all.ensures.items c.in_ok-add_rows.ensures in
+    let made = rows_over geometry shape targets marks o.result.now most o.ensures c.in_ok-marks.ensures [] all c.radius.result c.reach.result refl c.radius.ensures.within c.reach.ensures.within added in
+    lists_added cells_before (IsPlacementOver geometry shape targets) all c.listed_tiles.result.items made c.listed_tiles.ensures

@@ -1,4 +1,4 @@
-use Rattle.std.proofs.Common.{map}
+use Rattle.std.proofs.Common.{◌-◌, map}
 use Rattle.heesch_grid.specs.Cells.{cells_before}
 use Rattle.heesch_grid.specs.CoronaFormula.{IsAtLevel, IsUniverse}
 use Rattle.heesch_grid.specs.Listing.{ListsExactly}
@@ -6,7 +6,8 @@ use Rattle.heesch_place.specs.Universes.{HaveLeast}
 use Rattle.heesch_place.proofs.universe.entries_of.Given as goal
 
 abbrev pub invariant-loop-k : goal.invariant-loop-k
-invariant-loop-k g l =
-    IsUniverse g.G.Grid.geometry l.shape l.k (map (λ e. record { level = e.level; tile = e.place.tile }) l.entries.items)
-    × HaveLeast (λ e. record { level = e.level; tile = e.place.tile }) (λ e. e.place.by) g.G.Grid.geometry l.shape l.entries.items
-    × ListsExactly cells_before (IsAtLevel g.G.Grid.geometry l.shape l.k) l.current
+invariant-loop-k g l = record {
+  universe : IsUniverse g.G.Grid.geometry l.prototile (l.k - 1) (map (λ e. record { level = e.level; tile = e.place.tile }) l.entries.items);
+  least : HaveLeast (λ e. record { level = e.level; tile = e.place.tile }) (λ e. e.place.by) g.G.Grid.geometry l.prototile l.entries.items;
+  outer : ListsExactly cells_before (IsAtLevel g.G.Grid.geometry l.prototile l.k) l.tiles.items;
+}

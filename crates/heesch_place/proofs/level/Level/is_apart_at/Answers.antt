@@ -3,7 +3,7 @@ use Rattle.std.specs.List.{list_any}
 use Rattle.heesch_grid.specs.Cells.{meet}
 use Rattle.heesch_index.specs.Covering.{numbers_with}
 use Rattle.heesch_index.proofs.NumberFacts.{numbers_with-at}
-use Rattle.heesch_place.proofs.Beyond.{numbered_any}
+use Rattle.heesch_place.proofs.Beyond.{apart_own, numbered_any}
 use Rattle.heesch_place.proofs.Gathering.{any_default, some_here, none_more, none_all}
 use Rattle.heesch_place.proofs.level.Level.is_apart_at.Given as given
 use Rattle.heesch_place.proofs.level.Level.is_apart_at.Goals as goal
@@ -12,17 +12,17 @@ use Rattle.heesch_place.proofs.level.Level.is_apart_at.Goals.{After-covering-num
 pub overflow_sub-number : goal.overflow_sub-number
 overflow_sub-number g c =
     let ns = c.covering-number-items.result.now in
-    (numbers_with-at c.self.inside.index c.args.c ns c.covering-number-items.ensures c.loop-number.number-index c.loop-number-test.true).0
+    (numbers_with-at c.self.inside.table c.args.c ns c.covering-number-items.ensures c.loop-number.number-index c.loop-number-test.true).0
 
 pub index-requires : goal.index-requires
 index-requires g c =
     let ns = c.covering-number-items.result.now in
-    let at = numbers_with-at c.self.inside.index c.args.c ns c.covering-number-items.ensures c.loop-number.number-index c.loop-number-test.true in
-    let long : length c.self.inside.index ≡ length c.self.inside.tiles.items = ap length c.self.invariant in
+    let at = numbers_with-at c.self.inside.table c.args.c ns c.covering-number-items.ensures c.loop-number.number-index c.loop-number-test.true in
+    let long : length c.self.inside.table ≡ length c.self.inside.tiles.items = ap length c.self.invariant in
     omega (arith, at.0, at.1, long, c.self.inside.tiles.ok.0)
 
 -- the index is that of the tiles
-view : (g : given.Over) (c : After-covering-number-items g) → c.self.inside.index ≡ c.args.self.now
+view : (g : given.Over) (c : After-covering-number-items g) → c.self.inside.table ≡ c.args.self.now
 view g c = c.self.invariant ∙ c.self.view_is
 
 -- the tile of the number is the one that is looked at
@@ -31,7 +31,7 @@ looked_at g c =
     let inner = c.args.self.now in
     let ns = c.covering-number-items.result.now in
     let n = get_or ns c.loop-number.number-index 0 - 1 in
-    let at = numbers_with-at c.self.inside.index c.args.c ns c.covering-number-items.ensures c.loop-number.number-index c.loop-number-test.true in
+    let at = numbers_with-at c.self.inside.table c.args.c ns c.covering-number-items.ensures c.loop-number.number-index c.loop-number-test.true in
     let less : n < length inner = let low = at.0 in let high = at.1 in omega (arith, ap length (c.self.invariant ∙ c.self.view_is)) in
     let is : c.index.result.now ≡ get_or inner n [] = c.index.ensures ∙ ap (λ zs. get_or zs n c.index.result.now) c.self.view_is ∙ any_default inner n c.index.result.now [] less in
     ap (λ t. not (meet t c.args.tile.now)) (sym is) ∙ ap not (sym c.meets.ensures)
@@ -54,3 +54,6 @@ returns g c =
     let p : ℕ → Bool = λ n. not (meet (get_or c.args.self.now (n - 1) []) c.args.tile.now) in
     sym (none_all p ns c.loop-number.number-index (omega (arith, c.loop-number-test.false, c.loop-number.auto.number-index-end)) c.loop-number.invariant)
     ∙ ap (list_any p) (c.covering-number-items.ensures ∙ ap (λ sets. numbers_with sets c.args.c) (view g (goal.at.returns g c).After-covering-number-items)) ∙ numbered_any c.args.self.now c.args.tile.now c.args.c
+
+pub returns-then-has : goal.returns-then-has
+returns-then-has g c = apart_own c.args.self.now c.args.tile.now c.args.c (sym c.has.ensures ∙ c.if-has.true)

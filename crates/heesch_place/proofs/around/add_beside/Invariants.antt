@@ -1,7 +1,0 @@
-use Rattle.std.proofs.Common.{take}
-use Rattle.heesch_grid.specs.Geometry.{Touching}
-use Rattle.heesch_place.specs.Found.{Adds, FromOne}
-use Rattle.heesch_place.proofs.around.add_beside.Given as goal
-
-abbrev pub invariant-loop-c : goal.invariant-loop-c
-invariant-loop-c g l = Adds (FromOne (Touching g.G.Grid.geometry) (take l.c-index l.cells)) l.fn.all.items l.all.items
