@@ -1,5 +1,5 @@
 -- How many clauses and owner variables the owned cells of a universe have.
-use Rattle.std.specs.Prelude.{◌≡◌, ℕ, ◌+◌, ◌*◌, ◌<◌, ◌^◌, List, [], ◌∷◌, length, map, sum_by, Contains}
+use Rattle.std.specs.Prelude.{◌≡◌, ℕ, ◌+◌, ◌*◌, ◌<◌, ◌≤◌, ◌^◌, List, [], ◌∷◌, length, map, sum_by, Contains}
 use Rattle.heesch_grid.specs.declared.Cell.{Cell}
 use Rattle.heesch_grid.specs.Listing.{ListsExactly}
 use Rattle.heesch_grid.specs.Cells.{cell_before}
@@ -21,6 +21,10 @@ owners_of vars owned = owner_clauses literals vars (length vars + 1) owned
 -- how many variables there are with the owner variables of these cells
 abbrev pub vars_with : List Variable → List Cell → ℕ
 vars_with vars owned = length vars + sum_by (owner_count vars) owned
+
+-- no cell is in the tiles of more than so many variables
+pub record IsHoldersBound (vars : List Variable) (most : ℕ) : Type 0 where
+  pub each : (c : Cell) → length (holders vars c) ≤ most
 
 -- the counts are those of the cells that several variables have
 pub record AreOwners (vars : List Variable) (o : OwnerClauses) : Type 0 where

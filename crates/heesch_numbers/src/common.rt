@@ -11,7 +11,9 @@ ghost use Rattle.heesch_grid.specs.Polyform.{IsCanonicalListOf};
 ghost use Rattle.heesch_place.specs.Universes.{IsUniverseOf};
 ghost use Rattle.heesch_encode.specs.Plans.{IsPlan};
 ghost use Rattle.heesch_numbers.specs.Common.{common_of, IsCommonNumber};
+ghost use Rattle.heesch_numbers.specs.OwnerCounts.{IsHoldersBound};
 
+use crate::bound::supports_fit;
 use crate::counts::counts_of;
 use crate::prefix::Prefix;
 use crate::remain::{all_negated_remain, first_remain};
@@ -154,6 +156,36 @@ impl<G: Grid> CommonClauses<G> {
             return false;
         }
         all_negated_remain(&plan, clause, values)
+    }
+
+    /// Whether the clauses have at most so many literals by a bound, where no cell is in the tiles of more than `most`
+    /// variables: a clause of family 1 or 2 has a literal for each variable that has its cell, and one more at most.
+    /// It takes no memory and a constant time for each variable.
+    fn surely_fits(&self, most: u32, room: u32) -> bool
+        requires { IsHoldersBound self.now.vars most }
+        ensures { (around : List Cell → List Cell) → GivesCellsAround G.geometry around
+            → IsTrue result → formula_size (common_of G.geometry around self.now) ≤ room }
+    {
+        let plan = self.plan();
+        let count = self.first.len() + self.covering.total() as usize;
+        let size = count.saturating_mul(most as usize + 1);
+        if size > room as usize {
+            return false;
+        }
+        supports_fit(&plan, most, room as usize - size)
+    }
+
+    /// The same as `fits`, where no cell is in the tiles of more than `most` variables. Only where the bound that this
+    /// gives is above the room are the literals counted.
+    pub(crate) fn fits_by(&self, alloc: Global, most: u32, room: u32) -> Result<bool, NoMemory>
+        requires { IsHoldersBound self.now.vars most }
+        ensures { (around : List Cell → List Cell) → GivesCellsAround G.geometry around
+            → IfOk result (λ yes. IsTrue yes ↔ (formula_size (common_of G.geometry around self.now) ≤ room)) }
+    {
+        if self.surely_fits(most, room) {
+            return Ok(true);
+        }
+        self.fits(alloc, room)
     }
 
     /// Whether the clauses have at most so many literals. They are counted by the cells, and no clause is made.

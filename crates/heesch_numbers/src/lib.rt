@@ -1,6 +1,7 @@
 //! The clauses of a corona formula by their numbers: each is computed where it is asked for, and none is kept.
 #![tactic(auto)]
 
+mod bound;
 mod common;
 mod counts;
 mod owners;

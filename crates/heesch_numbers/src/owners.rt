@@ -1,6 +1,7 @@
-//! The last family of the second formula, by the numbers of its clauses: owner variables tell of each cell that several
-//! variables have which of them is chosen.
-ghost use Rattle.std.specs.Prelude.{◌≡◌, ◌+◌, ◌-◌, ◌*◌, ◌<◌, ◌≤◌, ◌^◌, ◌∷◌, ◌++◌, [], length, slice_index_or, IsTrue, ◌↔◌, IfOk, OnOk, IsErrOf, Contains};
+//! The last family of the second formula, by the numbers of its clauses: owner variables tell of each cell that
+//! several variables have which of them is chosen.
+ghost use Rattle.std.specs.Prelude.{◌≡◌, ◌+◌, ◌-◌, ◌*◌, ◌<◌, ◌≤◌, ◌^◌, ◌∷◌, ◌++◌, ◌↔◌, [], IsTrue, Contains};
+ghost use Rattle.std.specs.Prelude.{length, max, slice_index_or, IfOk, OnOk, IsErrOf};
 ghost use Rattle.heesch_cert.specs.Literals.{literals};
 ghost use Rattle.heesch_cnf.specs.Clauses.{IsClause, IsNew};
 ghost use Rattle.heesch_cnf.specs.Left.{IsLeft};
@@ -20,12 +21,13 @@ use std::alloc::Global;
 const VARIABLES_MAX: u32 = 1 << 31;
 
 /// The cells that several variables of a universe have, in cell order, with how many clauses and owner variables each
-/// has.
+/// has, and the most variables that have one of them.
 #[derive(Drop)]
 pub(crate) struct OwnerClauses {
     pub cells: Vec<Cell>,
     pub clauses: Prefix,
     pub owners: Prefix,
+    pub most_holders: u32,
 }
 
 /// The literal of a variable and a sign.
@@ -44,18 +46,21 @@ fn bit_of(rank: usize, t: u32) -> bool
 }
 
 impl OwnerClauses {
-    ghost use Rattle.heesch_numbers.specs.OwnerCounts.{AreOwners, HaveMoreThan, HasOneOf, owners_of, vars_with};
+    ghost use Rattle.heesch_numbers.specs.OwnerCounts.{AreOwners, HaveMoreThan, HasOneOf, IsHoldersBound};
+    ghost use Rattle.heesch_numbers.specs.OwnerCounts.{owners_of, vars_with};
 
-    /// Without a cell.
+    /// Without a count. A cell that isn't among these has one holder at most.
     fn new(alloc: Global, cells: Vec<Cell>) -> OwnerClauses
         ensures cells { result.cells.items ≡ cells.items }
         ensures clauses { result.clauses ≡ [] }
         ensures owners { result.owners ≡ [] }
+        ensures most { result.most_holders ≡ 1 }
     {
         OwnerClauses {
             cells,
             clauses: Prefix::new(alloc),
             owners: Prefix::new(alloc),
+            most_holders: 1,
         }
     }
 
@@ -66,6 +71,7 @@ impl OwnerClauses {
         ensures cells { self.new.cells ≡ self.old.cells }
         ensures clauses { OnOk result (self.new.clauses ≡ self.old.clauses ++ holders * digits (holders - 1) ∷ []) }
         ensures owners { OnOk result (self.new.owners ≡ self.old.owners ++ digits (holders - 1) ∷ []) }
+        ensures most { OnOk result (self.new.most_holders ≡ max self.old.most_holders holders) }
         ensures left { IfOk result (λ left. left + 2 * (holders * digits (holders - 1)) ≡ room) }
         ensures too_large { IsErrOf result EncodeStop.TooLarge → room < 2 * (holders * digits (holders - 1)) }
     {
@@ -76,12 +82,13 @@ impl OwnerClauses {
         }
         self.clauses.push(clauses as u32)?;
         self.owners.push(digits)?;
+        self.most_holders = self.most_holders.max(holders as u32);
         Ok(room - 2 * clauses as u32)
     }
 
-    /// The last family of a universe, where its clauses have at most `room` literals, and how many more there could be.
-    /// `TooLarge` exactly where they have more. 2^31 variables or more count as want of memory. A look-up for each cell
-    /// of each variable's tile, and a sort of the cells found.
+    /// The last family of a universe, where its clauses have at most `room` literals, and how many more there could
+    /// be. `TooLarge` exactly where they have more. 2^31 variables or more count as want of memory. A look-up for each
+    /// cell of each variable's tile, and a sort of the cells found.
     pub fn of<G: Grid>(
         alloc: Global,
         universe: &Universe<G>,
@@ -90,6 +97,7 @@ impl OwnerClauses {
         requires universe { IsUniverseOf G.geometry universe.now }
         requires few { length universe.now.vars < 2 ^ 31 }
         ensures owners { IfOk result (λ r. AreOwners universe.now.vars r.0) }
+        ensures most { IfOk result (λ r. IsHoldersBound universe.now.vars r.0.most_holders) }
         ensures left { IfOk result (λ r. r.1 + formula_size (owners_of universe.now.vars r.0.cells.items) ≡ room) }
         ensures too_large { IsErrOf result EncodeStop.TooLarge → HaveMoreThan universe.now.vars room }
     {
@@ -128,7 +136,8 @@ impl OwnerClauses {
         requires owners { AreOwners universe.now.vars self.now }
         requires place { place < length (owners_of universe.now.vars self.now.cells.items) }
         requires room { vars_with universe.now.vars self.now.cells.items < length values.now }
-        ensures { IsLeft (held values.now) (slice_index_or (owners_of universe.now.vars self.now.cells.items) place []) result }
+        ensures { IsLeft (held values.now)
+            (slice_index_or (owners_of universe.now.vars self.now.cells.items) place []) result }
     {
         let (part, rest) = self.clauses.place(place);
         let holders = holders_of(universe, self.cells[part]);
@@ -152,7 +161,8 @@ impl OwnerClauses {
         requires owners { AreOwners universe.now.vars self.now }
         requires later { length universe.now.vars < owner.var }
         requires last { owner.var ≤ vars_with universe.now.vars self.now.cells.items }
-        ensures { IsTrue result ↔ Contains (owners_of universe.now.vars self.now.cells.items) (literals.minus var ∷ owner ∷ []) }
+        ensures { IsTrue result
+            ↔ Contains (owners_of universe.now.vars self.now.cells.items) (literals.minus var ∷ owner ∷ []) }
     {
         let (part, t) = self.owners.place(owner.var - universe.count() - 1);
         match holders_of(universe, self.cells[part]).binary_search(&var) {
@@ -177,8 +187,8 @@ impl OwnerClauses {
         false
     }
 
-    /// Whether the clause contains, as a set of literals, none of them. For each literal of an owner variable in it and
-    /// each negated variable, two binary searches and a look-up; it takes no memory.
+    /// Whether the clause contains, as a set of literals, none of them. For each literal of an owner variable in it
+    /// and each negated variable, two binary searches and a look-up; it takes no memory.
     pub fn is_new<G: Grid>(&self, universe: &Universe<G>, clause: &[Lit]) -> bool
         requires universe { IsUniverseOf G.geometry universe.now }
         requires owners { AreOwners universe.now.vars self.now }

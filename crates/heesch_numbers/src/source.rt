@@ -29,25 +29,25 @@ pub struct CoronaSource<G: Grid> {
 }
 
 impl<G: Grid> Model for CoronaSource<G> {
-    ghost use Rattle.std.specs.Prelude.{◌≤◌, ◌^◌, length};
-    ghost use Rattle.heesch_numbers.specs.OwnerCounts.{AreOwners};
-    ghost use Rattle.heesch_numbers.specs.Sourced.{Sourced, owned_formula};
+    ghost use Rattle.heesch_numbers.specs.Sourced.{Sourced, IsSource, owned_formula};
 
     ghost Value = { Sourced };
 
-    ghost view = { λ s. record { universe = s.common; formula = owned_formula G.geometry s.common s.owners.cells.items } };
+    ghost view = { λ s.
+        record { universe = s.common; formula = owned_formula G.geometry s.common s.owners.cells.items } };
 
-    ghost invariant = { λ s. AreOwners s.common.vars s.owners × (length (owned_formula G.geometry s.common s.owners.cells.items).clauses ≤ 2 ^ 31) };
+    ghost invariant = { λ s. IsSource G.geometry s.common s.owners };
 }
 
 impl<G: Grid> CoronaSource<G> {
     /// The source of the formula of a shape and a level, where the formula has at most `size` literals; these are
-    /// counted, and no clause is made.
+    /// bounded or counted, and no clause is made.
     ///
     /// Condition: the shape is canonical, the level 1 to 6, the size 1 to 60,000,000. `TooLarge` exactly where the
-    /// formula has more than `size` literals; `NoMemory` says nothing more. The cost is that of the universe, a look-up
-    /// for each cell of each variable's tile and around it, and a walk over the variables of the level below that touch
-    /// each variable.
+    /// formula has more than `size` literals; `NoMemory` says nothing more. The cost is that of the universe, a
+    /// look-up for each cell of each variable's tile, and a step for each cell around it. Where a bound by the most
+    /// variables that have one cell is above the size, there is besides a look-up for each cell around each tile, and
+    /// a walk over the variables of the level below that touch each variable.
     pub fn of(
         alloc: Global,
         shape: &Shape<G>,
@@ -60,14 +60,15 @@ impl<G: Grid> CoronaSource<G> {
         ensures universe { IfOk result (λ s. IsUniverseOf G.geometry s.universe) }
         ensures shape { IfOk result (λ s. s.universe.shape ≡ shape.now) }
         ensures level { IfOk result (λ s. s.universe.level ≡ level) }
-        ensures formula { IfOk result (λ s. IsCountedFormula Two G.geometry shape.now level s.universe.vars s.formula.vars s.formula.clauses) }
+        ensures formula { IfOk result (λ s.
+            IsCountedFormula Two G.geometry shape.now level s.universe.vars s.formula.vars s.formula.clauses) }
         ensures fits { IfOk result (λ s. formula_size s.formula.clauses ≤ size) }
         ensures too_large { IsErrOf result EncodeStop.TooLarge → IsTooLarge Two G.geometry shape.now level size }
     {
         let universe = Universe::of(alloc, shape, level)?;
         let (owners, left) = OwnerClauses::of(alloc, &universe, size)?;
         let common = CommonClauses::of(alloc, shape, universe)?;
-        if !common.fits(alloc, left)? {
+        if !common.fits_by(alloc, owners.most_holders, left)? {
             return Err(EncodeStop::TooLarge);
         }
         let owned = owners.count(common.universe()) as usize;

@@ -1,4 +1,5 @@
-//! What is left of a clause of families 1 to 3. Its literals are found by the cells, and looked at where they are found.
+//! What is left of a clause of families 1 to 3. Its literals are found by the cells, and looked at where they are
+//! found.
 ghost use Rattle.std.specs.Prelude.{◌≡◌, ◌+◌, ◌<◌, ◌≤◌, ◌&&◌, ◌==◌, ◌++◌, ℕ};
 ghost use Rattle.std.specs.Prelude.{[], List, All, false, filter, length, not, slice_index_or, ◌∷◌};
 ghost use Rattle.heesch_cnf.specs.declared.literal.Lit.{Lit};

@@ -66,7 +66,8 @@ impl<G: Grid> Model for Universe<G> {
       vars = map (λ e. record { level = e.level; tile = e.place.tile }) u.entries.items;
     } };
 
-    ghost invariant = { λ u. AreIndexed (λ e. record { level = e.level; tile = e.place.tile }) (λ e. e.place.by) G.geometry
+    ghost invariant = { λ u. AreIndexed (λ e. record { level = e.level; tile = e.place.tile })
+        (λ e. e.place.by) G.geometry
         u.shape u.level u.entries.items u.table };
 }
 

@@ -3,7 +3,7 @@ use Rattle.heesch_grid.proofs.AroundFacts.{cells_around, around_given}
 use Rattle.heesch_place.specs.Universes.{Levels}
 use Rattle.heesch_numbers.specs.OwnerCounts.{owners_of}
 use Rattle.heesch_numbers.specs.Sourced.{Sourced, owned_formula}
-use Rattle.heesch_numbers.proofs.SourceForms.{all_length}
+use Rattle.heesch_numbers.proofs.SourceMade.{formula_length}
 use Rattle.heesch_numbers.proofs.source.CoronaSourceClauseSource.count.Given as given
 use Rattle.heesch_numbers.proofs.source.CoronaSourceClauseSource.count.Goals as goal
 use Rattle.heesch_numbers.proofs.source.CoronaSourceClauseSource.count.Goals.{After-count-2}
@@ -16,14 +16,14 @@ whole g c =
     let cells = c.self.inside.owners.cells.items in
     let first = c.count.ensures (cells_around geometry) (around_given geometry g.met.G.Grid.laws) in
     let second = c.count-2.ensures ∙ ap (λ (w : Levels). length (owners_of w.vars cells)) c.universe.ensures.universe in
-    let both = all_length geometry (cells_around geometry) u.shape u.level u.vars cells in
+    let both = formula_length geometry u cells in
     omega arith
 
 pub overflow_add-result : goal.overflow_add-result
-overflow_add-result g c = let all = whole g (goal.at.overflow_add-result g c).After-count-2 in let few = c.self.invariant.1 in omega arith
+overflow_add-result g c = let all = whole g (goal.at.overflow_add-result g c).After-count-2 in let few = c.self.invariant.few in omega arith
 
 pub returns-clause-count : goal.returns-clause-count
 returns-clause-count g c = whole g (goal.at.returns-clause-count g c).After-count-2 ∙ ap (λ (s : Sourced). length s.formula.clauses) c.self.view_is
 
 pub returns-clause-few : goal.returns-clause-few
-returns-clause-few g c = let all = whole g (goal.at.returns-clause-few g c).After-count-2 in let few = c.self.invariant.1 in omega arith
+returns-clause-few g c = let all = whole g (goal.at.returns-clause-few g c).After-count-2 in let few = c.self.invariant.few in omega arith

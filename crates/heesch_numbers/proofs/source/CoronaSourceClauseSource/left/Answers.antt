@@ -6,9 +6,10 @@ use Rattle.heesch_cnf.specs.Literals.{held}
 use Rattle.heesch_grid.proofs.AroundFacts.{cells_around, around_given}
 use Rattle.heesch_place.specs.Universes.{Levels}
 use Rattle.heesch_numbers.specs.Common.{common_of}
-use Rattle.heesch_numbers.specs.OwnerCounts.{owners_of}
+use Rattle.heesch_numbers.specs.OwnerCounts.{owners_of, vars_with}
 use Rattle.heesch_numbers.specs.Sourced.{Sourced, owned_formula}
-use Rattle.heesch_numbers.proofs.SourceForms.{all_length, in_first, in_second}
+use Rattle.heesch_numbers.proofs.SourceForms.{in_first, in_second}
+use Rattle.heesch_numbers.proofs.SourceMade.{formula_length, formula_is, formula_vars}
 use Rattle.heesch_numbers.proofs.source.CoronaSourceClauseSource.left.Goals as goal
 
 pub left-requires-clause-number : goal.left-requires-clause-number
@@ -19,6 +20,20 @@ left-requires-clause-number g c =
     let test = c.if-number-count.true in
     record { around = cells_around geometry; gives = around_given geometry g.met.G.Grid.laws; is = (low, omega arith) }
 
+pub left-requires-clause-room : goal.left-requires-clause-room
+left-requires-clause-room g c =
+    let vars = formula_vars g.G.Grid.geometry c.self.inside.common c.self.inside.owners.cells.items in
+    let seen = ap (λ (s : Sourced). s.formula.vars) c.self.view_is in
+    omega (arith, vars, seen, c.requires.room)
+
+pub left-requires-else-number-count-clause-room : goal.left-requires-else-number-count-clause-room
+left-requires-else-number-count-clause-room g c =
+    let cells = c.self.inside.owners.cells.items in
+    let vars = formula_vars g.G.Grid.geometry c.self.inside.common cells in
+    let seen = ap (λ (s : Sourced). s.formula.vars) c.self.view_is in
+    let same = ap (λ (w : Levels). vars_with w.vars cells) c.universe.ensures.universe in
+    omega (arith, vars, seen, same, c.requires.room)
+
 pub left-requires-else-number-count-clause-place : goal.left-requires-else-number-count-clause-place
 left-requires-else-number-count-clause-place g c =
     let geometry = g.G.Grid.geometry in
@@ -26,7 +41,7 @@ left-requires-else-number-count-clause-place g c =
     let cells = c.self.inside.owners.cells.items in
     let first = c.count-count.ensures (cells_around geometry) (around_given geometry g.met.G.Grid.laws) in
     let second = ap (λ (w : Levels). length (owners_of w.vars cells)) c.universe.ensures.universe in
-    let both = all_length geometry (cells_around geometry) u.shape u.level u.vars cells in
+    let both = formula_length geometry u cells in
     let whole = ap (λ (s : Sourced). length s.formula.clauses) c.self.view_is in
     let high = c.requires.number.1 in
     let test = c.if-number-count.false in
@@ -41,7 +56,7 @@ returns-then-number-count g c =
     let low = c.requires.number.0 in
     let test = c.if-number-count.true in
     subst (λ (e : List Lit). IsLeft (held c.args.values.now) e c.left.result)
-    (sym (in_first (common_of geometry (cells_around geometry) u) (owners_of u.vars cells) c.args.number low (omega arith)) ∙ ap (λ (s : Sourced). numbered s.formula.clauses c.args.number) c.self.view_is)
+    (sym (in_first (common_of geometry (cells_around geometry) u) (owners_of u.vars cells) c.args.number low (omega arith)) ∙ ap (λ (cs : List (List Lit)). numbered cs c.args.number) (sym (formula_is geometry u cells)) ∙ ap (λ (s : Sourced). numbered s.formula.clauses c.args.number) c.self.view_is)
     (c.left.ensures (cells_around geometry) (around_given geometry g.met.G.Grid.laws))
 
 pub returns-else-number-count : goal.returns-else-number-count
@@ -52,7 +67,7 @@ returns-else-number-count g c =
     let place : ℕ = c.args.number - c.count-count.result - 1 in
     let first = c.count-count.ensures (cells_around geometry) (around_given geometry g.met.G.Grid.laws) in
     let test = c.if-number-count.false in
-    let at : numbered (owned_formula geometry u cells).clauses c.args.number ≡ get_or (owners_of u.vars cells) place [] = in_second (common_of geometry (cells_around geometry) u) (owners_of u.vars cells) c.args.number place (omega arith) in
+    let at : numbered (owned_formula geometry u cells).clauses c.args.number ≡ get_or (owners_of u.vars cells) place [] = ap (λ (cs : List (List Lit)). numbered cs c.args.number) (formula_is geometry u cells) ∙ in_second (common_of geometry (cells_around geometry) u) (owners_of u.vars cells) c.args.number place (omega arith) in
     subst (λ (e : List Lit). IsLeft (held c.args.values.now) e c.left-else-number-count.result)
     (ap (λ (w : Levels). get_or (owners_of w.vars cells) place []) c.universe.ensures.universe ∙ sym at ∙ ap (λ (s : Sourced). numbered s.formula.clauses c.args.number) c.self.view_is)
     c.left-else-number-count.ensures

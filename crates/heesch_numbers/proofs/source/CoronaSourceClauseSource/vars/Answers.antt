@@ -1,12 +1,17 @@
-use Rattle.std.proofs.Common.{subst}
+use Rattle.std.proofs.Common.{◌∙◌, ap, sym, subst}
 use Rattle.heesch_cnf.specs.Clauses.{AreClauses}
-use Rattle.heesch_grid.proofs.AroundFacts.{cells_around}
+use Rattle.heesch_place.specs.Universes.{Levels}
+use Rattle.heesch_numbers.specs.OwnerCounts.{vars_with}
 use Rattle.heesch_numbers.specs.Sourced.{Sourced}
-use Rattle.heesch_numbers.proofs.SourceForms.{all_form}
+use Rattle.heesch_numbers.proofs.SourceMade.{formula_form, formula_vars}
 use Rattle.heesch_numbers.proofs.source.CoronaSourceClauseSource.vars.Goals as goal
+
+pub returns-clause-vars : goal.returns-clause-vars
+returns-clause-vars g c =
+    let u = c.self.inside.common in
+    let cells = c.self.inside.owners.cells.items in
+    c.vars.ensures ∙ ap (λ (w : Levels). vars_with w.vars cells) c.universe.ensures.universe ∙ sym (formula_vars g.G.Grid.geometry u cells) ∙ ap (λ (s : Sourced). s.formula.vars) c.self.view_is
 
 pub returns-clause-form : goal.returns-clause-form
 returns-clause-form g c =
-    let geometry = g.G.Grid.geometry in
-    let u = c.self.inside.common in
-    subst (λ (s : Sourced). AreClauses s.formula.vars s.formula.clauses) c.self.view_is (all_form geometry (cells_around geometry) u.shape u.level u.vars c.self.inside.owners.cells.items)
+    subst (λ (s : Sourced). AreClauses s.formula.vars s.formula.clauses) c.self.view_is (formula_form g.G.Grid.geometry c.self.inside.common c.self.inside.owners.cells.items)
