@@ -1,7 +1,6 @@
-//! `heesch check` as a plain Rust program, for catalogues of squares, hexagons and triangles whose
-//! shapes have at most 16 cells: `check < CATALOGUE`. A clause that a hint names is had by its
-//! number alone, and nothing of a formula is made. It writes `valid COUNT` or the first invalid
-//! part, with status 1.
+//! `heesch check` as a plain Rust program, for catalogues of shapes of at most 16 cells:
+//! `check < CATALOGUE`. A clause that a hint names is computed from its number alone, and nothing
+//! of a formula is made. It writes `valid COUNT`, or the first invalid part with status 1.
 #[allow(dead_code)]
 mod cdcl;
 #[allow(dead_code)]
@@ -99,8 +98,7 @@ fn read_header(line: &str) -> Option<Header> {
         size: u64::from(limit(&mut words, "size", MOST_SIZE)?),
     };
     words.end()?;
-    let grid = Grid::named(name).expect("a grid that this program knows: square, hex or iamond");
-    Some(Header { version, grid, asked, limits })
+    Some(Header { version, grid: Grid::named(name)?, asked, limits })
 }
 
 /// What is said of a catalogue.

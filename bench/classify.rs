@@ -265,7 +265,8 @@ fn catalogue(grid: &'static Grid, name: &str, size: usize, out: &mut impl std::i
 fn main() -> std::io::Result<()> {
     let args: Vec<String> = std::env::args().collect();
     let [_, name, size] = &args[..] else { panic!("classify GRID N") };
-    let grid = Grid::named(name).expect("square, hex or iamond");
+    let has_masks = |grid: &&Grid| grid.columns == 1; // of covers.rs
+    let grid = Grid::named(name).filter(has_masks).expect("square, hex or iamond");
     let mut out = std::io::BufWriter::new(std::io::stdout().lock());
     catalogue(grid, name, size.parse().expect("a size"), &mut out)
 }

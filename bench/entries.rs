@@ -374,7 +374,7 @@ impl Search<'_> {
 
     fn torus_proof(&self, lines: &mut Lines, triple: Triple, ending: Ending) -> Option<()> {
         let Subject { grid, images, .. } = self.subject;
-        let cuts = if grid.per * area(triple) <= 64 {
+        let cuts = if grid.classes() * area(triple) <= 64 {
             check_proof(lines, &mut TorusClauses::<1>::new(grid, triple, images), ending)
         } else {
             check_proof(lines, &mut TorusClauses::<3>::new(grid, triple, images), ending)

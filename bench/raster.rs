@@ -1,17 +1,10 @@
-//! Cells numbered in cell order, in lines of units with a line for each class, so that a
-//! translation adds to them.
+//! Cells numbered in cell order, in the lines of rows of units, so that a translation adds to them.
 
 use crate::grids::{Cell, Grid};
 
-/// The cell of a class in a unit.
-fn cell_of(grid: &Grid, unit: Cell, class: usize) -> Cell {
-    let class = class as i32;
-    grid.moved(Cell { a: grid.first.a + class, b: grid.first.b + class }, unit.a, unit.b)
-}
-
 /// Whether the pair is a cell of the grid.
 pub fn is_cell(grid: &Grid, c: Cell) -> bool {
-    (0..grid.per).any(|class| cell_of(grid, grid.unit_of(c), class) == c)
+    (0..grid.classes()).any(|class| grid.cell_of(grid.unit_of(c), class) == Some(c))
 }
 
 /// The cells outside that touch one of these, in order.
@@ -46,10 +39,11 @@ impl Raster {
         let (wide, high) = (top.a + spare - low.a + 1, top.b + spare - low.b + 1);
         let mut raster =
             Raster { grid, low, wide, high, adjacent: Vec::new(), touching: Vec::new() };
-        for from in (0..grid.per).map(|class| cell_of(grid, Cell::default(), class)) {
-            let step = |to| raster.number(to) - raster.number(from);
-            let adjacent = grid.adjacent(from).map(step).collect();
-            let touching = grid.touching(from).map(step).collect();
+        for from in (0..grid.classes()).map(|class| grid.cell_of(Cell::default(), class)) {
+            let step = |(c, d)| raster.number(d) - raster.number(c);
+            let adjacent = from.into_iter().flat_map(|c| grid.adjacent(c).map(move |d| (c, d)));
+            let touching = from.into_iter().flat_map(|c| grid.touching(c).map(move |d| (c, d)));
+            let (adjacent, touching) = (adjacent.map(step).collect(), touching.map(step).collect());
             raster.adjacent.push(adjacent);
             raster.touching.push(touching);
         }
@@ -58,13 +52,13 @@ impl Raster {
 
     /// How many numbers there are.
     pub fn len(&self) -> usize {
-        self.wide as usize * self.high as usize * self.grid.per
+        self.wide as usize * self.high as usize * self.grid.classes()
     }
 
     pub fn number(&self, c: Cell) -> i32 {
-        let unit = self.grid.unit_of(c);
-        self.shift(unit.a - self.low.a, unit.b - self.low.b)
-            + self.grid.class(c) as i32 * self.wide
+        let (unit, class) = (self.grid.unit_of(c), self.grid.class(c) as i32);
+        let (line, column) = (class / self.grid.columns, class % self.grid.columns);
+        self.shift(unit.a - self.low.a, unit.b - self.low.b) + line * self.line() + column
     }
 
     /// The number of a cell that lies in the raster, and not at its frame.
@@ -75,13 +69,19 @@ impl Raster {
         (is_inner && is_cell(self.grid, c)).then(|| self.number(c))
     }
 
+    /// How many numbers a line has.
+    fn line(&self) -> i32 {
+        self.wide * self.grid.columns
+    }
+
     /// What a translation by so many units adds.
     pub fn shift(&self, da: i32, db: i32) -> i32 {
-        db * self.grid.per as i32 * self.wide + da
+        db * self.grid.lines * self.line() + da * self.grid.columns
     }
 
     pub fn class(&self, number: i32) -> usize {
-        (number / self.wide) as usize % self.grid.per
+        let (line, column) = (number / self.line() % self.grid.lines, number % self.grid.columns);
+        (line * self.grid.columns + column) as usize
     }
 
     pub fn adjacent(&self, number: i32) -> impl Iterator<Item = i32> + '_ {

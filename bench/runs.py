@@ -3,10 +3,11 @@
 
 A table stands behind a line `<!-- bench/runs.py NAME -->`, or `<!-- bench/runs.py NAME from GRID N, GRID N -->` where
 it has the sizes from N on alone. Its rows are those of the folders, in the order of grids and sizes. Every figure
-stands in a folder (tally.csv, README.md), or is printed by `heesch table` over its catalogue, or is one of
-published.txt. HEESCH names the program. Runs of different programs are refused, since a table is of one.
+stands in a folder (tally.csv, README.md), or is printed by `heesch table` over its catalogue, or is a published one
+of docs/TABLES.md. HEESCH names the program. Runs of different programs are refused, since a table is of one.
 """
 import csv
+import functools
 import os
 import pathlib
 import re
@@ -15,7 +16,7 @@ import sys
 
 MOST = 2_000_000_000  # the bytes of evidence that tools/run keeps by default
 GRIDS = ('square', 'hex', 'iamond', 'kite')
-HERE = pathlib.Path(__file__).resolve().parent
+TOP = pathlib.Path(__file__).resolve().parent.parent
 
 
 class Run:
@@ -75,6 +76,7 @@ class Run:
         most = int(most[1] or most[2])
         return f'tools/run {self.name}' + f' --most {most}' * (most != MOST) + ' --outer' * bool(self.outer())
 
+    @functools.cached_property
     def with_holed(self):
         """The Heesch numbers of all shapes, as `heesch table` counts them."""
         counts = {}
@@ -104,9 +106,9 @@ def table(head, rows):
 
 
 def published():
-    """The published figures by size of squares: holed, don't tile, and those by Heesch number."""
+    """The published figures by size of squares, of docs/TABLES.md: holed, don't tile, and by Heesch number."""
     figures = {}
-    for line in (HERE / 'published.txt').read_text(encoding='ascii').splitlines():
+    for line in (TOP / 'docs/TABLES.md').read_text(encoding='utf-8').splitlines():
         row = cells(line)
         if row and re.fullmatch('[0-9]+ cells', row[0]):
             figures[int(row[0].split()[0])] = row[1:]
@@ -121,10 +123,10 @@ def with_published(runs):
         figures = known.get(run.size, []) if run.grid == 'square' else []
         numbers = ', '.join(f'{number}: {count}' for number, count in enumerate(figures[2:]) if count not in ('', '0'))
         rows.append([f'`{run.name}`', tally['shapes'], tally['holed'], run.count('translation'), run.count('halfturn'),
-                     run.count('periodic'), run.numbers('heesch'), run.undecided(), figures[1] if figures else '',
-                     numbers])
+                     run.count('periodic'), run.numbers('heesch'), run.with_holed, run.undecided(),
+                     figures[1] if figures else '', numbers])
     return table(['Size', 'Shapes', 'Holed', 'Tile by translations', 'By half-turns', 'Otherwise', 'Heesch numbers',
-                  'Undecided', "Myers: don't tile", 'Kaplan: Heesch numbers'], rows)
+                  'With holed shapes', 'Undecided', "Myers: don't tile", 'Kaplan: Heesch numbers'], rows)
 
 
 def verdicts(runs):
@@ -132,7 +134,7 @@ def verdicts(runs):
     for run in runs:
         tally, outer = run.tally, run.outer()
         rows.append([f'`{run.name}`', tally['shapes'], tally['holed'], run.count('translation'), run.count('halfturn'),
-                     run.count('periodic'), run.count('one_class'), run.numbers('heesch'), run.with_holed(),
+                     run.count('periodic'), run.count('one_class'), run.numbers('heesch'), run.with_holed,
                      run.numbers('outer', outer) if outer else '', run.undecided(), run.limits()[-1],
                      sum(int(given['shapes']) for given in run.given)])
     return table(['Size', 'Shapes', 'Holed', 'Translation', 'Half-turn', 'Periodic', 'Written with one class',
@@ -194,5 +196,5 @@ if __name__ == '__main__':
     if len({run.program for run in made}) > 1:
         sys.exit('the runs are of several programs, and a table is of one')
     for name in ('README.md', 'docs/TABLES.md', 'docs/RUNS.md'):
-        path = HERE.parent / name
+        path = TOP / name
         path.write_text(filled(path.read_text(encoding='utf-8'), made), encoding='utf-8')

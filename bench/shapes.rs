@@ -74,7 +74,8 @@ impl Shape {
 
 /// The free polyforms of so many cells, in order.
 pub fn free_shapes(grid: &Grid, size: usize) -> Vec<Shape> {
-    let mut shapes = HashSet::from([Shape::empty().with(grid.first).canonical(grid)]);
+    let first = grid.cell_of(Cell::default(), 0).expect("a cell of the first class");
+    let mut shapes = HashSet::from([Shape::empty().with(first).canonical(grid)]);
     for _ in 1..size {
         let mut grown = HashSet::new();
         for parent in &shapes {

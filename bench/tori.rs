@@ -9,15 +9,15 @@ use crate::shapes::Shape;
 use crate::words::Words;
 use std::cmp::Reverse;
 
-/// A set of reduced cells: bit i of all words is the i-th cell in cell order.
+/// A set of reduced cells: bit i of all words is the cell of number i, in cell order.
 type Mask<const W: usize> = [u64; W];
 
 fn meet<const W: usize>(one: &Mask<W>, other: &Mask<W>) -> bool {
     one.iter().zip(other).any(|(word, beside)| word & beside != 0)
 }
 
-/// The reduced cells of a triple, numbered in cell order: in lines of p, as many lines a row of
-/// units as classes.
+/// The reduced cells of a triple, numbered in cell order in the lines of rows of p units. Some
+/// numbers are of no cell where some classes have none.
 struct Torus<'a> {
     grid: &'a Grid,
     triple: Triple,
@@ -25,20 +25,33 @@ struct Torus<'a> {
 
 impl Torus<'_> {
     fn len(&self) -> usize {
-        self.triple.p as usize * self.triple.q as usize * self.grid.per
+        self.triple.p as usize * self.triple.q as usize * self.grid.classes()
     }
 
     fn number(&self, unit: Cell, class: usize) -> usize {
-        let unit = self.triple.reduced(unit);
-        (unit.b as usize * self.grid.per + class) * self.triple.p as usize + unit.a as usize
+        let (unit, columns) = (self.triple.reduced(unit), self.grid.columns as usize);
+        let line = unit.b as usize * self.grid.lines as usize + class / columns;
+        (line * self.triple.p as usize + unit.a as usize) * columns + class % columns
+    }
+
+    /// The unit and the class of a number.
+    fn place(&self, number: usize) -> (Cell, usize) {
+        let (p, columns) = (self.triple.p as usize, self.grid.columns as usize);
+        let (line, lines) = (number / columns / p, self.grid.lines as usize);
+        let unit = Cell { a: (number / columns % p) as i32, b: (line / lines) as i32 };
+        (unit, line % lines * columns + number % columns)
+    }
+
+    fn is_cell(&self, number: usize) -> bool {
+        let (unit, class) = self.place(number);
+        self.grid.cell_of(unit, class).is_some()
     }
 
     /// By number, that of the cell moved by so many units.
     fn moves(&self, da: i32, db: i32) -> Vec<usize> {
-        let (p, per) = (self.triple.p as usize, self.grid.per);
         let moved = |number: usize| {
-            let (line, column) = (number / p, number % p);
-            self.number(Cell { a: column as i32 + da, b: (line / per) as i32 + db }, line % per)
+            let (unit, class) = self.place(number);
+            self.number(Cell { a: unit.a + da, b: unit.b + db }, class)
         };
         (0..self.len()).map(moved).collect()
     }
@@ -115,10 +128,10 @@ impl Meetings {
     }
 }
 
-/// The torus formula of a shape and a triple with at most 64 times W reduced cells.
+/// The torus formula of a shape and a triple whose reduced cells have at most 64 times W numbers.
 pub struct TorusClauses<const W: usize> {
     sets: Vec<Mask<W>>,
-    /// By reduced cell, the variables that have it.
+    /// By reduced cell in cell order, the variables that have it.
     holders: Vec<Vec<u32>>,
     meetings: Meetings,
     /// By variable, how many clauses come before those of it and a later one.
@@ -138,6 +151,8 @@ impl<const W: usize> TorusClauses<W> {
                 }
             }
         }
+        let by_cell = holders.into_iter().enumerate().filter(|(number, _)| torus.is_cell(*number));
+        let holders: Vec<Vec<u32>> = by_cell.map(|(_, holders)| holders).collect();
         let meetings = Meetings::of(&sets);
         let mut before = vec![0, holders.len() as u32];
         for var in 1..=sets.len() {

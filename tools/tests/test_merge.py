@@ -1,4 +1,4 @@
-"""tools/merge: a second pass brought home, what it refuses, and with the program the whole way for `iamond 9`."""
+"""tools/merge: two passes in one catalogue, what it refuses, and with the program all steps for `iamond 9`."""
 import re
 import unittest
 
