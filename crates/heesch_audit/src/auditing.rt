@@ -22,8 +22,8 @@ pub enum EntryAnswer {
     /// It is true.
     Valid,
     /// This is the least of its parts that fails, from 1: the shape, the verdict's form against the evidence, the
-    /// cover, its classes, the hole-free coronas, the wall, the coronas with holes allowed, the search behind the wall,
-    /// the triples.
+    /// cover, its classes, the hole-free coronas, the wall, the coronas with holes allowed, the search behind the
+    /// wall, the triples.
     Invalid { part: u32 },
 }
 
@@ -35,7 +35,9 @@ impl<'a, G: Grid> Audited<'a, G> {
         requires canonical { AreCanonical G.geometry self.now.entry.now.cells }
         requires limits { AreLimits self.now.limits }
         requires near { IsNearEntry self.now.entry.now }
-        ensures { IfOk result (λ failing. MatchOption failing (PartsHold G.geometry self.now.limits self.now.entry.now) (λ part. (part ≤ 8) × IsLeastFailing G.geometry self.now.limits self.now.entry.now part)) }
+        ensures { IfOk result
+            (λ failing. MatchOption failing (PartsHold G.geometry self.now.limits self.now.entry.now)
+            (λ part. (part ≤ 8) × IsLeastFailing G.geometry self.now.limits self.now.entry.now part)) }
     {
         if !self.form_fits() {
             return Ok(Some(2));
@@ -61,8 +63,8 @@ impl<'a, G: Grid> Audited<'a, G> {
 ///
 /// Nothing is searched for but the plain tiling of the shape. A proof costs as many steps as its lines and hints have
 /// literals, besides the formula that it is over: that of a level is made once where both searches are of one level,
-/// and let go before the next is made, and its clauses stand in one array. A proof is read where it stands: while it is
-/// checked, its clauses stand once more in one array, and those of its cuts are made.
+/// and let go before the next is made, and its clauses stand in one array. A proof is read where it stands: while it
+/// is checked, its clauses stand once more in one array, and those of its cuts are made.
 pub fn audit<G: Grid, R: Threads + Sync>(
     rt: &R,
     alloc: Global,
@@ -72,7 +74,8 @@ pub fn audit<G: Grid, R: Threads + Sync>(
     requires limits { AreLimits limits }
     requires near { IsNearEntry entry.now }
     ensures valid { IfOk result (λ answer. (answer ≡ EntryAnswer.Valid) ↔ IsTrueEntry G.geometry limits entry.now) }
-    ensures invalid { IfOk result (λ answer. (part : ℕ) → answer ≡ EntryAnswer.Invalid part → IsLeastFailing G.geometry limits entry.now part) }
+    ensures invalid { IfOk result
+        (λ answer. (part : ℕ) → answer ≡ EntryAnswer.Invalid part → IsLeastFailing G.geometry limits entry.now part) }
     ensures right { IfOk result (λ answer. answer ≡ EntryAnswer.Valid → HasRightVerdict G.geometry limits entry.now) }
 {
     let Some(shape) = canonical_shape::<G>(entry.cells.as_slice()) else {

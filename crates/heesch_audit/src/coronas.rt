@@ -65,7 +65,9 @@ impl<'a, G: Grid> Audited<'a, G> {
         requires shape { IsCanonicalShape G.geometry self.now.shape.now }
         requires bounds { HasFewLayers self.now.entry.now.verdict self.now.entry.now.evidence }
         requires near { IsNearEvidence self.now.entry.now.evidence }
-        ensures { IfOk result (λ yes. IsTrue yes ↔ FreeHolds G.geometry self.now.shape.now self.now.entry.now.verdict self.now.entry.now.evidence) }
+        ensures { IfOk result
+            (λ yes. IsTrue yes ↔ FreeHolds G.geometry self.now.shape.now self.now.entry.now.verdict
+            self.now.entry.now.evidence) }
     {
         match &self.entry.evidence {
             Evidence::Cover { .. } => Ok(true),

@@ -34,7 +34,8 @@ fn is_cover<G: Grid>(alloc: Global, shape: &Shape<G>, tiling: &Tiling) -> Result
     requires shape { IsCanonicalShape G.geometry shape.now }
     requires few { length tiling.now.places ≤ 12 }
     requires near { All IsNearIso tiling.now.places }
-    ensures { IfOk result (λ yes. IsTrue yes ↔ IsPeriodicCover G.geometry shape.now tiling.now.triple tiling.now.places) }
+    ensures { IfOk result
+        (λ yes. IsTrue yes ↔ IsPeriodicCover G.geometry shape.now tiling.now.triple tiling.now.places) }
 {
     if !are_isometries::<G>(tiling.places.as_slice()) {
         return Ok(false);
@@ -73,7 +74,9 @@ fn are_classes<G: Grid>(
     requires few { length tiling.now.places ≤ 12 }
     requires near { All IsNearIso tiling.now.places }
     requires cover { IsPeriodicCover G.geometry shape.now tiling.now.triple tiling.now.places }
-    ensures { IfOk result (λ yes. IsTrue yes ↔ (AreClasses G.geometry shape.now tiling.now.triple tiling.now.places written.now.count written.now.members × (count ≡ written.now.count))) }
+    ensures { IfOk result
+        (λ yes. IsTrue yes ↔ (AreClasses G.geometry shape.now tiling.now.triple tiling.now.places written.now.count
+        written.now.members × (count ≡ written.now.count))) }
 {
     if count != written.count {
         return Ok(false);
@@ -92,7 +95,8 @@ impl<'a, G: Grid> Audited<'a, G> {
         requires shape { IsCanonicalShape G.geometry self.now.shape.now }
         requires bounds { HasFewPlaces self.now.entry.now.evidence }
         requires near { IsNearEvidence self.now.entry.now.evidence }
-        ensures { IfOk result (λ yes. IsTrue yes ↔ CoverHolds G.geometry self.now.shape.now self.now.entry.now.evidence) }
+        ensures { IfOk result
+            (λ yes. IsTrue yes ↔ CoverHolds G.geometry self.now.shape.now self.now.entry.now.evidence) }
     {
         match &self.entry.evidence {
             Evidence::Cover { tiling, .. } => is_cover(self.alloc, self.shape, tiling),
@@ -100,14 +104,16 @@ impl<'a, G: Grid> Audited<'a, G> {
         }
     }
 
-    /// Part 4: whether the classes of the evidence, where it is a cover, are those of the cover, as many as the verdict
-    /// says.
+    /// Part 4: whether the classes of the evidence, where it is a cover, are those of the cover, as many as the
+    /// verdict says.
     pub(crate) fn classes_hold(&self) -> Result<bool, NoMemory>
         requires shape { IsCanonicalShape G.geometry self.now.shape.now }
         requires bounds { HasFewPlaces self.now.entry.now.evidence }
         requires cover { CoverHolds G.geometry self.now.shape.now self.now.entry.now.evidence }
         requires near { IsNearEvidence self.now.entry.now.evidence }
-        ensures { IfOk result (λ yes. IsTrue yes ↔ ClassesHold G.geometry self.now.shape.now self.now.entry.now.verdict self.now.entry.now.evidence) }
+        ensures { IfOk result
+            (λ yes. IsTrue yes ↔ ClassesHold G.geometry self.now.shape.now self.now.entry.now.verdict
+            self.now.entry.now.evidence) }
     {
         let Evidence::Cover { tiling, classes } = &self.entry.evidence else {
             return Ok(true);

@@ -77,7 +77,8 @@ fn fits_bare(
     h: u32,
     m: u32,
 ) -> bool
-    ensures { IsTrue result ↔ ((h + 1 ≤ m) × (m ≤ limits.levels) × IsWallRefuted wall.now × IsTrue bare_fits × IsBelow h m wider.now) }
+    ensures { IsTrue result
+        ↔ ((h + 1 ≤ m) × (m ≤ limits.levels) × IsWallRefuted wall.now × IsTrue bare_fits × IsBelow h m wider.now) }
 {
     is_level(limits, h, m)
         && matches!(wall, Wall::Refuted { .. })

@@ -102,7 +102,10 @@ fn is_of_kind<G: Grid>(shape: &Shape<G>, limits: Limits, tiling: &Tiling, kind: 
 /// Whether so many tiles are the domain of the triple, and within the limit.
 fn is_domain<G: Grid>(shape: &Shape<G>, limits: Limits, tiling: &Tiling, domain: u32) -> bool
     requires { AreLimits limits }
-    ensures { IsTrue result ↔ ((domain ≡ length tiling.now.places) × (G.geometry.per * (tiling.now.triple.p * tiling.now.triple.q) ≡ length shape.now * domain) × (domain ≤ limits.domain)) }
+    ensures { IsTrue result
+        ↔ ((domain ≡ length tiling.now.places)
+        × (G.geometry.per * (tiling.now.triple.p * tiling.now.triple.q) ≡ length shape.now * domain)
+        × (domain ≤ limits.domain)) }
 {
     if tiling.places.len() != domain as usize || domain > limits.domain {
         return false;
@@ -121,7 +124,10 @@ fn tiling_fits<G: Grid>(
 ) -> bool
     requires shape { IsCanonicalShape G.geometry shape.now }
     requires limits { AreLimits limits }
-    ensures { IsTrue result ↔ ((domain ≡ length tiling.now.places) × (G.geometry.per * (tiling.now.triple.p * tiling.now.triple.q) ≡ length shape.now * domain) × (domain ≤ limits.domain) × IsOfKind G.geometry limits shape.now tiling.now kind) }
+    ensures { IsTrue result
+        ↔ ((domain ≡ length tiling.now.places)
+        × (G.geometry.per * (tiling.now.triple.p * tiling.now.triple.q) ≡ length shape.now * domain)
+        × (domain ≤ limits.domain) × IsOfKind G.geometry limits shape.now tiling.now kind) }
 {
     is_domain(shape, limits, tiling, domain) && is_of_kind(shape, limits, tiling, kind)
 }
@@ -130,7 +136,8 @@ fn tiling_fits<G: Grid>(
 fn cover_fits<G: Grid>(shape: &Shape<G>, limits: Limits, verdict: Verdict, tiling: &Tiling) -> bool
     requires shape { IsCanonicalShape G.geometry shape.now }
     requires limits { AreLimits limits }
-    ensures { (classes : Written) → IsTrue result ↔ FormFits G.geometry limits shape.now verdict (Evidence.Cover tiling.now classes) }
+    ensures { (classes : Written) → IsTrue result
+        ↔ FormFits G.geometry limits shape.now verdict (Evidence.Cover tiling.now classes) }
 {
     match verdict {
         Verdict::Tiles { kind, domain, .. } => tiling_fits(shape, limits, tiling, kind, domain),
@@ -148,7 +155,8 @@ fn search_fits<G: Grid>(
     wider: &Option<Layers>,
 ) -> bool
     requires { IsCanonicalShape G.geometry shape.now }
-    ensures { IsTrue result ↔ (HasNoPlain G.geometry limits shape.now × FitsVerdict limits wall.now bare.now wider.now verdict) }
+    ensures { IsTrue result
+        ↔ (HasNoPlain G.geometry limits shape.now × FitsVerdict limits wall.now bare.now wider.now verdict) }
 {
     if !fits_verdict(limits, wall, bare, wider, verdict) {
         return false;
@@ -161,7 +169,8 @@ impl<'a, G: Grid> Audited<'a, G> {
     pub(crate) fn form_fits(&self) -> bool
         requires shape { IsCanonicalShape G.geometry self.now.shape.now }
         requires limits { AreLimits self.now.limits }
-        ensures { IsTrue result ↔ FormFits G.geometry self.now.limits self.now.shape.now self.now.entry.now.verdict self.now.entry.now.evidence }
+        ensures { IsTrue result
+            ↔ FormFits G.geometry self.now.limits self.now.shape.now self.now.entry.now.verdict self.now.entry.now.evidence }
     {
         let (shape, limits, verdict) = (self.shape, self.limits, self.entry.verdict);
         match &self.entry.evidence {

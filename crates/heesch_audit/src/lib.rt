@@ -3,6 +3,7 @@
 
 mod audited;
 mod auditing;
+mod corona_formula;
 mod coronas;
 mod cover;
 mod fits;

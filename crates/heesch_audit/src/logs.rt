@@ -1,7 +1,10 @@
 //! The logs of proofs, and what they show over a formula.
-ghost use Rattle.std.specs.Prelude.{◌≡◌, ◌↔◌, [], All, IsTrue, IfOk, MatchOption};
+ghost use Rattle.std.specs.Prelude.{◌≡◌, ◌↔◌, ℕ, List, [], All, IsTrue, IfOk, MatchOption};
+ghost use Rattle.heesch_cnf.specs.declared.literal.Lit.{Lit as TheLit};
+ghost use Rattle.heesch_cnf.specs.declared.log.Log.{Log as TheLog};
 ghost use Rattle.heesch_cnf.specs.Lines.{Refutes};
 ghost use Rattle.heesch_place.specs.Universes.{IsUniverseOf};
+ghost use Rattle.heesch_rup.specs.Answer.{IsLogAnswer};
 ghost use Rattle.heesch_cert.specs.Proofs.{HasNoCut, IsLawfulStep, log_of};
 ghost use Rattle.heesch_audit.specs.Ends.{IsEndOf, LogEnds};
 ghost use Rattle.heesch_audit.specs.Logs.{given_clause, IsLogOf};
@@ -10,12 +13,12 @@ ghost use Rattle.heesch_audit.specs.Near.{IsNearProof, IsNearStep};
 use crate::proof_end::ProofEnd;
 use crate::proof_log::ProofLog;
 use heesch_cert::{Proof, Step};
-use heesch_cnf::{FlatFormula, Lits};
+use heesch_cnf::{ClauseSource, FlatFormula, Lits, NewnessSource};
 use heesch_cuts::{clause_of, lawful};
 use heesch_grid::Grid;
 use heesch_io::{NoMemory, Seq};
 use heesch_place::Universe;
-use heesch_rup::{LogAnswer, Steps, check_steps, is_spent};
+use heesch_rup::{LogAnswer, Steps, check_steps, check_steps_in_turn, is_spent, is_spent_in_turn};
 use heesch_shape::Shape;
 use std::alloc::Global;
 use std::thread::Threads;
@@ -43,7 +46,10 @@ fn lawful_clause<G: Grid>(
     requires universe { IsUniverseOf G.geometry universe.now }
     requires shape { universe.now.shape ≡ shape.now }
     requires near { IsNearStep step.now }
-    ensures { IfOk result (λ given. MatchOption given (¬ IsLawfulStep G.geometry shape.now universe.now.level universe.now.vars step.now) (λ c. IsLawfulStep G.geometry shape.now universe.now.level universe.now.vars step.now × (c ≡ given_clause universe.now.vars step.now))) }
+    ensures { IfOk result (λ given. MatchOption given
+        (¬ IsLawfulStep G.geometry shape.now universe.now.level universe.now.vars step.now)
+        (λ c. IsLawfulStep G.geometry shape.now universe.now.level universe.now.vars step.now
+        × (c ≡ given_clause universe.now.vars step.now))) }
 {
     match step {
         Step::Learn { .. } => Ok(Some(Seq::new(alloc))),
@@ -80,7 +86,9 @@ pub(crate) fn lawful_log<'a, G: Grid>(
     requires universe { IsUniverseOf G.geometry universe.now }
     requires shape { universe.now.shape ≡ shape.now }
     requires near { IsNearProof proof.now }
-    ensures { IfOk result (λ log. MatchOption log (¬ All (IsLawfulStep G.geometry shape.now universe.now.level universe.now.vars) proof.now.steps) (IsLogOf G.geometry shape.now universe.now.level universe.now.vars proof.now)) }
+    ensures { IfOk result (λ log. MatchOption log
+        (¬ All (IsLawfulStep G.geometry shape.now universe.now.level universe.now.vars) proof.now.steps)
+        (IsLogOf G.geometry shape.now universe.now.level universe.now.vars proof.now)) }
 {
     if let Some(log) = learnt_log(alloc, proof) {
         return Ok(Some(log));
@@ -95,6 +103,18 @@ pub(crate) fn lawful_log<'a, G: Grid>(
     Ok(Some(ProofLog { proof, given }))
 }
 
+/// Whether the answer on a log is that it refutes.
+fn is_refutation(answer: LogAnswer) -> bool
+    ensures { (vars : ℕ) (clauses : List (List TheLit)) (log : TheLog) → IsLogAnswer vars clauses log answer
+        → IsTrue result ↔ Refutes vars clauses log }
+{
+    match answer {
+        LogAnswer::Refuted => true,
+        LogAnswer::Open => false,
+        LogAnswer::BadLine { .. } => false,
+    }
+}
+
 /// Whether the log refutes the formula.
 fn is_refuted<R: Threads + Sync>(
     rt: &R,
@@ -104,11 +124,19 @@ fn is_refuted<R: Threads + Sync>(
 ) -> Result<bool, NoMemory>
     ensures { IfOk result (λ yes. IsTrue yes ↔ Refutes formula.now.vars formula.now.clauses log.now) }
 {
-    match check_steps(rt, alloc, formula, log)? {
-        LogAnswer::Refuted => Ok(true),
-        LogAnswer::Open => Ok(false),
-        LogAnswer::BadLine { .. } => Ok(false),
-    }
+    Ok(is_refutation(check_steps(rt, alloc, formula, log)?))
+}
+
+/// Whether the log refutes the clauses, in the caller's thread.
+fn is_refuted_in_turn<C: ClauseSource>(
+    alloc: Global,
+    formula: &C,
+    log: &ProofLog<'_>,
+) -> Result<bool, NoMemory>
+    ensures { let f = C.listed formula.now in
+        IfOk result (λ yes. IsTrue yes ↔ Refutes f.vars f.clauses log.now) }
+{
+    Ok(is_refutation(check_steps_in_turn(alloc, formula, log)?))
 }
 
 /// What the log shows, if anything: one with a final line refutes.
@@ -135,5 +163,22 @@ pub(crate) fn is_ended<R: Threads + Sync>(
     match end {
         ProofEnd::Refuted => is_refuted(rt, alloc, formula, log),
         ProofEnd::Spent => is_spent(rt, alloc, formula, log, turns),
+    }
+}
+
+/// The same over clauses that need stand in no array, in the caller's thread.
+pub(crate) fn is_ended_in_turn<N: NewnessSource>(
+    alloc: Global,
+    formula: &N,
+    log: &ProofLog<'_>,
+    end: ProofEnd,
+    turns: u32,
+) -> Result<bool, NoMemory>
+    ensures { let f = N.listed formula.now in
+        IfOk result (λ yes. IsTrue yes ↔ LogEnds end f.vars f.clauses turns log.now) }
+{
+    match end {
+        ProofEnd::Refuted => is_refuted_in_turn(alloc, formula, log),
+        ProofEnd::Spent => is_spent_in_turn(alloc, formula, log, turns),
     }
 }

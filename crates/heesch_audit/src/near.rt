@@ -4,7 +4,8 @@ ghost use Rattle.heesch_grid.specs.Cells.{cell};
 ghost use Rattle.heesch_grid.specs.Symmetry.{Member as InClass};
 ghost use Rattle.heesch_grid.specs.Vectors.{IsWithin};
 ghost use Rattle.heesch_cert.specs.declared.entry.TripleProof.{TripleProof as Written};
-ghost use Rattle.heesch_audit.specs.Near.{IsNearIso, AreNearLayers, IsNearWider, IsNearStep, IsNearProof, IsNearWall, IsNearBare, IsNearEvidence, IsNearEntry};
+ghost use Rattle.heesch_audit.specs.Near.{IsNearIso, AreNearLayers, IsNearWider, IsNearStep, IsNearProof, IsNearWall};
+ghost use Rattle.heesch_audit.specs.Near.{IsNearBare, IsNearEvidence, IsNearEntry};
 
 use heesch_cert::{Bare, Entry, Evidence, Isos, Layers, Member, Proof, Step, TripleProof, Wall};
 use heesch_grid::{Cell, Iso};

@@ -23,7 +23,8 @@ pub(crate) struct Ended<'a> {
 
 /// The proof that the search with holes allowed ended with, if it has one of its own.
 pub(crate) fn ended_of(bare: &Bare) -> Option<Ended<'_>>
-    ensures { MatchOption result (AsksFormula bare.now → bare.now ≡ Bare.Size) (λ ended. BareEnds ended.end ended.proof.now bare.now) }
+    ensures { MatchOption result (AsksFormula bare.now → bare.now ≡ Bare.Size)
+        (λ ended. BareEnds ended.end ended.proof.now bare.now) }
 {
     match bare {
         Bare::Absent | Bare::Same | Bare::Open | Bare::Size => None,

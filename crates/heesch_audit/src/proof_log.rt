@@ -57,7 +57,8 @@ fn clause_at<'a>(steps: &'a [Step], given: &'a [Lits], index: usize) -> &'a [Lit
 /// The hints of the line of a step, and none where it is given.
 fn hints_at(steps: &[Step], index: usize) -> Option<&[u32]>
     requires { index < length steps.now }
-    ensures { (given : List (List Literal)) (d : Line) → option_copied result ≡ hints_of (slice_index_or (lines_with steps.now given) index d) }
+    ensures { (given : List (List Literal)) (d : Line)
+        → option_copied result ≡ hints_of (slice_index_or (lines_with steps.now given) index d) }
 {
     match &steps[index] {
         Step::Learn { hints, .. } => Some(hints.as_slice()),

@@ -31,7 +31,8 @@ impl<'a, G: Grid> Audited<'a, G> {
         requires canonical { AreCanonical G.geometry self.now.entry.now.cells }
         requires limits { AreLimits self.now.limits }
         requires near { IsNearEntry self.now.entry.now }
-        ensures { IfOk result (λ yes. IsTrue yes ↔ (portion ≡ 0 → PartsHold G.geometry self.now.limits self.now.entry.now)) }
+        ensures { IfOk result
+            (λ yes. IsTrue yes ↔ (portion ≡ 0 → PartsHold G.geometry self.now.limits self.now.entry.now)) }
     {
         if portion > 0 {
             return Ok(true);

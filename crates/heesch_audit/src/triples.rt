@@ -56,12 +56,14 @@ pub(crate) fn triples_of(evidence: &Evidence) -> &[TripleProof]
 }
 
 impl<'a, G: Grid> Audited<'a, G> {
-    /// Whether the proof has no cut, and refutes the torus formula of its triple or is spent for the limit on turns over
-    /// it.
+    /// Whether the proof has no cut, and refutes the torus formula of its triple or is spent for the limit on turns
+    /// over it.
     fn is_settled<R: Threads + Sync>(&self, rt: &R, written: &TripleProof) -> Result<bool, NoMemory>
         requires shape { IsCanonicalShape G.geometry self.now.shape.now }
         requires domain { HasDomain G.geometry (length self.now.shape.now) written.now.triple }
-        ensures { IfOk result (λ yes. IsTrue yes ↔ SettlesTriple G.geometry self.now.shape.now self.now.limits.turns written.now.triple written.now.proof) }
+        ensures { IfOk result
+            (λ yes. IsTrue yes ↔ SettlesTriple G.geometry self.now.shape.now self.now.limits.turns written.now.triple
+            written.now.proof) }
     {
         let Some(log) = learnt_log(self.alloc, &written.proof) else {
             return Ok(false);
@@ -86,9 +88,12 @@ impl<'a, G: Grid> Audited<'a, G> {
         portions: u32,
     ) -> Result<bool, NoMemory>
         requires shape { IsCanonicalShape G.geometry self.now.shape.now }
-        requires domains { All (λ (x : Written). HasDomain G.geometry (length self.now.shape.now) x.triple) written.now }
+        requires domains { All
+            (λ (x : Written). HasDomain G.geometry (length self.now.shape.now) x.triple) written.now }
         requires portion { portion < portions }
-        ensures { IfOk result (λ yes. IsTrue yes ↔ AreProved G.geometry self.now.shape.now self.now.limits.turns written.now portion portions) }
+        ensures { IfOk result
+            (λ yes. IsTrue yes ↔ AreProved G.geometry self.now.shape.now self.now.limits.turns written.now portion
+            portions) }
     {
         let mut at = portion as usize;
         while at < written.len() {
@@ -105,7 +110,9 @@ impl<'a, G: Grid> Audited<'a, G> {
     pub(crate) fn are_asked(&self) -> Result<bool, NoMemory>
         requires shape { IsCanonicalShape G.geometry self.now.shape.now }
         requires limits { AreLimits self.now.limits }
-        ensures { IfOk result (λ yes. IsTrue yes ↔ AreTriplesAsked G.geometry self.now.limits self.now.shape.now self.now.entry.now.verdict self.now.entry.now.evidence) }
+        ensures { IfOk result
+            (λ yes. IsTrue yes ↔ AreTriplesAsked G.geometry self.now.limits self.now.shape.now
+            self.now.entry.now.verdict self.now.entry.now.evidence) }
     {
         let Evidence::Search {
             triples: written,
@@ -126,7 +133,9 @@ impl<'a, G: Grid> Audited<'a, G> {
     pub(crate) fn triples_hold<R: Threads + Sync>(&self, rt: &R) -> Result<bool, NoMemory>
         requires shape { IsCanonicalShape G.geometry self.now.shape.now }
         requires limits { AreLimits self.now.limits }
-        ensures { IfOk result (λ yes. IsTrue yes ↔ TriplesHold G.geometry self.now.limits self.now.shape.now self.now.entry.now.verdict self.now.entry.now.evidence) }
+        ensures { IfOk result
+            (λ yes. IsTrue yes ↔ TriplesHold G.geometry self.now.limits self.now.shape.now self.now.entry.now.verdict
+            self.now.entry.now.evidence) }
     {
         if !self.are_asked()? {
             return Ok(false);

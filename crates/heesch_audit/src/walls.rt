@@ -9,13 +9,17 @@ ghost use Rattle.heesch_audit.specs.Shapes.{IsCanonicalShape};
 ghost use Rattle.heesch_audit.specs.Walls.{IsSearchFailure};
 
 use crate::audited::Audited;
+use crate::corona_formula::CoronaFormula;
 use crate::coronas::is_open;
 use crate::formula::{LevelFormula, level_formula};
 use crate::logs::has_no_cut;
 use crate::proof_end::ended_of;
 use heesch_cert::{Bare, Evidence, Wall};
+use heesch_cnf::Version;
+use heesch_encode::FlatEncoded;
 use heesch_grid::Grid;
 use heesch_io::NoMemory;
+use heesch_numbers::CoronaSource;
 use heesch_shape::Shape;
 use std::alloc::Global;
 use std::thread::Threads;
@@ -57,21 +61,23 @@ fn asks_formula(bare: &Bare) -> bool
 
 /// Whether the search with holes allowed ended at level m as is written, its proofs have no cut, and it is the same as
 /// that with holes forbidden exactly where a refutation has no cut. The formula of another level, or of m, is at hand.
-fn bare_holds<G: Grid, R: Threads + Sync>(
+fn bare_holds<G: Grid, F: CoronaFormula<G>, R: Threads + Sync>(
     rt: &R,
     alloc: Global,
     shape: &Shape<G>,
-    at_hand: LevelFormula<G>,
+    at_hand: LevelFormula<F>,
     m: u32,
     wall: &Wall,
     bare: &Bare,
 ) -> Result<bool, NoMemory>
     requires shape { IsCanonicalShape G.geometry shape.now }
     requires limits { AreLimits at_hand.limits }
-    requires at_hand { IsLevelFormula G.geometry at_hand.limits shape.now at_hand.level at_hand.encoded }
+    requires version { F.version ≡ at_hand.limits.version }
+    requires at_hand { IsLevelFormula F.seen G.geometry at_hand.limits shape.now at_hand.level at_hand.formula }
     requires level { AsksFormula bare.now → (1 ≤ m) × (m ≤ 6) }
     requires near { IsNearBare bare.now }
-    ensures { IfOk result (λ yes. IsTrue yes ↔ (SameWhereNoCut wall.now bare.now × BareShows G.geometry at_hand.limits shape.now m bare.now)) }
+    ensures { IfOk result (λ yes. IsTrue yes
+        ↔ (SameWhereNoCut wall.now bare.now × BareShows G.geometry at_hand.limits shape.now m bare.now)) }
 {
     if !fits_same(wall, bare) {
         return Ok(false);
@@ -91,14 +97,19 @@ fn bare_holds<G: Grid, R: Threads + Sync>(
 }
 
 impl<'a, G: Grid> Audited<'a, G> {
-    /// The first of the parts 6 to 8 that fails, the form being right: the wall, the open coronas, the search behind the
-    /// wall. The formula of the wall serves for the search behind it, where they are of one level.
-    pub(crate) fn failing_search<R: Threads + Sync>(&self, rt: &R) -> Result<Option<u32>, NoMemory>
+    /// The first of the parts 6 to 8 that fails, as `failing_search` says, over the formulas of this version.
+    fn failing_over<F: CoronaFormula<G>, R: Threads + Sync>(
+        &self,
+        rt: &R,
+    ) -> Result<Option<u32>, NoMemory>
         requires shape { IsCanonicalShape G.geometry self.now.shape.now }
         requires limits { AreLimits self.now.limits }
-        requires form { FormFits G.geometry self.now.limits self.now.shape.now self.now.entry.now.verdict self.now.entry.now.evidence }
+        requires version { F.version ≡ self.now.limits.version }
+        requires form { FormFits G.geometry self.now.limits self.now.shape.now
+            self.now.entry.now.verdict self.now.entry.now.evidence }
         requires near { IsNearEvidence self.now.entry.now.evidence }
-        ensures { IfOk result (IsSearchFailure G.geometry self.now.limits self.now.shape.now self.now.entry.now.verdict self.now.entry.now.evidence) }
+        ensures { IfOk result (IsSearchFailure G.geometry self.now.limits self.now.shape.now
+            self.now.entry.now.verdict self.now.entry.now.evidence) }
     {
         let Evidence::Search {
             wall,
@@ -113,7 +124,8 @@ impl<'a, G: Grid> Audited<'a, G> {
             return Ok(None);
         }
         let (alloc, shape, verdict) = (self.alloc, self.shape, self.entry.verdict);
-        let formula = level_formula(alloc, shape, self.limits, verdict.first_number() + 1, None)?;
+        let level = verdict.first_number() + 1;
+        let formula: LevelFormula<F> = level_formula(alloc, shape, self.limits, level, None)?;
         if !formula.shows_wall(rt, alloc, shape, wall)? {
             return Ok(Some(6));
         }
@@ -124,5 +136,22 @@ impl<'a, G: Grid> Audited<'a, G> {
             return Ok(Some(8));
         }
         Ok(None)
+    }
+
+    /// The first of the parts 6 to 8 that fails, the form being right: the wall, the open coronas, the search behind
+    /// the wall. The formula of the wall serves for the search behind it, where they are of one level.
+    pub(crate) fn failing_search<R: Threads + Sync>(&self, rt: &R) -> Result<Option<u32>, NoMemory>
+        requires shape { IsCanonicalShape G.geometry self.now.shape.now }
+        requires limits { AreLimits self.now.limits }
+        requires form { FormFits G.geometry self.now.limits self.now.shape.now
+            self.now.entry.now.verdict self.now.entry.now.evidence }
+        requires near { IsNearEvidence self.now.entry.now.evidence }
+        ensures { IfOk result (IsSearchFailure G.geometry self.now.limits self.now.shape.now
+            self.now.entry.now.verdict self.now.entry.now.evidence) }
+    {
+        match self.limits.version {
+            Version::One => self.failing_over::<FlatEncoded<G>, R>(rt),
+            Version::Two => self.failing_over::<CoronaSource<G>, R>(rt),
+        }
     }
 }

@@ -9,6 +9,6 @@ returns-in-Some g c =
     let geometry = g.G.Grid.geometry in
     let shape = c.args.shape.now in
     let self = c.args.self.now in
-    let e = c.in-Some.field-0 in
-    let at : IsFormulaAt self.limits.version geometry shape self.level self.limits.size e.universe e.formula = search rules in
-    refused (not_too_large self.limits geometry g.met.G.Grid.laws shape c.requires.shape.is_shape.polyform self.level e.universe e.formula at)
+    let f = g.F.CoronaFormula.seen c.in-Some.field-0 in
+    let at : IsFormulaAt self.limits.version geometry shape self.level self.limits.size f.universe f.formula = search rules in
+    refused (not_too_large self.limits geometry g.met.G.Grid.laws shape c.requires.shape.is_shape.polyform self.level f.universe f.formula at)

@@ -1,0 +1,171 @@
+-- What is left of a clause, and whether it has a true literal or two open ones.
+use Rattle.std.proofs.Common.{◌≡◌, refl, sym, ap, subst, ◌∙◌, ℕ, ◌+◌, ◌<◌, ◌≤◌, Bool, true, false, not, cond, Option, None, Some, List, [], ◌∷◌, ◌++◌, take, filter, length, get_or, arith, inl, inr, ◌⊎◌, All, true≢false}
+use Rattle.std.specs.Prelude.{◌↔◌, IsTrue}
+use Rattle.std.specs.List.{Contains}
+use Rattle.std.proofs.lemmas.List.{get_or_default, get_or-map, length-map}
+use Rattle.std.proofs.lemmas.List.Elements.{All-append, All-contains, All-head, Contains-append_left, Contains-append_right}
+use Rattle.heesch_grid.proofs.ListFacts.{All-from_members}
+use Rattle.heesch_cnf.specs.declared.literal.Lit.{Lit}
+use Rattle.heesch_cnf.specs.declared.log.Line.{Line}
+use Rattle.heesch_cnf.specs.declared.log.Line.TheVariants.{Learn, Given}
+use Rattle.heesch_cnf.specs.declared.values.Left.{Left}
+use Rattle.heesch_cnf.specs.declared.values.Left.TheVariants.{Nothing, One, More}
+use Rattle.heesch_cnf.specs.Clauses.{AreClauses, IsClause, left_of}
+use Rattle.heesch_cnf.specs.Left.{IsLeft}
+use Rattle.heesch_cnf.specs.Lines.{LineHolds, LinesHold, clause_of, clauses_of, clauses_with}
+use Rattle.heesch_cnf.specs.Literals.{Values, is_false_value, is_true_value, lit_value}
+use Rattle.heesch_cnf.proofs.Lists.{Contains-cases, Contains-filter, Contains-here, Contains-none, Contains-there}
+use Rattle.heesch_cnf.proofs.Rising.{Rises, Rises-filter, Rises-from_adjacent}
+use Rattle.heesch_trail.specs.Fixpoint.{IsFixpoint, IsSettled}
+use Rattle.heesch_judge.proofs.Equal.{granted, refused}
+use Rattle.heesch_judge.proofs.LogLines.{each_more}
+
+-- what a test lets through is there, and passes it
+filtered : {X : Type 0} (p : X → Bool) (xs : List X) (x : X) → Contains (filter p xs) x → Contains xs x × (p x ≡ true)
+filtered p [] x h = absurd (Contains-none x h)
+filtered p (y ∷ ys) x h = by_test (p y) refl h (filtered p ys x)
+  where
+    by_test : (t : Bool) → p y ≡ t → Contains (cond t (y ∷ filter p ys) (filter p ys)) x → (Contains (filter p ys) x → Contains ys x × (p x ≡ true)) → Contains (y ∷ ys) x × (p x ≡ true)
+    by_test true passes h later = elim (Contains-cases y (filter p ys) x h) [
+      | inl e ↦ (subst (Contains (y ∷ ys)) e (Contains-here y ys), ap p (sym e) ∙ passes)
+      | inr more ↦ let rest = later more in (Contains-there y ys x rest.0, rest.1)
+    ]
+    by_test false fails h later = let rest = later h in (Contains-there y ys x rest.0, rest.1)
+
+open_or_true : (o : Option Bool) → not (is_false_value o) ≡ true → (o ≡ Some true) ⊎ (o ≡ None)
+open_or_true None e = inr refl
+open_or_true (Some true) e = inl refl
+open_or_true (Some false) e = absurd (let bad : false ≡ true = e in cc)
+
+true_is : (o : Option Bool) → is_true_value o ≡ true → o ≡ Some true
+true_is None e = absurd (let bad : false ≡ true = e in cc)
+true_is (Some true) e = refl
+true_is (Some false) e = absurd (let bad : false ≡ true = e in cc)
+
+is_true : (o : Option Bool) → o ≡ Some true → is_true_value o ≡ true
+is_true o e = ap is_true_value e
+
+only : (x l : Lit) → Contains (x ∷ []) l → x ≡ l
+only x l h = elim (Contains-cases x [] l h) [ inl e ↦ e | inr none ↦ absurd (Contains-none l none) ]
+
+module _ (values : Values) (clause : List Lit) where
+  -- a literal of the clause that is true, or open, is left
+  true_left : (l : Lit) → Contains clause l → lit_value values l ≡ Some true → Contains (left_of values clause) l
+  true_left l has e = Contains-filter (λ m. not (is_false_value (lit_value values m))) clause l has (ap (λ o. not (is_false_value o)) e)
+
+  open_left : (l : Lit) → Contains clause l → lit_value values l ≡ None → Contains (left_of values clause) l
+  open_left l has e = Contains-filter (λ m. not (is_false_value (lit_value values m))) clause l has (ap (λ o. not (is_false_value o)) e)
+
+  left_there : (l : Lit) → Contains (left_of values clause) l → Contains clause l × ((lit_value values l ≡ Some true) ⊎ (lit_value values l ≡ None))
+  left_there l h = let both = filtered (λ m. not (is_false_value (lit_value values m))) clause l h in (both.0, open_or_true (lit_value values l) both.1)
+
+  -- nothing is left
+  unsettled : left_of values clause ≡ [] → ¬ IsSettled values clause
+  unsettled none (inl t) = Contains-none t.0 (subst (λ ls. Contains ls t.0) none (true_left t.0 t.1.0 t.1.1))
+  unsettled none (inr two) = Contains-none two.one (subst (λ ls. Contains ls two.one) none (open_left two.one two.has_one two.one_open))
+
+  -- one literal is left, which is true where the clause is settled
+  one_true : (l : Lit) → left_of values clause ≡ l ∷ [] → IsSettled values clause → lit_value values l ≡ Some true
+  one_true l alone (inl t) = ap (lit_value values) (only l t.0 (subst (λ ls. Contains ls t.0) alone (true_left t.0 t.1.0 t.1.1))) ∙ t.1.1
+  one_true l alone (inr two) =
+      let one = only l two.one (subst (λ ls. Contains ls two.one) alone (open_left two.one two.has_one two.one_open)) in
+      let other = only l two.other (subst (λ ls. Contains ls two.other) alone (open_left two.other two.has_other two.other_open)) in
+      absurd (two.differ (sym one ∙ other))
+
+  settled_one : (l : Lit) → left_of values clause ≡ l ∷ [] → IsTrue (is_true_value (lit_value values l)) ↔ IsSettled values clause
+  settled_one l alone = (
+    (λ t. inl (l, ((left_there l (subst (λ ls. Contains ls l) (sym alone) (Contains-here l []))).0, true_is (lit_value values l) t))),
+    (λ s. is_true (lit_value values l) (one_true l alone s)),
+  )
+
+  -- two are left, of different variables
+  two_left : (left : List Lit) → left_of values clause ≡ left → Rises left → 2 ≤ length left → IsSettled values clause
+  two_left [] is rises few = absurd (omega arith)
+  two_left (x ∷ []) is rises few = absurd (omega arith)
+  two_left (x ∷ y ∷ ls) is rises few =
+      let one = left_there x (subst (λ ls. Contains ls x) (sym is) (Contains-here x (y ∷ ls))) in
+      let other = left_there y (subst (λ ls. Contains ls y) (sym is) (Contains-there x (y ∷ ls) y (Contains-here y ls))) in
+      let below : x.var < y.var = All-head (λ (m : Lit). x.var < m.var) y ls rises.0 in
+      elim one.1 [
+        | inl t ↦ inl (x, (one.0, t))
+        | inr first ↦ elim other.1 [
+          | inl t ↦ inl (y, (other.0, t))
+          | inr second ↦ inr (record { one = x; other = y; has_one = one.0; has_other = other.0; differ = λ same. (let e : x.var ≡ y.var = ap (λ (m : Lit). m.var) same in omega (arith, e, below)); one_open = first; other_open = second })
+        ]
+      ]
+
+  pub settled_more : (vars : ℕ) → IsClause vars clause → 2 ≤ length (left_of values clause) → IsSettled values clause
+  settled_more vars form more =
+      two_left (left_of values clause) refl (Rises-filter (λ m. not (is_false_value (lit_value values m))) clause (Rises-from_adjacent clause form.rising)) more
+
+  -- what an answer says of what is left
+  abbrev pub SettledBy : Left → Bool → Type 0
+  SettledBy left settled = (vars : ℕ) → IsClause vars clause → IsLeft values clause left → IsTrue settled ↔ IsSettled values clause
+
+  pub by_nothing : SettledBy Nothing false
+  by_nothing vars form none = refused (unsettled none)
+
+  pub by_one : (l : Lit) (settled : Bool) → settled ≡ is_true_value (lit_value values l) → SettledBy (One l) settled
+  by_one l settled is vars form alone = subst (λ b. IsTrue b ↔ IsSettled values clause) (sym is) (settled_one l alone)
+
+  pub by_more : SettledBy More true
+  by_more vars form more = granted (settled_more vars form more)
+
+-- ---- clauses, one after the other
+
+-- what a test of what is left of a clause tells
+abbrev pub Tells : Values → Left → Bool → Type 0
+Tells values left settled = (vars : ℕ) (clause : List Lit) → IsClause vars clause → IsLeft values clause left → IsTrue settled ↔ IsSettled values clause
+
+module _ (values : Values) (vars : ℕ) (clauses : List (List Lit)) (form : AreClauses vars clauses) (i : ℕ) (below : i < length clauses)
+    (clause : List Lit) (same : clause ≡ get_or clauses i []) (left : Left) (is_left : IsLeft values clause left) (settled : Bool) (tells : Tells values left settled) where
+  told : IsTrue settled ↔ IsSettled values (get_or clauses i [])
+  told = tells vars (get_or clauses i []) (form i [] below) (subst (λ c. IsLeft values c left) same is_left)
+
+  -- one that isn't settled
+  pub stops : settled ≡ false → IsTrue false ↔ IsFixpoint values clauses
+  stops fails = refused (λ all. true≢false (sym (told.1 (all i [] below)) ∙ fails))
+
+  -- one more that is
+  pub goes_on : settled ≡ true → ((k : ℕ) (d : List Lit) → k < i → IsSettled values (get_or clauses k d)) → (k : ℕ) (d : List Lit) → k < i + 1 → IsSettled values (get_or clauses k d)
+  goes_on holds before = each_more (IsSettled values) clauses i (get_or clauses i []) below (get_or_default clauses i [] (get_or clauses i []) below) (told.0 holds) before
+
+-- ---- the clauses of lines
+
+module _ (vars : ℕ) (lines : List Line) (i : ℕ) (below : i < length lines) (clause : List Lit) (at : (d : Line) → clause ≡ clause_of (get_or lines i d)) where
+  pub line_same : clause ≡ get_or (clauses_of lines) i []
+  line_same = at (Given []) ∙ sym (get_or-map clause_of lines i (Given []) [] below)
+
+  pub line_below : i < length (clauses_of lines)
+  line_below = omega (arith, below, length-map lines clause_of)
+
+  -- there is a place for each variable of the clause
+  pub line_fits : AreClauses vars (clauses_of lines) → (n : ℕ) → vars < n → All (λ (l : Lit). l.var < n) clause
+  line_fits form n room =
+      let is = subst (IsClause vars) (sym line_same) (form i [] line_below) in
+      λ k d lt. (let high = (is.in_range k d lt).1 in omega (arith, high, room))
+
+-- lines that hold have clauses over the variables
+line_form : (vars : ℕ) (clauses : List (List Lit)) (line : Line) → LineHolds vars clauses line → IsClause vars (clause_of line)
+line_form vars clauses (Learn clause hints) h = h.1.0
+line_form vars clauses (Given clause) h = h
+
+pub lines_form : (vars : ℕ) (clauses : List (List Lit)) (lines : List Line) → LinesHold vars clauses lines → AreClauses vars (clauses_of lines)
+lines_form vars clauses lines hold i d below =
+    let few : i < length lines = omega (arith, below, length-map lines clause_of) in
+    subst (IsClause vars) (sym (get_or-map clause_of lines i (Given []) d few)) (line_form vars (clauses_with clauses (take i lines)) (get_or lines i (Given [])) (hold i few (Given [])))
+
+-- ---- the clauses of a formula, and of lines
+
+module _ (values : Values) (xs ys : List (List Lit)) (a : Bool) (second : IsTrue a ↔ IsFixpoint values ys) where
+  first_settled : IsFixpoint values (xs ++ ys) → IsFixpoint values xs
+  first_settled all = All-from_members (IsSettled values) xs (λ c m. All-contains (IsSettled values) (xs ++ ys) c all (Contains-append_left xs ys c m))
+
+  second_settled : IsFixpoint values (xs ++ ys) → IsFixpoint values ys
+  second_settled all = All-from_members (IsSettled values) ys (λ c m. All-contains (IsSettled values) (xs ++ ys) c all (Contains-append_right xs ys c m))
+
+  pub both_settled : (b : Bool) → IsTrue b ↔ IsFixpoint values xs → a ≡ true → IsTrue b ↔ IsFixpoint values (xs ++ ys)
+  both_settled b first holds = ((λ t. All-append (IsSettled values) xs ys (first.0 t) (second.0 holds)), (λ all. first.1 (first_settled all)))
+
+  pub second_unsettled : a ≡ false → IsTrue a ↔ IsFixpoint values (xs ++ ys)
+  second_unsettled fails = ((λ t. absurd (true≢false (sym t ∙ fails))), (λ all. second.1 (second_settled all)))
