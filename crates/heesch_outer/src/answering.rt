@@ -14,7 +14,8 @@ use crate::OuterAnswer;
 use heesch_cert::{Bare, Entry, Evidence, Limits, Wall};
 use heesch_grid::{Cell, Grid};
 use heesch_io::NoMemory;
-use heesch_levels::{LevelAnswer, level_up_to};
+use heesch_levels::LevelAnswer;
+use heesch_search::level_up_to;
 use heesch_shape::Shape;
 use std::alloc::Global;
 

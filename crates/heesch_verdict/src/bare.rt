@@ -9,7 +9,8 @@ use crate::subject::Subject;
 use heesch_cert::{Bare, Layers, Wall};
 use heesch_grid::Grid;
 use heesch_io::NoMemory;
-use heesch_levels::{LevelAnswer, level};
+use heesch_levels::LevelAnswer;
+use heesch_search::level;
 use std::alloc::Global;
 
 /// How the search with holes allowed ended at level m, and the m - 1 coronas that it found, where

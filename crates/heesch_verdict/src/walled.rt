@@ -8,7 +8,8 @@ use crate::subject::Subject;
 use heesch_cert::{Layers, Wall};
 use heesch_grid::Grid;
 use heesch_io::{NoMemory, Seq};
-use heesch_levels::{WallAnswer, wall};
+use heesch_levels::WallAnswer;
+use heesch_search::wall;
 use std::alloc::Global;
 
 /// The hole-free coronas that were found, h of them, and how the search for one more ended; and h + 1
