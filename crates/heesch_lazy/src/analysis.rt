@@ -202,12 +202,7 @@ impl Resolution {
 
     /// The clause is that of the want that the variable asks for: not the variable, or a candidate. It needs no
     /// reasons.
-    pub fn copy_asked(
-        &mut self,
-        state: &State,
-        variable: u32,
-        want: u32,
-    ) -> Result<(), NoMemory> {
+    pub fn copy_asked(&mut self, state: &State, variable: u32, want: u32) -> Result<(), NoMemory> {
         let negation = Lit {
             var: variable,
             positive: false,

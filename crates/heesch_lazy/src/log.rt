@@ -128,7 +128,12 @@ impl CoverLog {
     }
 
     /// The lines of the store that are needed.
-    fn add_lines(&mut self, alloc: Global, store: &Store, needed: &[bool]) -> Result<Vec<u32>, NoMemory>
+    fn add_lines(
+        &mut self,
+        alloc: Global,
+        store: &Store,
+        needed: &[bool],
+    ) -> Result<Vec<u32>, NoMemory>
         requires vars { store.now ≡ self.old.vars }
         ensures vars { self.new.vars ≡ self.old.vars }
     {

@@ -112,12 +112,7 @@ impl Marks {
 
     /// Whether the variable follows from the marked ones and from level 0, by at most `depth` reasons in a row. The
     /// cost is the lengths of the reasons of the variables that weren't asked about before.
-    pub fn follows(
-        &mut self,
-        state: &State,
-        variable: u32,
-        depth: u32,
-    ) -> Result<bool, NoMemory> {
+    pub fn follows(&mut self, state: &State, variable: u32, depth: u32) -> Result<bool, NoMemory> {
         if let Some(verdict) = self.verdict(variable) {
             return Ok(verdict);
         }

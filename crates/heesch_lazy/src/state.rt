@@ -131,11 +131,8 @@ impl State {
         let Some(lit) = self.store.clause(index as usize).get(first.place).copied() else {
             return Ok(false);
         };
-        self.trail.assign(
-            lit.var(),
-            lit.is_positive(),
-            Some(Reason::Line { index }),
-        )?;
+        self.trail
+            .assign(lit.var(), lit.is_positive(), Some(Reason::Line { index }))?;
         Ok(true)
     }
 

@@ -157,10 +157,7 @@ impl State {
         if self.trail.value(other).is_true() || self.is_served(want) {
             return Ok(Look::Stays);
         }
-        match self
-            .trail
-            .last_beside(self.table.candidates(want), other)
-        {
+        match self.trail.last_beside(self.table.candidates(want), other) {
             Some(one) => {
                 self.wants.watch(want, Watching { one, other })?;
                 Ok(Look::Leaves)
