@@ -40,7 +40,7 @@ fn samples_of<G: Grid>(alloc: Global, universe: &Universe<G>) -> Result<Vec<u32>
     Ok(samples)
 }
 
-/// Lists how far the cells lie from the first place, in place of what the list had.
+/// How far the cells lie from the first place.
 fn distances(
     alloc: Global,
     frame: Frame,
