@@ -1,11 +1,11 @@
 #!/usr/bin/env python3
 """Alters small true catalogues of every grid and kind of verdict, and judges `heesch check` over each altered text.
 
-    alterations.py PROGRAM SEED COUNT [--against OTHER]
+    alterations.py PROGRAM SEED COUNT [--against OTHER] [--over CATALOGUE ..]
 
-PROGRAM makes the catalogues and checks COUNT altered texts. It has to end with status 0 or 1, within a second of the
-processor. What it accepts is listed by the kind of the alteration, with examples: a reader has to see that these texts
-are true too.
+PROGRAM makes the catalogues, where --over names none, and checks COUNT altered texts. It has to end with status 0 or 1,
+within a second of the processor. What it accepts is listed by the kind of the alteration, with examples: a reader has
+to see that these texts are true too.
 
 With --against, OTHER checks the same texts, and has to end with the same status and the same line. OTHER is the program
 of an earlier commit, so that nothing is answered otherwise than before; or the independent checker of check.rs:
@@ -19,6 +19,7 @@ isn't as it has to be.
 import argparse
 import collections
 import hashlib
+import pathlib
 import random
 import re
 import resource
@@ -202,14 +203,16 @@ def parse_words():
     parser.add_argument('program', metavar='PROGRAM')
     parser.add_argument('seed', metavar='SEED', type=int)
     parser.add_argument('count', metavar='COUNT', type=int)
-    parser.add_argument('--against', metavar='OTHER')
+    parser.add_argument('--against', metavar='OTHER', help='another program, which has to answer the same')
+    parser.add_argument('--over', metavar='CATALOGUE', nargs='+', type=pathlib.Path, help='files of true catalogues')
     return parser.parse_args()
 
 
 def main():
     """Judges the programs that the words name."""
     words = parse_words()
-    texts = list(dict.fromkeys(catalogues(words.program)))
+    given = [path.read_text(encoding='ascii') for path in words.over or []]
+    texts = list(dict.fromkeys(given or catalogues(words.program)))
     kinds = collections.Counter()
     for text in texts:
         if called(words.program, 'check', text).returncode != 0:

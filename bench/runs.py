@@ -3,8 +3,9 @@
 
 A table stands behind a line `<!-- bench/runs.py NAME -->`, or `<!-- bench/runs.py NAME from GRID N, GRID N -->` where
 it has the sizes from N on alone. Its rows are those of the folders, in the order of grids and sizes. Every figure
-stands in a folder (tally.csv, README.md), or is printed by `heesch table` over its catalogue, or is a published one
-of docs/TABLES.md. HEESCH names the program. Runs of different programs are refused, since a table is of one.
+stands in a folder (tally.csv, README.md), or is printed by `heesch table` or `tools/select` over its catalogue, or is
+a published one of docs/TABLES.md. HEESCH names the program. Runs of different programs are refused, since a table is
+of one.
 """
 import csv
 import functools
@@ -15,6 +16,7 @@ import subprocess
 import sys
 
 MOST = 2_000_000_000  # the bytes of evidence that tools/run keeps by default
+LEAST_LISTED, MOST_LISTED = 2, 12  # the least Heesch number whose shapes are listed, and of a size the most shapes
 GRIDS = ('square', 'hex', 'iamond', 'kite')
 TOP = pathlib.Path(__file__).resolve().parent.parent
 
@@ -87,6 +89,16 @@ class Run:
                 counts[number] = counts.get(number, 0) + int(count)
         return in_words(counts)
 
+    def largest(self):
+        """The largest Heesch number of a shape without a hole, and the cells of the shapes that have it."""
+        columns = [column for column in self.tally if re.fullmatch('heesch_[0-9]+', column)]
+        number = max((int(column.split('_')[1]) for column in columns if self.count(column)), default=0)
+        shapes = []
+        for tally in [self.tally, *self.given]:
+            words = [TOP / 'tools/select', self.folder / tally['file'], '--heesch', str(number), '--simply-connected']
+            shapes += subprocess.run(words, capture_output=True, check=True).stdout.decode().splitlines()
+        return number, shapes
+
 
 def in_words(counts):
     return ', '.join(f'{number}: {count}' for number, count in sorted(counts.items()) if count) or 'none'
@@ -150,6 +162,17 @@ def left_open(runs):
     return table(['Size', 'Number', 'Cells', 'Verdict', 'Limits'], rows)
 
 
+def largest(runs):
+    rows = []
+    for run in runs:
+        number, shapes = run.largest()
+        if number >= LEAST_LISTED:
+            rows += [[f'`{run.name}`', number, f'`{cells}`'] for cells in shapes[:MOST_LISTED]]
+            if len(shapes) > MOST_LISTED:
+                rows.append([f'`{run.name}`', number, f'{len(shapes) - MOST_LISTED} more'])
+    return table(['Size', 'Heesch number', 'Cells'], rows)
+
+
 def stages(runs):
     rows = []
     for run in runs:
@@ -167,7 +190,7 @@ def stages(runs):
                   'File', 'Bytes', 'sha256', '`heesch check`'], rows)
 
 
-TABLES = {'published': with_published, 'verdicts': verdicts, 'open': left_open, 'runs': stages}
+TABLES = {'published': with_published, 'verdicts': verdicts, 'open': left_open, 'largest': largest, 'runs': stages}
 MARK = re.compile('<!-- bench/runs.py ([a-z]+)(?: from ([a-z0-9, ]+))? -->')
 
 
