@@ -23,6 +23,9 @@ use heesch_numbers::CoronaSource;
 use heesch_shape::Shape;
 use std::alloc::Global;
 
+/// A universe has fewer variables than this.
+const VARIABLES_MAX: u32 = 1 << 31;
+
 /// An answer to be judged, and behind a spent proof the values that unit propagation gives.
 #[derive(Drop)]
 struct Proposal<A> {
@@ -127,6 +130,26 @@ fn wall_proposal<G: Grid>(
     }
 }
 
+/// What the search over the geometry advises.
+fn advice_on<G: Grid>(
+    alloc: Global,
+    shape: &Shape<G>,
+    source: &CoronaSource<G>,
+    free_levels: u32,
+    turns: u32,
+) -> Result<Advice, NoMemory>
+    requires source { IsSourceOf G.geometry shape.now source.now }
+    requires canonical { IsCanonicalListOf G.geometry shape.now shape.now }
+    ensures { IfOk result (AdvisesOn (length source.now.universe.vars)) }
+{
+    let universe = source.universe();
+    // No universe has so many variables: the test tells the proof so.
+    if universe.count() >= VARIABLES_MAX {
+        return Ok(Advice::GaveUp);
+    }
+    search_level(alloc, shape, universe, free_levels, turns)
+}
+
 /// The answer of the level of the source that is proposed, where the judge finds it true.
 fn judged_level<G: Grid>(
     alloc: Global,
@@ -143,16 +166,13 @@ fn judged_level<G: Grid>(
     ensures at_once { IfOk result (λ answer. IfSome answer
         (NamesEmptyClauses Two G.geometry shape.now source.now.universe.level)) }
 {
-    let advice = search_level(alloc, shape, source.universe(), free_levels, turns)?;
+    let advice = advice_on(alloc, shape, source, free_levels, turns)?;
     let Some(proposal) = level_proposal(alloc, source, advice)? else {
         return Ok(None);
     };
     let Proposal { answer, values } = proposal;
-    if is_level_answer(alloc, shape, source, free_levels, turns, &values, &answer)? {
-        Ok(Some(answer))
-    } else {
-        Ok(None)
-    }
+    let holds = is_level_answer(alloc, shape, source, free_levels, turns, &values, &answer)?;
+    if holds { Ok(Some(answer)) } else { Ok(None) }
 }
 
 /// The answer on the wall at the level of the source that is proposed, where the judge finds it true.
@@ -172,16 +192,13 @@ fn judged_wall<G: Grid>(
         NamesEmptyClauses Two G.geometry shape.now source.now.universe.level (level_answer answer))) }
 {
     let level = source.universe().level();
-    let advice = search_level(alloc, shape, source.universe(), level, turns)?;
+    let advice = advice_on(alloc, shape, source, level, turns)?;
     let Some(proposal) = wall_proposal(alloc, source, advice)? else {
         return Ok(None);
     };
     let Proposal { answer, values } = proposal;
-    if is_wall_answer(alloc, shape, source, turns, &values, &answer)? {
-        Ok(Some(answer))
-    } else {
-        Ok(None)
-    }
+    let holds = is_wall_answer(alloc, shape, source, turns, &values, &answer)?;
+    if holds { Ok(Some(answer)) } else { Ok(None) }
 }
 
 /// The answer of level j in the second version that is proposed and found true; or that the formula is too large.
