@@ -1,6 +1,6 @@
 -- What answers say, from what each clause says.
 use Rattle.std.proofs.Common.{◌≡◌, sym, subst, ℕ, ◌≤◌, List, true, arith}
-use Rattle.std.specs.Prelude.{◌≢◌, Result, Ok, Err, IfOk}
+use Rattle.std.specs.Prelude.{◌≢◌, Option, Some, None, Result, Ok, Err, IfOk, IfSome}
 use Rattle.heesch_grid.specs.declared.Cell.{Cell}
 use Rattle.heesch_grid.specs.Clauses.{formula_size}
 use Rattle.heesch_grid.specs.Geometry.{Geometry, IsGrid}
@@ -65,3 +65,18 @@ module _ (g : Geometry) (law : IsGrid g) (shape : List Cell) (form : IsPolyform 
     too_large = λ large. absurd (not_too_large large);
     at_once = λ other. subst (λ n. NamesEmptyClauses Two g shape n (level_answer answer)) has.level named;
   }
+
+  pub some_level_says : {E : Type 0} (k turns : ℕ) (result : Result (Option LevelAnswer) E)
+      → IfOk result (λ found. IfSome found (λ answer. (size : ℕ) → formula_size s.formula.clauses ≤ size → IsAnswerUpTo Two g shape s.universe.level k turns size answer))
+      → IfOk result (λ found. IfSome found (NamesEmptyClauses Two g shape s.universe.level)) → IfOk result (λ found. IfSome found (SaysLevel Two g shape j k turns size))
+  some_level_says k turns (Ok None) right named = tt
+  some_level_says k turns (Ok (Some answer)) right named = judged_level_says k turns answer right named
+  some_level_says k turns (Err e) right named = tt
+
+  pub some_wall_says : {E : Type 0} (turns : ℕ) (result : Result (Option WallAnswer) E)
+      → IfOk result (λ found. IfSome found (λ answer. (size : ℕ) → formula_size s.formula.clauses ≤ size → IsLevelAnswer Two g shape s.universe.level true turns size (level_answer answer)))
+      → IfOk result (λ found. IfSome found (ShowsHoles g shape s.universe.level))
+      → IfOk result (λ found. IfSome found (λ answer. NamesEmptyClauses Two g shape s.universe.level (level_answer answer))) → IfOk result (λ found. IfSome found (SaysWall Two g shape j turns size))
+  some_wall_says turns (Ok None) right holes named = tt
+  some_wall_says turns (Ok (Some answer)) right holes named = judged_wall_says turns answer right holes named
+  some_wall_says turns (Err e) right holes named = tt
