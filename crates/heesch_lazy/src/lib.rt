@@ -27,6 +27,3 @@ mod wants;
 pub use log::CoverLog;
 pub use reason::Reason;
 pub use search::{Found, Search};
-
-#[cfg(test)]
-mod tests;

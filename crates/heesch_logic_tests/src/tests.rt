@@ -3,6 +3,7 @@ mod claims;
 mod effort;
 mod exact;
 mod io;
+mod lazy;
 mod made;
 mod rup;
 mod solver;

@@ -1,8 +1,8 @@
 //! Small cover problems, and a slow check of what their logs show.
-use crate::{CoverLog, Found, Reason, Search};
 use heesch_cnf::{Lit, PackedLit};
 use heesch_cover::{CoverTable, NumberLists};
 use heesch_io::NoMemory;
+use heesch_lazy::{CoverLog, Found, Reason, Search};
 use std::alloc::Global;
 use std::test::Fail;
 
