@@ -249,12 +249,9 @@ impl Contacts {
         self.first_slot(place).wrapping_add(rank)
     }
 
-    /// How far the slots of the placements that touch one of this turn lie behind the first slot of its place, in
-    /// rising order.
-    pub fn steps(&self, turn: u32) -> &[u32] {
-        match self.steps.get(turn as usize) {
-            Some(steps) => steps,
-            None => &[],
-        }
+    /// By turn, how far the slots of the placements that touch one of this turn lie behind the first slot of its place,
+    /// in rising order. They are handed over.
+    pub fn take_steps(&mut self, alloc: Global) -> Vec<Vec<u32>> {
+        std::mem::replace(&mut self.steps, Vec::new(alloc))
     }
 }

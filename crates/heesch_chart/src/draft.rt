@@ -5,7 +5,7 @@ ghost use Rattle.heesch_place.specs.Universes.{IsUniverseOf};
 
 use crate::contacts::Contacts;
 use crate::frame::Frame;
-use heesch_cover::CoverTable;
+use heesch_cover::{CoverTable, Slots, Start};
 use heesch_encode::{Plan, last_below, write_moved, write_ring};
 use heesch_grid::{Cell, Grid};
 use heesch_io::NoMemory;
@@ -50,28 +50,11 @@ pub(crate) struct Draft {
     /// By place, the number of the last want of the cell and one more, or 0.
     wanted: Vec<u32>,
     contacts: Contacts,
-    /// By slot, the variable of the level below whose tile is there, or 0.
-    below: Vec<u32>,
+    /// A layer for each level but the last, with the variables of the level.
+    slots: Slots,
     ring: Vec<Cell>,
-    supports: Vec<u32>,
     asked: Vec<u32>,
-}
-
-/// Lists the variables in the slots to which these steps lead.
-fn list_in(
-    variables: &mut Vec<u32>,
-    slots: &[u32],
-    first: u32,
-    steps: &[u32],
-) -> Result<(), NoMemory> {
-    for step in steps {
-        let slot = first.wrapping_add(*step);
-        let found = slots.get(slot as usize).copied().unwrap_or(0);
-        if found != 0 {
-            variables.push(found)?;
-        }
-    }
-    Ok(())
+    alloc: Global,
 }
 
 /// The want of the cell at a place for a variable up to the level above: the last one of the cell, where a variable of
@@ -102,29 +85,31 @@ impl Draft {
         alloc: Global,
         table: CoverTable,
         frame: Frame,
-        contacts: Contacts,
+        mut contacts: Contacts,
     ) -> Result<Draft, NoMemory>
         ensures { IfOk result (λ draft. draft.table ≡ table) }
     {
-        let wanted = vec![in alloc; 0; frame.places as usize]?;
-        let below = vec![in alloc; 0; contacts.slots(frame.places)]?;
+        let slots = Slots::new(alloc, contacts.take_steps(alloc));
         Ok(Draft {
             table,
             frame,
-            wanted,
+            wanted: vec![in alloc; 0; frame.places as usize]?,
             contacts,
-            below,
+            slots,
             ring: Vec::new(alloc),
-            supports: Vec::new(alloc),
             asked: Vec::new(alloc),
+            alloc,
         })
     }
 
-    /// The table.
+    /// The table, whose variables of level 2 or more ask besides for one of the level below that touches them.
     pub fn into_table(self) -> CoverTable
         ensures { result ≡ self.table }
     {
-        let Draft { table, .. } = self;
+        let Draft {
+            mut table, slots, ..
+        } = self;
+        table.set_slots(slots);
         table
     }
 
@@ -163,34 +148,33 @@ impl Draft {
         self.table.cells(variable).first().copied().unwrap_or(0)
     }
 
-    /// Puts each variable of a level into its slot, or takes it out.
-    fn put_level<G: Grid>(&mut self, universe: &Universe<G>, span: LevelSpan, is_in: bool)
+    /// Adds the layer of a level: each of its variables in the slot of its tile.
+    fn add_layer<G: Grid>(&mut self, universe: &Universe<G>, span: LevelSpan) -> Result<(), NoMemory>
         requires { span.last ≤ length universe.now.vars }
         ensures { self.new.table.vars ≡ self.old.table.vars }
     {
+        let mut layer = vec![in self.alloc; 0u32; self.contacts.slots(self.frame.places)]?;
         for before in span.after..span.last {
             let variable = before + 1;
             let turn = universe.placement_of(variable).iso().turn;
-            let place = self.first_place(variable);
-            let slot = self.contacts.slot(place, turn);
-            if let Some(entry) = self.below.get_mut(slot as usize) {
-                *entry = if is_in { variable } else { 0 };
+            let slot = self.contacts.slot(self.first_place(variable), turn);
+            if let Some(entry) = layer.get_mut(slot as usize) {
+                *entry = variable;
             }
         }
+        self.slots.add_layer(layer)
     }
 
-    /// Asks for one of the variables of the level below whose tiles touch that of the variable, which has this turn.
-    fn ask_for_support(&mut self, variable: u32, turn: u32) -> Result<(), NoMemory>
-        ensures { self.new.table.vars ≡ self.old.table.vars }
+    /// From where the steps of a variable of this level go, to those of the level below that touch it.
+    fn start<G: Grid>(&self, universe: &Universe<G>, variable: u32, level: u32) -> Option<Start>
+        requires { (1 ≤ variable) × (variable ≤ length universe.now.vars) }
     {
-        let place = self.first_place(variable);
-        let first = self.contacts.first_slot(place);
-        self.supports.clear();
-        let steps = self.contacts.steps(turn);
-        list_in(&mut self.supports, &self.below, first, steps)?;
-        let want = self.table.want_one_of(&self.supports)?;
-        self.asked.push(want)?;
-        Ok(())
+        let layer = level.checked_sub(2)?;
+        Some(Start {
+            layer,
+            slot: self.contacts.first_slot(self.first_place(variable)),
+            kind: universe.placement_of(variable).iso().turn,
+        })
     }
 
     /// A variable of a level asks for its wants.
@@ -209,11 +193,9 @@ impl Draft {
         if asking.level < plan.level {
             self.ask_for_cells(plan.shape, asking)?;
         }
-        if asking.level >= 2 {
-            let turn = plan.universe.placement_of(variable).iso().turn;
-            self.ask_for_support(variable, turn)?;
-        }
-        self.table.ask(&self.asked)
+        self.table.ask(&self.asked)?;
+        let start = self.start(plan.universe, variable, asking.level);
+        self.slots.start(start)
     }
 
     /// Each variable of the level asks for its wants.
@@ -223,17 +205,17 @@ impl Draft {
         ensures { self.new.table.vars ≡ self.old.table.vars }
     {
         let span = LevelSpan::of(plan.universe, level);
-        let below = LevelSpan::of(plan.universe, level - 1);
         let asking = Asking {
             level,
             earlier: self.table.wants(),
             above: last_below(plan.universe, level + 2),
         };
-        self.put_level(plan.universe, below, true);
         for before in span.after..span.last {
             self.ask(plan, before + 1, asking)?;
         }
-        self.put_level(plan.universe, below, false);
+        if level < plan.level {
+            self.add_layer(plan.universe, span)?;
+        }
         Ok(())
     }
 }

@@ -93,18 +93,16 @@ impl Numbers {
         Ok(numbers)
     }
 
-    /// Counts the clauses of families 2 and 3: one for each want that a variable asks for.
+    /// Counts the clauses of families 2 and 3: one for each cell that a variable asks for, and one for its support.
     fn count_asked(&mut self, table: &CoverTable) -> Result<(), NoMemory> {
         let mut supports = 0u32;
         for before in 0..table.vars() {
             let variable = before + 1;
-            let mut asked = table.asked(variable).len();
-            if variable > self.lowest {
+            if table.asks_near(variable) {
                 supports = supports.wrapping_add(1);
-                asked = asked.saturating_sub(1);
             }
             self.covering.push(self.count)?;
-            self.count = self.count.wrapping_add(short(asked));
+            self.count = self.count.wrapping_add(short(table.asked(variable).len()));
         }
         self.common = self.count;
         self.count = self.count.wrapping_add(supports);
@@ -129,11 +127,11 @@ impl Numbers {
 
     /// The number of the clause that a variable asks for a want. A look at each want that it asks for.
     pub fn asked(&self, table: &CoverTable, variable: u32, want: u32) -> u32 {
+        if table.near_want(variable) == Some(want) {
+            return self.common.wrapping_add(variable.wrapping_sub(self.lowest));
+        }
         let wants = table.asked(variable);
         let place = wants.iter().position(|asked| *asked == want).unwrap_or(0);
-        if variable > self.lowest && place + 1 == wants.len() {
-            return self.common.wrapping_add(variable - self.lowest);
-        }
         let before = self.covering.get(variable as usize).copied().unwrap_or(0);
         before.wrapping_add(short(place)).wrapping_add(1)
     }

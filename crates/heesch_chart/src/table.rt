@@ -88,11 +88,11 @@ pub(crate) fn table_on<G: Grid>(
 ///
 /// The first wants, from 0 on, are of the cells around the shape in cell order, each for a variable of level 1. A
 /// variable below the last level asks for the cells around its tile and outside the shape, in cell order, each for a
-/// variable at most one level above it; one of level 2 or more then asks for a variable of the level below whose tile
-/// touches its own. Variables of one level that ask for the same cell share a want.
+/// variable at most one level above it; one of level 2 or more asks besides for a variable of the level below whose tile
+/// touches its own, which are found by steps between slots. Variables of one level that ask for the same cell share a
+/// want.
 ///
-/// The cost is a step for each cell of each tile and around it, and for each variable of the level below that has such
-/// a cell, a sort of those that touch the tile, and the area of the rectangle.
+/// The cost is a step for each cell of each tile and around it, and for each level the area of the rectangle.
 pub fn table_of<G: Grid>(
     alloc: Global,
     shape: &Shape<G>,

@@ -11,7 +11,9 @@
 #![tactic(auto)]
 
 mod lists;
+mod near;
 mod table;
 
 pub use lists::NumberLists;
+pub use near::{Reach, Slots, Start};
 pub use table::{CoverTable, Want};

@@ -4,6 +4,7 @@ ghost use Rattle.heesch_cover.specs.Sizes.{AreBelow, Lists, Sizes};
 
 use crate::NumberLists;
 use crate::lists::Span;
+use crate::near::{Reach, Slots};
 use heesch_io::NoMemory;
 use std::alloc::Global;
 use std::marker::Model;
@@ -35,6 +36,8 @@ pub struct CoverTable {
     first: Vec<u32>,
     /// By variable, the wants that it asks for.
     asked: NumberLists,
+    /// What variables ask for besides, found by steps.
+    slots: Slots,
 }
 
 impl Model for CoverTable {
@@ -69,6 +72,7 @@ impl CoverTable {
             wants: Vec::new(alloc),
             first: Vec::new(alloc),
             asked: NumberLists::new(alloc, u32::MAX),
+            slots: Slots::new(alloc, Vec::new(alloc)),
         })
     }
 
@@ -160,6 +164,47 @@ impl CoverTable {
         ensures { self.new ≡ self.old }
     {
         self.asked.push(wants)
+    }
+
+    /// Each variable with a start asks for one more want: for one of the variables in the slots to which its steps lead.
+    /// Such a want is made by `want_near`. It takes no memory.
+    pub fn set_slots(&mut self, slots: Slots)
+        ensures { self.new ≡ self.old }
+    {
+        self.slots = slots;
+    }
+
+    /// Whether the variable asks for one of those in slots. The cost is a look-up.
+    pub fn asks_near(&self, variable: u32) -> bool {
+        self.slots.asks(variable)
+    }
+
+    /// The slots whose variables the variable asks for. The cost is a few look-ups.
+    pub fn reach(&self, variable: u32) -> Reach<'_> {
+        self.slots.reach(variable)
+    }
+
+    /// The want of a variable for one of those in slots, where it was made. The cost is a look-up.
+    pub fn near_want(&self, variable: u32) -> Option<u32> {
+        self.slots.want(variable)
+    }
+
+    /// The want of a variable for one of those in slots, made where it wasn't; None where it asks for none. At want of
+    /// memory nothing has changed. The cost is the number of the slots, at the first call for the variable.
+    pub fn want_near(&mut self, variable: u32) -> Result<Option<u32>, NoMemory>
+        ensures vars { self.new.vars ≡ self.old.vars }
+        ensures cells { self.new.cells ≡ self.old.cells }
+    {
+        if !self.slots.asks(variable) {
+            return Ok(None);
+        }
+        if let Some(want) = self.slots.want(variable) {
+            return Ok(Some(want));
+        }
+        let candidates = self.slots.candidates(variable)?;
+        let want = self.want_one_of(&candidates)?;
+        self.slots.note(variable, want);
+        Ok(Some(want))
     }
 
     /// The cells of a variable's tile. The cost is a look-up.

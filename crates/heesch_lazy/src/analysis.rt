@@ -16,6 +16,8 @@ pub(crate) enum Learnt {
     Line,
     /// The clause of a want that the variable asks for lies in that clause, so nothing new was learnt.
     Late { variable: u32, want: u32 },
+    /// So does that of the want of the variable for one of those in slots.
+    LateNear { variable: u32 },
     /// The conflict could not be resolved.
     Nothing,
 }
@@ -146,6 +148,22 @@ impl Resolution {
         true
     }
 
+    /// Whether the variable asks for one of those in slots, and the clause has each of them.
+    fn has_neighbours(&self, state: &State, variable: u32) -> bool {
+        if !state.table.asks_near(variable) {
+            return false;
+        }
+        let reach = state.table.reach(variable);
+        for place in 0..reach.len() {
+            let candidate = reach.at(place);
+            let has = self.marks.is_marked(candidate) && state.trail.value(candidate).is_false();
+            if candidate != 0 && !has {
+                return false;
+            }
+        }
+        true
+    }
+
     /// The literal of the clause that was assigned at the present level.
     fn top(&self, trail: &Trail) -> Option<Lit> {
         for lit in &self.clause {
@@ -172,6 +190,9 @@ impl Resolution {
                     want: *want,
                 };
             }
+        }
+        if self.has_neighbours(state, top.var) {
+            return Learnt::LateNear { variable: top.var };
         }
         Learnt::Line
     }

@@ -14,7 +14,7 @@ impl State {
     /// The number of the open candidates of the want, where none is chosen and fewer than `most` are open. A chosen
     /// one is noted.
     fn open_in(&mut self, want: u32, most: usize) -> Option<usize>
-        ensures { self.new.table ≡ self.old.table }
+        ensures { self.new.table.vars ≡ self.old.table.vars }
     {
         if self.is_served(want) {
             return None;
@@ -33,7 +33,7 @@ impl State {
 
     /// The first want that holds with the fewest open candidates, of those that aren't served.
     fn fewest_open(&mut self) -> Option<u32>
-        ensures { self.new.table ≡ self.old.table }
+        ensures { self.new.table.vars ≡ self.old.table.vars }
     {
         let mut best = None;
         let mut fewest = usize::MAX;
@@ -83,7 +83,7 @@ impl State {
     /// denied. The cost is that of counting the open candidates of the wants that hold, each up to as many as the best
     /// has.
     pub fn choose(&mut self) -> Option<u32>
-        ensures { self.new.table ≡ self.old.table }
+        ensures { self.new.table.vars ≡ self.old.table.vars }
     {
         if let Some(want) = self.fewest_open() {
             return self.trail.last_open(self.table.candidates(want));
@@ -101,11 +101,36 @@ impl State {
         None
     }
 
+    /// Whether the variable asks for one of those in slots, and they are denied.
+    fn is_denied_near(&self, variable: u32) -> bool {
+        if !self.table.asks_near(variable) {
+            return false;
+        }
+        let reach = self.table.reach(variable);
+        for place in 0..reach.len() {
+            let candidate = reach.at(place);
+            if candidate != 0 && !self.trail.value(candidate).is_false() {
+                return false;
+            }
+        }
+        true
+    }
+
+    /// A want that the variable asks for whose candidates are denied, if there is one.
+    fn denied_want(&mut self, variable: u32) -> Result<Option<u32>, NoMemory>
+        ensures { self.new.table.vars ≡ self.old.table.vars }
+    {
+        match self.first_denied(variable) {
+            None if self.is_denied_near(variable) => self.near(variable),
+            found => Ok(found),
+        }
+    }
+
     /// Each open variable that asks for a want whose candidates are denied is denied. Whether there was one is
-    /// answered. The cost is the number of the wants that open variables ask for, and of their last candidates that
-    /// are denied.
+    /// answered. The cost is the number of the wants that open variables ask for, and of their candidates up to one that
+    /// isn't denied.
     fn deny_askers(&mut self) -> Result<bool, NoMemory>
-        ensures { self.new.table ≡ self.old.table }
+        ensures { self.new.table.vars ≡ self.old.table.vars }
     {
         let mut any = false;
         for before in 0..self.table.vars() {
@@ -113,7 +138,7 @@ impl State {
             if !self.trail.value(variable).is_open() {
                 continue;
             }
-            if let Some(want) = self.first_denied(variable) {
+            if let Some(want) = self.denied_want(variable)? {
                 let reason = Reason::Asked { variable, want };
                 self.trail.assign(variable, false, Some(reason))?;
                 any = true;
@@ -125,7 +150,7 @@ impl State {
     /// The wants hold that hold from the start, and the variables are denied that ask for one without candidates. A
     /// want that can't be served is answered.
     pub fn open(&mut self) -> Result<Option<Reason>, NoMemory>
-        ensures { self.new.table ≡ self.old.table }
+        ensures { self.new.table.vars ≡ self.old.table.vars }
     {
         for place in 0..self.table.first().len() {
             let Some(want) = self.table.first().get(place).copied() else {
@@ -143,7 +168,7 @@ impl State {
     /// Goes back to level 0 and makes all that follows from single clauses, those of wants that open variables ask for
     /// among them. A clause that is false is answered.
     pub fn close(&mut self) -> Result<Option<Reason>, NoMemory>
-        ensures { self.new.table ≡ self.old.table }
+        ensures { self.new.table.vars ≡ self.old.table.vars }
     {
         self.back_to(0);
         // Each round but the last denies a variable.

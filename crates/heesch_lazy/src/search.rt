@@ -92,7 +92,7 @@ impl Search {
 
     /// The final line stands in the log.
     fn refute(&mut self, conflict: Reason) -> Result<Found, NoMemory>
-        ensures same { self.new ≡ self.old }
+        ensures same { self.new.vars ≡ self.old.vars }
         ensures found { IfOk result (IsFound self.old.vars) }
     {
         if !self.resolution.refute(&self.state, conflict)? {
@@ -105,7 +105,7 @@ impl Search {
 
     /// Without turns left: the final line, where one holds over the log.
     fn spend(&mut self) -> Result<Found, NoMemory>
-        ensures same { self.new ≡ self.old }
+        ensures same { self.new.vars ≡ self.old.vars }
         ensures found { IfOk result (IsFound self.old.vars) }
     {
         match self.state.close()? {
@@ -117,7 +117,7 @@ impl Search {
     /// The clause of the resolution is kept. Back at the least level at which one of its literals alone is open, that
     /// one is made true. Whether it is a clause is answered.
     fn assert_clause(&mut self, origin: Origin) -> Result<bool, NoMemory>
-        ensures { self.new ≡ self.old }
+        ensures { self.new.vars ≡ self.old.vars }
     {
         let clause = &self.resolution.clause;
         let latest = Latest::of(&self.state.trail, clause);
@@ -129,23 +129,32 @@ impl Search {
         self.state.assert_first(index, latest)
     }
 
+    /// The variable is denied by the want that it asks for, whose clause is kept. Whether it is a clause is answered.
+    fn deny_late(&mut self, variable: u32, want: u32) -> Result<bool, NoMemory>
+        ensures { self.new.vars ≡ self.old.vars }
+    {
+        self.resolution.copy_asked(&self.state, variable, want)?;
+        self.assert_clause(Origin::Copy { variable, want })
+    }
+
     /// Learns from a conflict above level 0. Whether it could is answered.
     fn learn(&mut self, conflict: Reason) -> Result<bool, NoMemory>
-        ensures { self.new ≡ self.old }
+        ensures { self.new.vars ≡ self.old.vars }
     {
         match self.resolution.learn(&self.state, conflict)? {
             Learnt::Nothing => Ok(false),
             Learnt::Line => self.assert_clause(Origin::Learnt),
-            Learnt::Late { variable, want } => {
-                self.resolution.copy_asked(&self.state, variable, want)?;
-                self.assert_clause(Origin::Copy { variable, want })
-            }
+            Learnt::Late { variable, want } => self.deny_late(variable, want),
+            Learnt::LateNear { variable } => match self.state.near(variable)? {
+                None => Ok(false),
+                Some(want) => self.deny_late(variable, want),
+            },
         }
     }
 
     /// Learns from a conflict, or ends.
     fn answer(&mut self, conflict: Reason, turns: u32) -> Result<Option<Found>, NoMemory>
-        ensures same { self.new ≡ self.old }
+        ensures same { self.new.vars ≡ self.old.vars }
         ensures found { IfOk result (λ found. IfSome found (IsFound self.old.vars)) }
     {
         if self.state.trail.level() == 0 {
@@ -164,7 +173,7 @@ impl Search {
 
     /// Propagates, and then learns from a conflict, decides, or ends.
     fn step(&mut self, turns: u32) -> Result<Option<Found>, NoMemory>
-        ensures same { self.new ≡ self.old }
+        ensures same { self.new.vars ≡ self.old.vars }
         ensures found { IfOk result (λ found. IfSome found (IsFound self.old.vars)) }
     {
         if let Some(conflict) = self.state.propagate()? {
@@ -183,7 +192,7 @@ impl Search {
     }
 
     fn run(&mut self, turns: u32) -> Result<Found, NoMemory>
-        ensures same { self.new ≡ self.old }
+        ensures same { self.new.vars ≡ self.old.vars }
         ensures found { IfOk result (IsFound self.old.vars) }
     {
         if self.last.is_some() {
@@ -209,7 +218,7 @@ impl Search {
     /// The cost is that of the search: for an assignment what it is visited for; for a decision the wants that hold;
     /// for a conflict the clauses that are resolved, and the assignments taken back.
     pub fn next(&mut self, turns: u32) -> Result<Found, NoMemory>
-        ensures same { self.new ≡ self.old }
+        ensures same { self.new.vars ≡ self.old.vars }
         ensures found { IfOk result (IsFound self.old.vars) }
     {
         if self.broken {
@@ -223,7 +232,7 @@ impl Search {
 
     /// The clause is a line. Whether it is a clause is answered.
     fn take(&mut self, clause: &[Lit]) -> Result<bool, NoMemory>
-        ensures { self.new ≡ self.old }
+        ensures { self.new.vars ≡ self.old.vars }
     {
         let latest = Latest::of(&self.state.trail, clause);
         let Some(index) = self.state.store.add(clause, Origin::Given, &[])? else {
@@ -254,7 +263,7 @@ impl Search {
     /// is the clause's length and the number of the assignments that go. After want of memory, or where the literals
     /// are no clause over the variables, the search gives up.
     pub fn give(&mut self, clause: &[Lit]) -> Result<(), NoMemory>
-        ensures { self.new ≡ self.old }
+        ensures { self.new.vars ≡ self.old.vars }
     {
         if self.broken {
             return Ok(());

@@ -97,7 +97,7 @@ impl State {
     /// The assignments above the level are gone, and the wants that hold since then hold no more. The cost is the
     /// number of these.
     pub fn back_to(&mut self, level: u32)
-        ensures { self.new.table ≡ self.old.table }
+        ensures { self.new.table.vars ≡ self.old.table.vars }
     {
         for _ in 0..self.trail.above(level) {
             if let Some(lit) = self.trail.undo() {
@@ -111,7 +111,7 @@ impl State {
 
     /// The two literals of the kept clause that were assigned last watch it.
     pub fn watch_latest(&mut self, index: u32, latest: Latest) -> Result<bool, NoMemory>
-        ensures { self.new.table ≡ self.old.table }
+        ensures { self.new.table.vars ≡ self.old.table.vars }
     {
         if let (Some(first), Some(second)) = (latest.first, latest.second) {
             self.store.watch(index, first.place, second.place)?;
@@ -122,7 +122,7 @@ impl State {
     /// The literal of the kept clause that was assigned last, which alone is open now, is made true. Whether there is
     /// one is answered.
     pub fn assert_first(&mut self, index: u32, latest: Latest) -> Result<bool, NoMemory>
-        ensures { self.new.table ≡ self.old.table }
+        ensures { self.new.table.vars ≡ self.old.table.vars }
     {
         self.watch_latest(index, latest)?;
         let Some(first) = latest.first else {

@@ -24,7 +24,7 @@ impl State {
     /// cost is that of the visits: for a chosen variable the holders of its cells and the wants that it asks for; for
     /// a denied one the wants that it watches, and the clauses.
     pub fn propagate(&mut self) -> Result<Option<Reason>, NoMemory>
-        ensures { self.new.table ≡ self.old.table }
+        ensures { self.new.table.vars ≡ self.old.table.vars }
     {
         // A variable is assigned once, so there are at most so many visits.
         for _ in 0..u64::from(self.table.vars()) + 1 {
@@ -40,7 +40,7 @@ impl State {
     }
 
     fn visit(&mut self, lit: PackedLit) -> Result<Option<Reason>, NoMemory>
-        ensures { self.new.table ≡ self.old.table }
+        ensures { self.new.table.vars ≡ self.old.table.vars }
     {
         let conflict = if lit.is_positive() {
             self.visit_chosen(lit.var())?
@@ -54,7 +54,7 @@ impl State {
     }
 
     fn visit_chosen(&mut self, tile: u32) -> Result<Option<Reason>, NoMemory>
-        ensures { self.new.table ≡ self.old.table }
+        ensures { self.new.table.vars ≡ self.old.table.vars }
     {
         for place in 0..self.table.cells(tile).len() {
             if let Some(other) = self.take_cell(tile, place)? {
@@ -67,13 +67,26 @@ impl State {
                 return Ok(conflict);
             }
         }
-        Ok(None)
+        match self.near(tile)? {
+            None => Ok(None),
+            Some(want) => self.begin(want, Owner::Variable(tile)),
+        }
+    }
+
+    /// The want of the variable for one of those in slots, if it asks for one. The cost of the first call for a
+    /// variable is the number of the slots.
+    pub fn near(&mut self, variable: u32) -> Result<Option<u32>, NoMemory>
+        ensures { self.new.table.vars ≡ self.old.table.vars }
+    {
+        let want = self.table.want_near(variable)?;
+        self.wants.make_room(self.table.wants(), self.table.lists())?;
+        Ok(want)
     }
 
     /// The tile has the cell at this place of its cells, so the other holders are denied. One that is chosen is
     /// answered.
     fn take_cell(&mut self, tile: u32, place: usize) -> Result<Option<u32>, NoMemory>
-        ensures { self.new.table ≡ self.old.table }
+        ensures { self.new.table.vars ≡ self.old.table.vars }
     {
         let Some(cell) = self.table.cells(tile).get(place).copied() else {
             return Ok(None);
@@ -84,7 +97,7 @@ impl State {
 
     /// The want at this place of those that the tile asks for holds.
     fn ask(&mut self, tile: u32, place: usize) -> Result<Option<Reason>, NoMemory>
-        ensures { self.new.table ≡ self.old.table }
+        ensures { self.new.table.vars ≡ self.old.table.vars }
     {
         match self.table.asked(tile).get(place).copied() {
             None => Ok(None),
@@ -95,7 +108,7 @@ impl State {
     /// The want holds since its owner does. Where it isn't served, two candidates that aren't denied watch it; a
     /// single one is chosen; and where there is none, the want is answered.
     pub fn begin(&mut self, want: u32, owner: Owner) -> Result<Option<Reason>, NoMemory>
-        ensures { self.new.table ≡ self.old.table }
+        ensures { self.new.table.vars ≡ self.old.table.vars }
     {
         if self.wants.owner(want) != Owner::Nobody || self.is_served(want) {
             return Ok(None);
@@ -129,7 +142,7 @@ impl State {
     }
 
     fn visit_denied(&mut self, variable: u32) -> Result<Option<Reason>, NoMemory>
-        ensures { self.new.table ≡ self.old.table }
+        ensures { self.new.table.vars ≡ self.old.table.vars }
     {
         let mut place = 0usize;
         for _ in 0..self.wants.watched_count(variable) {
@@ -146,7 +159,7 @@ impl State {
     }
 
     fn look_at_want(&mut self, want: u32, denied: u32) -> Result<Look, NoMemory>
-        ensures { self.new.table ≡ self.old.table }
+        ensures { self.new.table.vars ≡ self.old.table.vars }
     {
         let Some(other) = self.wants.watching(want).beside(denied) else {
             return Ok(Look::Leaves);
@@ -168,7 +181,7 @@ impl State {
 
     /// The literal of the variable, which is the only one that isn't false, is made true, where it is open.
     fn follow(&mut self, variable: u32, positive: bool, reason: Reason) -> Result<Look, NoMemory>
-        ensures { self.new.table ≡ self.old.table }
+        ensures { self.new.table.vars ≡ self.old.table.vars }
     {
         if !self.trail.value(variable).is_open() {
             return Ok(Look::IsFalse(reason));
@@ -178,7 +191,7 @@ impl State {
     }
 
     fn visit_clauses(&mut self, falsified: PackedLit) -> Result<Option<Reason>, NoMemory>
-        ensures { self.new.table ≡ self.old.table }
+        ensures { self.new.table.vars ≡ self.old.table.vars }
     {
         let mut place = 0usize;
         for _ in 0..self.store.watched_count(falsified) {
@@ -199,7 +212,7 @@ impl State {
     }
 
     fn look_at_clause(&mut self, index: u32, falsified: PackedLit) -> Result<Look, NoMemory>
-        ensures { self.new.table ≡ self.old.table }
+        ensures { self.new.table.vars ≡ self.old.table.vars }
     {
         let Some(pair) = self.store.pair(index) else {
             return Ok(Look::Leaves);

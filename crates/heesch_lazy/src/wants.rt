@@ -67,6 +67,19 @@ impl Wants {
         })
     }
 
+    /// There is room for so many wants and lists of members, and those that are new don't hold. The cost is how many
+    /// are new.
+    pub fn make_room(&mut self, wants: usize, lists: usize) -> Result<(), NoMemory> {
+        for _ in self.owners.len()..wants {
+            self.watching.push(Watching { one: 0, other: 0 })?;
+            self.owners.push(Owner::Nobody)?;
+        }
+        for _ in self.chosen.len()..lists {
+            self.chosen.push(0)?;
+        }
+        Ok(())
+    }
+
     /// Since when the want holds.
     pub fn owner(&self, want: u32) -> Owner {
         self.owners
