@@ -26,6 +26,9 @@ pub(crate) struct Contacts {
     /// By turn, how far the slots of the placements that touch lie behind the first slot of the place, in rising
     /// order; those before it by numbers that wrap.
     steps: Vec<Vec<u32>>,
+    /// By turn, how far the places of the cells around the tile lie behind that of its first cell, in cell order; those
+    /// before it by numbers that wrap.
+    rings: Vec<Vec<u32>>,
 }
 
 /// By turn, a variable whose tile has that turn, or 0.
@@ -187,6 +190,15 @@ fn wrapped(number: i64) -> u32 {
     u32::try_from(number.rem_euclid(1 << 32)).unwrap_or(0)
 }
 
+/// The numbers in 32 bits, where they may wrap.
+fn all_wrapped(alloc: Global, numbers: &[i64]) -> Result<Vec<u32>, NoMemory> {
+    let mut all = Vec::with_capacity(alloc, numbers.len())?;
+    for number in numbers {
+        all.push(wrapped(*number))?;
+    }
+    Ok(all)
+}
+
 /// The steps to the slots of the tiles that touch the tile: those that have a cell around it, and none of its own.
 fn steps_beside(
     alloc: Global,
@@ -213,6 +225,7 @@ impl Contacts {
             turns: G::TURNS,
             ranks: Vec::new(alloc),
             steps: Vec::new(alloc),
+            rings: Vec::new(alloc),
         };
         if plan.universe.level() >= 2 {
             let tiles = turned_tiles(alloc, plan, frame)?;
@@ -221,10 +234,11 @@ impl Contacts {
         Ok(contacts)
     }
 
-    /// Adds the ranks and the steps of these turned shapes.
+    /// Adds the ranks, the steps and the cells around of these turned shapes.
     fn add(&mut self, alloc: Global, tiles: &[TurnedTile]) -> Result<(), NoMemory> {
         for tile in tiles {
             self.ranks.push(rank_of(tiles, tile))?;
+            self.rings.push(all_wrapped(alloc, &tile.ring)?)?;
         }
         for tile in tiles {
             let steps = steps_beside(alloc, tile, tiles, &self.ranks, self.turns)?;
@@ -247,6 +261,14 @@ impl Contacts {
     pub fn slot(&self, place: u32, turn: u32) -> u32 {
         let rank = self.ranks.get(turn as usize).copied().unwrap_or(0);
         self.first_slot(place).wrapping_add(rank)
+    }
+
+    /// How far the places of the cells around a tile of this turn lie behind that of its first cell, in cell order.
+    pub fn ring(&self, turn: u32) -> &[u32] {
+        match self.rings.get(turn as usize) {
+            Some(ring) => ring,
+            None => &[],
+        }
     }
 
     /// By turn, how far the slots of the placements that touch one of this turn lie behind the first slot of its place,

@@ -6,8 +6,8 @@ ghost use Rattle.heesch_place.specs.Universes.{IsUniverseOf};
 use crate::contacts::Contacts;
 use crate::frame::Frame;
 use heesch_cover::{CoverTable, Slots, Start};
-use heesch_encode::{Plan, last_below, write_moved, write_ring};
-use heesch_grid::{Cell, Grid};
+use heesch_encode::{Plan, last_below, write_ring};
+use heesch_grid::Grid;
 use heesch_io::NoMemory;
 use heesch_place::Universe;
 use heesch_shape::Shape;
@@ -49,10 +49,11 @@ pub(crate) struct Draft {
     frame: Frame,
     /// By place, the number of the last want of the cell and one more, or 0.
     wanted: Vec<u32>,
+    /// By place, whether the shape has the cell.
+    inside: Vec<bool>,
     contacts: Contacts,
     /// A layer for each level but the last, with the variables of the level.
     slots: Slots,
-    ring: Vec<Cell>,
     asked: Vec<u32>,
     alloc: Global,
 }
@@ -79,6 +80,17 @@ fn want_at(
     Ok(want)
 }
 
+/// By place, whether the shape has the cell.
+fn marks_of<G: Grid>(alloc: Global, frame: Frame, shape: &Shape<G>) -> Result<Vec<bool>, NoMemory> {
+    let mut marks = vec![in alloc; false; frame.places as usize]?;
+    for c in shape.cells() {
+        if let Some(mark) = marks.get_mut(frame.place(*c) as usize) {
+            *mark = true;
+        }
+    }
+    Ok(marks)
+}
+
 impl Draft {
     /// The table, without wants yet.
     pub fn of(
@@ -96,7 +108,7 @@ impl Draft {
             wanted: vec![in alloc; 0; frame.places as usize]?,
             contacts,
             slots,
-            ring: Vec::new(alloc),
+            inside: Vec::new(alloc),
             asked: Vec::new(alloc),
             alloc,
         })
@@ -107,7 +119,9 @@ impl Draft {
         ensures { result ≡ self.table }
     {
         let Draft {
-            mut table, slots, ..
+            mut table,
+            slots,
+            ..
         } = self;
         table.set_slots(slots);
         table
@@ -118,24 +132,31 @@ impl Draft {
         requires { IsPlan G.geometry plan.now.universe.now plan.now.shape.now plan.now.level plan.now.rings.now }
         ensures { self.new.table.vars ≡ self.old.table.vars }
     {
-        write_ring(&mut self.ring, plan.shape)?;
+        let mut ring = Vec::new(self.alloc);
+        write_ring(&mut ring, plan.shape)?;
         let span = LevelSpan::of(plan.universe, 1);
-        for i in 0..self.ring.len() {
-            let place = self.frame.place(self.ring[i]);
-            let want = self.table.want_cell(place, span.last)?;
+        for c in &ring {
+            let want = self.table.want_cell(self.frame.place(*c), span.last)?;
             self.table.want_first(want)?;
         }
+        self.inside = marks_of(self.alloc, self.frame, plan.shape)?;
         Ok(())
     }
 
-    /// Asks for each cell of the ring that lies outside the shape.
-    fn ask_for_cells<G: Grid>(&mut self, shape: &Shape<G>, asking: Asking) -> Result<(), NoMemory>
+    /// Whether the shape has the cell at a place.
+    fn is_inside(&self, place: u32) -> bool {
+        self.inside.get(place as usize).copied().unwrap_or(false)
+    }
+
+    /// Asks for each cell around the variable's tile, which has this turn, that lies outside the shape.
+    fn ask_for_cells(&mut self, variable: u32, turn: u32, asking: Asking) -> Result<(), NoMemory>
         ensures { self.new.table.vars ≡ self.old.table.vars }
     {
-        for i in 0..self.ring.len() {
-            let c = self.ring[i];
-            if !shape.has(c) {
-                let place = self.frame.place(c);
+        let first = self.first_place(variable);
+        for i in 0..self.contacts.ring(turn).len() {
+            let step = self.contacts.ring(turn).get(i).copied().unwrap_or(0);
+            let place = first.wrapping_add(step);
+            if !self.is_inside(place) {
                 let want = want_at(&mut self.table, &mut self.wanted, place, asking)?;
                 self.asked.push(want)?;
             }
@@ -149,7 +170,11 @@ impl Draft {
     }
 
     /// Adds the layer of a level: each of its variables in the slot of its tile.
-    fn add_layer<G: Grid>(&mut self, universe: &Universe<G>, span: LevelSpan) -> Result<(), NoMemory>
+    fn add_layer<G: Grid>(
+        &mut self,
+        universe: &Universe<G>,
+        span: LevelSpan,
+    ) -> Result<(), NoMemory>
         requires { span.last ≤ length universe.now.vars }
         ensures { self.new.table.vars ≡ self.old.table.vars }
     {
@@ -165,15 +190,13 @@ impl Draft {
         self.slots.add_layer(layer)
     }
 
-    /// From where the steps of a variable of this level go, to those of the level below that touch it.
-    fn start<G: Grid>(&self, universe: &Universe<G>, variable: u32, level: u32) -> Option<Start>
-        requires { (1 ≤ variable) × (variable ≤ length universe.now.vars) }
-    {
+    /// From where the steps of a variable of this level and turn go, to those of the level below that touch it.
+    fn start(&self, variable: u32, turn: u32, level: u32) -> Option<Start> {
         let layer = level.checked_sub(2)?;
         Some(Start {
             layer,
             slot: self.contacts.first_slot(self.first_place(variable)),
-            kind: universe.placement_of(variable).iso().turn,
+            kind: turn,
         })
     }
 
@@ -188,13 +211,13 @@ impl Draft {
         requires number { (1 ≤ variable) × (variable ≤ length plan.now.universe.now.vars) }
         ensures { self.new.table.vars ≡ self.old.table.vars }
     {
-        write_moved(&mut self.ring, plan.rings, plan.universe, variable)?;
+        let turn = plan.universe.placement_of(variable).iso().turn;
         self.asked.clear();
         if asking.level < plan.level {
-            self.ask_for_cells(plan.shape, asking)?;
+            self.ask_for_cells(variable, turn, asking)?;
         }
         self.table.ask(&self.asked)?;
-        let start = self.start(plan.universe, variable, asking.level);
+        let start = self.start(variable, turn, asking.level);
         self.slots.start(start)
     }
 

@@ -79,7 +79,8 @@ impl State {
         ensures { self.new.table.vars ≡ self.old.table.vars }
     {
         let want = self.table.want_near(variable)?;
-        self.wants.make_room(self.table.wants(), self.table.lists())?;
+        self.wants
+            .make_room(self.table.wants(), self.table.lists())?;
         Ok(want)
     }
 
