@@ -15,8 +15,8 @@ fn count_later(table: &CellTable, first: u32) -> u32
     ensures few { result ≤ 4608 }
 {
     let mut count = 0;
-    for second in first + 1..table.count() + 1 {
-        if table.meets(first, second) {
+    for other in first + 1..table.count() + 1 {
+        if table.meets(first, other) {
             count += 1;
         }
     }
