@@ -59,19 +59,22 @@ marks_begun f words xs = marking_none words
 pub marks_whole : (f : ℕ → ℕ) (old new xs : List ℕ) (i : ℕ) → length xs ≤ i → Marking old new (map f (take i xs)) → Marking old new (map f xs)
 marks_whole f old new xs i l m = subst (λ ys. Marking old new (map f ys)) (take_all i xs l) m
 
+zero_one : (n : ℕ) → n ≡ 0 → n ≡ 1 → ⊥
+zero_one n a b = omega arith
+
 -- no bit is set where all words are 0
 none_set : (size n : ℕ) → ¬ IsMarked (replicate size 0) n
 none_set size n m =
     elim (cases_lt (n / 64) size) [
       | inl l ↦
           let zero_word : get_or (replicate size 0) (n / 64) 0 ≡ 0 = get_or-replicate size (n / 64) 0 0 l in
-          let none = ap (λ w. bit_at w (n % 64)) zero_word ∙ bit_at-zero (n % 64) in
-          omega (arith, m, none)
+          let none : bit_at (get_or (replicate size 0) (n / 64) 0) (n % 64) ≡ 0 = ap (λ (w : ℕ). bit_at w (n % 64)) zero_word ∙ bit_at-zero (n % 64) in
+          zero_one (bit_at (get_or (replicate size 0) (n / 64) 0) (n % 64)) none m
       | inr h ↦
           let long = length-replicate {A = ℕ} size 0 in
           let zero_word : get_or (replicate size 0) (n / 64) 0 ≡ 0 = get_or_past (replicate size 0) (n / 64) 0 (omega (arith, long, h)) in
-          let none = ap (λ w. bit_at w (n % 64)) zero_word ∙ bit_at-zero (n % 64) in
-          omega (arith, m, none)
+          let none : bit_at (get_or (replicate size 0) (n / 64) 0) (n % 64) ≡ 0 = ap (λ (w : ℕ). bit_at w (n % 64)) zero_word ∙ bit_at-zero (n % 64) in
+          zero_one (bit_at (get_or (replicate size 0) (n / 64) 0) (n % 64)) none m
     ]
 
 pub rows_begun : (lists : List (List ℕ)) (width size : ℕ) (words : List ℕ) → words ≡ replicate size 0 → AreRowsTo 0 lists width words
@@ -98,12 +101,19 @@ rows_more vars width count lists old new list inside numbers is rows m = record 
         let back : count ≡ cell = omega arith in
         let var : at + 1 - 1 ≡ at = omega arith in
         let inside_list : Contains list (at + 1) = subst (λ ys. Contains ys (at + 1)) (sym is) (subst (λ k. Contains (slice_index_or lists k []) (at + 1)) here has) in
-        subst (IsMarked new) (λ i. bit_number width (var i) (back i))
+        let same : bit_number width (at + 1 - 1) count ≡ bit_number width at cell = λ i. bit_number width (var i) (back i) in
+        subst (IsMarked new) same
         (m.all (bit_number width (at + 1 - 1) count) (member_map (λ v. bit_number width (v - 1) count) list (at + 1) inside_list))
   ];
 }
 
 -- ---- two rows
+
+both_set : (m p q : ℕ) → m ≡ min p q → m ≡ 1 → p < 2 → q < 2 → (p ≡ 1) × (q ≡ 1)
+both_set m p q is one a b = (omega arith, omega arith)
+
+not_both : (m p q : ℕ) → m ≡ min p q → m ≡ 0 → p ≡ 1 → q ≡ 1 → ⊥
+not_both m p q is none a b = omega arith
 
 module _ (words : List ℕ) (width at other : ℕ) where
   -- where a bit stands
@@ -114,13 +124,16 @@ module _ (words : List ℕ) (width at other : ℕ) where
   place_of row k cell low high = omega arith
 
   marked_at : (row k cell : ℕ) → 64 * k ≤ cell → cell < 64 * (k + 1) → IsMarked words (64 * row + cell) → bit_at (get_or words (row + k) 0) (cell - 64 * k) ≡ 1
-  marked_at row k cell low high m = sym (λ i. bit_at (get_or words (word_of row k cell low high i) 0) (place_of row k cell low high i)) ∙ m
+  marked_at row k cell low high m =
+      let same : bit_at (get_or words ((64 * row + cell) / 64) 0) ((64 * row + cell) % 64) ≡ bit_at (get_or words (row + k) 0) (cell - 64 * k) = λ i. bit_at (get_or words (word_of row k cell low high i) 0) (place_of row k cell low high i) in
+      sym same ∙ m
 
   at_marked : (row k t : ℕ) → t < 64 → bit_at (get_or words (row + k) 0) t ≡ 1 → IsMarked words (64 * row + (64 * k + t))
   at_marked row k t l e =
       let word : (64 * row + (64 * k + t)) / 64 ≡ row + k = omega arith in
       let place : (64 * row + (64 * k + t)) % 64 ≡ t = omega arith in
-      (λ i. bit_at (get_or words (word i) 0) (place i)) ∙ e
+      let same : bit_at (get_or words ((64 * row + (64 * k + t)) / 64) 0) ((64 * row + (64 * k + t)) % 64) ≡ bit_at (get_or words (row + k) 0) t = λ i. bit_at (get_or words (word i) 0) (place i) in
+      same ∙ e
 
   abbrev pub NoneBefore : ℕ → Type 0
   NoneBefore k = (cell : ℕ) → cell < 64 * k → IsMarked words (bit_number width at cell) → IsMarked words (bit_number width other cell) → ⊥
@@ -134,8 +147,8 @@ module _ (words : List ℕ) (width at other : ℕ) where
             let a = marked_at (at * width) k cell low l m in
             let b = marked_at (other * width) k cell low l n in
             let both = bit_at_and (get_or words (at * width + k) 0) (get_or words (other * width + k) 0) (cell - 64 * k) in
-            let zero_bit = ap (λ w. bit_at w (cell - 64 * k)) none ∙ bit_at-zero (cell - 64 * k) in
-            omega (arith, a, b, both, zero_bit)
+            let zero_bit = ap (λ (w : ℕ). bit_at w (cell - 64 * k)) none ∙ bit_at-zero (cell - 64 * k) in
+            not_both _ _ _ both zero_bit a b
       ]
 
   -- a word with a bit in common
@@ -147,15 +160,13 @@ module _ (words : List ℕ) (width at other : ℕ) where
       let place = bit_at-trailing_zeros w64 (bit_and a b) (omega (arith, some)) (omega (arith, small, fits)) in
       let t : ℕ = trailing_zeros w64 (bit_and a b) in
       let both = bit_at_and a b t in
-      let in_a = bit_at-lt a t in
-      let in_b = bit_at-lt b t in
+      let bits = both_set _ _ _ both place.1 (bit_at-lt a t) (bit_at-lt b t) in
       let below : t < 64 = place.0 in
-      let set = place.1 in
       record {
         cell = 64 * k + t;
         inside = omega arith;
-        first = at_marked (at * width) k t below (omega arith);
-        second = at_marked (other * width) k t below (omega arith);
+        first = at_marked (at * width) k t below bits.0;
+        second = at_marked (other * width) k t below bits.1;
       }
 
   -- no word with one

@@ -1,9 +1,12 @@
 -- The lists of the reduced cells, and by these which variables share a cell.
-use Rattle.std.proofs.Common.{◌≡◌, sym, ap, subst, ◌∙◌, ℕ, ◌+◌, ◌-◌, ◌*◌, ◌<◌, ◌≤◌, List, [], map, filter, length, get_or, Bool, true, false, refl, inl, inr, arith, All, Contains, true≢false, eqb-true, eq-eqb}
+use Rattle.std.proofs.Common.{◌≡◌, sym, ap, subst, ◌∙◌, ℕ, ◌+◌, ◌-◌, ◌*◌, ◌<◌, ◌≤◌, List, [], ◌∷◌, ◌++◌, map, filter, length, get_or, Bool, true, false, refl, inl, inr, arith, All, Contains, true≢false, eqb-true, eq-eqb}
 use Rattle.std.specs.Prelude.{◌==◌, ◌↔◌, IsTrue, slice_index_or}
 use Rattle.std.specs.List.{list_any, range_with_len}
 use Rattle.std.proofs.lemmas.Bool.{cases_Bool}
-use Rattle.std.proofs.lemmas.List.{get_or_default}
+use Rattle.std.proofs.lemmas.List.{get_or_default, length-map, length-append}
+use Rattle.std.proofs.lemmas.List.Sums.{length-filter, count_by-le-length}
+use Rattle.std.proofs.lemmas.List.FromFn.{length-range_with_len}
+use Rattle.std.proofs.Math.Seq.{get_or-append_seam}
 use Rattle.std.proofs.lemmas.List.Elements.{All-contains, Contains-get_or}
 use Rattle.heesch_grid.specs.declared.Cell.{Cell}
 use Rattle.heesch_grid.specs.Cells.{has, meet, set_of, same_cell}
@@ -14,11 +17,11 @@ use Rattle.heesch_grid.proofs.CellFacts.{has-is}
 use Rattle.heesch_grid.proofs.ListFacts.{All-from_members, any_member, member_any, filter_member}
 use Rattle.heesch_grid.proofs.WindowFacts.{map_member, member_map}
 use Rattle.heesch_tiling.specs.Counting.{window_size, in_window}
-use Rattle.heesch_torus.specs.Covering.{having, AreCovering, AreNumbers, cell_lists}
+use Rattle.heesch_torus.specs.Covering.{having, AreCovering, AreNumbers, lists_before, cell_lists}
 use Rattle.heesch_torus.specs.Formula.{reduced_cells}
 use Rattle.heesch_torus.specs.Variables.{IsReducedSet, AreReducedSets}
 use Rattle.heesch_torus.proofs.Excluding.{listed}
-use Rattle.heesch_torus.proofs.Numbering.{covering_numbers, below_count, reduced_listed}
+use Rattle.heesch_torus.proofs.Numbering.{covering_numbers, below_count, reduced_listed, list_more, list_none}
 use Rattle.heesch_encode.specs.Marks.{IsMarked}
 use Rattle.heesch_tori.specs.Rows.{bit_number, HaveCommonBit, AreRows}
 use Rattle.heesch_tori.specs.Shared.{IsVariable, HaveBoth, AreCellLists, AreReducedLists}
@@ -128,3 +131,31 @@ module _ (sets : List (List Cell)) (lists : List (List ℕ)) (width : ℕ) (word
       | inr n ↦ n ∙ sym f
     ]
   ]
+
+-- ---- how many lists there are
+
+pub cells_few : (g : Geometry) (t : Triple) (lists : List (List ℕ)) → length (cell_lists g t lists) ≤ length lists
+cells_few g t lists =
+    let named = length-map (filter (λ k. g.is_cell (in_window g t k)) (range_with_len 0 (length lists))) (λ (k : ℕ). slice_index_or lists k []) in
+    let kept = length-filter (λ k. g.is_cell (in_window g t k)) (range_with_len 0 (length lists)) in
+    let few = count_by-le-length (λ k. g.is_cell (in_window g t k)) (range_with_len 0 (length lists)) in
+    let long = length-range_with_len 0 (length lists) in
+    omega (arith, named, kept, few, long)
+
+-- ---- the lists of cells, one pair of the window more
+
+module _ (g : Geometry) (t : Triple) (all taken rest : List (List ℕ)) (k : ℕ) (list : List ℕ) (whole : taken ++ list ∷ rest ≡ all) (place : k ≡ length taken) where
+  list_there : slice_index_or all k [] ≡ list
+  list_there = (λ i. slice_index_or (sym whole i) (place i) []) ∙ get_or-append_seam taken list rest []
+
+  pub cell_more : (old new : List (List ℕ)) → g.is_cell (in_window g t k) ≡ true → old ≡ lists_before g t all k → new ≡ old ++ list ∷ [] → new ≡ lists_before g t all (k + 1)
+  cell_more old new cell was is = is ∙ (λ i. was i ++ sym list_there i ∷ []) ∙ sym (list_more g t all k cell)
+
+  pub cell_none : (old : List (List ℕ)) → g.is_cell (in_window g t k) ≡ false → old ≡ lists_before g t all k → old ≡ lists_before g t all (k + 1)
+  cell_none old none was = was ∙ sym (list_none g t all k none)
+
+  pub place_more : k + 1 ≡ length (taken ++ list ∷ [])
+  place_more = let long = length-append taken (list ∷ []) in omega arith
+
+  pub place_in : k < length all
+  place_in = let long = ap length whole in let both = length-append taken (list ∷ rest) in omega arith

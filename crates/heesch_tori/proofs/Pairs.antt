@@ -1,8 +1,8 @@
 -- The clauses of pairs of variables that share a cell: by number, their form, and when a clause contains one.
-use Rattle.std.proofs.Common.{◌≡◌, sym, ap, subst, ◌∙◌, ℕ, ◌+◌, ◌-◌, ◌*◌, ◌<◌, ◌≤◌, List, [], ◌∷◌, map, filter, length, get_or, Bool, true, false, refl, ◌||◌, arith, All, Contains, ◌&&◌, ltb-true, lt-ltb}
+use Rattle.std.proofs.Common.{◌≡◌, sym, ap, subst, ◌∙◌, ℕ, ◌+◌, ◌-◌, ◌*◌, ◌<◌, ◌≤◌, List, [], ◌∷◌, map, filter, length, get_or, Bool, true, false, refl, ◌||◌, inl, inr, arith, All, Contains, ◌&&◌, ltb-true, lt-ltb}
 use Rattle.std.specs.Prelude.{nat_lt, sum, flat_map}
 use Rattle.std.specs.List.{enumerate_from}
-use Rattle.std.proofs.lemmas.Bool.{and_parts, and_from}
+use Rattle.std.proofs.lemmas.Bool.{and_parts, and_from, cases_lt}
 use Rattle.std.proofs.lemmas.List.{length-map, get_or-map, get_or_default}
 use Rattle.std.proofs.lemmas.List.Elements.{All-contains, All-cons, All-nil, Contains-get_or}
 use Rattle.std.proofs.lemmas.List.FromFn.{length-enumerate_from}
@@ -136,14 +136,27 @@ module _ (sets : List (List Cell)) where
     apart_new none = All-from_members (λ e. ¬ IsWithin e clause) (exclusion_clauses literals meet sets) (λ e m within.
         let p = pair_member e m in
         let both : IsWithin (pair_clause p.first p.second) clause = subst (λ (q : List Lit). IsWithin q clause) p.is within in
-        none (literals.minus p.first) (both 0 (literals.minus 0) (omega arith)) refl (record { other = p.second; inside = both 1 (literals.minus 0) (omega arith); later = p.later; meets = p.meets }))
+        none (literals.minus p.first) (both 0 (literals.minus 0) (omega arith)) refl (record { other = literals.minus p.second; inside = both 1 (literals.minus 0) (omega arith); met = record { negative = refl; later = p.later; meets = p.meets } }))
 
     pub meeting_old : (form : IsClause (length sets) clause) (l : Lit) → Contains clause l → l.positive ≡ false → MeetsOneOf sets l.var clause → ¬ IsNew (exclusion_clauses literals meet sets) clause
     meeting_old form l inside negative h new =
         let range = λ (k : Lit) (m : Contains clause k). All-contains (λ (k : Lit). (1 ≤ k.var) × (k.var ≤ length sets)) clause k form.in_range m in
         let low = (range l inside).0 in
-        let high = (range (literals.minus h.other) h.inside).1 in
+        let high = (range h.other h.inside).1 in
         let is : l ≡ literals.minus l.var = ap (λ (b : Bool). record l { positive = b }) negative in
-        All-contains (λ e. ¬ IsWithin e clause) (exclusion_clauses literals meet sets) (pair_clause l.var h.other) new
-        (member_pair (pair_clause l.var h.other) (record { first = l.var; second = h.other; some = low; later = h.later; last = high; meets = h.meets; is = refl }))
-        (All-cons (Contains clause) (literals.minus l.var) (literals.minus h.other ∷ []) (subst (Contains clause) is inside) (All-cons (Contains clause) (literals.minus h.other) [] h.inside (All-nil (Contains clause))))
+        let other_is : h.other ≡ literals.minus h.other.var = ap (λ (b : Bool). record h.other { positive = b }) h.met.negative in
+        All-contains (λ e. ¬ IsWithin e clause) (exclusion_clauses literals meet sets) (pair_clause l.var h.other.var) new
+        (member_pair (pair_clause l.var h.other.var) (record { first = l.var; second = h.other.var; some = low; later = h.met.later; last = high; meets = h.met.meets; is = refl }))
+        (All-cons (Contains clause) (literals.minus l.var) (literals.minus h.other.var ∷ []) (subst (Contains clause) is inside) (All-cons (Contains clause) (literals.minus h.other.var) [] (subst (Contains clause) other_is h.inside) (All-nil (Contains clause))))
+
+-- what holds of no element before a place, and not of that at it
+pub none_to : (P : Lit → Type 0) (xs : List Lit) (i : ℕ) (e : Lit) → i < length xs → ((k : ℕ) (d : Lit) → k < i → ¬ P (get_or xs k d)) → ¬ P (get_or xs i e) → (k : ℕ) (d : Lit) → k < i + 1 → ¬ P (get_or xs k d)
+none_to P xs i e l before here k d m =
+    elim (cases_lt k i) [
+      | inl less ↦ before k d less
+      | inr at ↦ let same : i ≡ k = omega arith in subst (λ y. ¬ P y) (get_or_default xs i e d l ∙ ap (λ n. get_or xs n d) same) here
+    ]
+
+-- and of no element at all
+pub none_in : (P : Lit → Type 0) (xs : List Lit) (i : ℕ) → length xs ≤ i → ((k : ℕ) (d : Lit) → k < i → ¬ P (get_or xs k d)) → (x : Lit) → Contains xs x → ¬ P x
+none_in P xs i l none x (k, less, e) = subst (λ y. ¬ P y) e (none k x (omega arith))

@@ -1,13 +1,15 @@
 -- The later variables that share a cell with one, counted one after another.
-use Rattle.std.proofs.Common.{◌≡◌, refl, sym, ap, ◌∙◌, ℕ, zero, suc, ◌+◌, ◌-◌, ◌<◌, ◌≤◌, List, [], ◌∷◌, map, filter, length, get_or, take, Bool, true, false, cond, ◌&&◌, inl, inr, arith, lt-ltb, ltb-true}
-use Rattle.std.specs.Prelude.{nat_lt}
+use Rattle.std.proofs.Common.{◌≡◌, refl, sym, ap, ◌∙◌, ℕ, zero, suc, ◌+◌, ◌-◌, ◌<◌, ◌≤◌, List, [], ◌∷◌, ◌++◌, map, filter, length, get_or, take, Bool, true, false, cond, ◌&&◌, inl, inr, arith, lt-ltb, ltb-true}
+use Rattle.std.specs.Prelude.{nat_lt, sum}
 use Rattle.std.specs.List.{enumerate_from}
 use Rattle.std.proofs.lemmas.Bool.{cases_Bool}
+use Rattle.std.proofs.lemmas.List.{map_more, take_all}
+use Rattle.std.proofs.lemmas.List.Sums.{sum_by_push}
 use Rattle.std.proofs.lemmas.List.FromFn.{length-enumerate_from, get_or-enumerate_from}
 use Rattle.heesch_grid.specs.declared.Cell.{Cell}
 use Rattle.heesch_grid.specs.Cells.{meet, set_of}
 use Rattle.heesch_numbers.proofs.Passing.{kept_at, count_kept, count_passed, count_whole}
-use Rattle.heesch_tori.specs.Later.{later_of, variable_at}
+use Rattle.heesch_tori.specs.Later.{later_of, later_counts, variable_at}
 
 abbrev pub Entry : Type 0
 Entry = ℕ × List Cell
@@ -78,3 +80,19 @@ module _ (sets : List (List Cell)) where
     -- all of them
     pub all_passed : (v : ℕ) → length sets < v → passed_to v ≡ length (later_of sets (variable_at sets u))
     all_passed v l = let long = length-enumerate_from 1 sets in count_whole is_later (enumerate_from 1 sets) (v - 1) (omega arith)
+
+-- ---- the counts, one variable more
+
+pub counts_more : (sets : List (List Cell)) (i n : ℕ) (old new : List ℕ) → i < length sets → new ≡ old ++ n ∷ [] → n ≡ length (later_of sets (variable_at sets (i + 1))) → old ≡ map (λ u. length (later_of sets u)) (take i (enumerate_from 1 sets)) → new ≡ map (λ u. length (later_of sets u)) (take (i + 1) (enumerate_from 1 sets))
+counts_more sets i n old new l is count was =
+    let long = length-enumerate_from 1 sets in
+    let here : length (later_of sets (get_or (enumerate_from 1 sets) i no_entry)) ≡ n = ap (λ (u : Entry). length (later_of sets u)) (entry_is sets i l) ∙ sym count in
+    is ∙ (λ k. was k ++ sym here k ∷ []) ∙ sym (map_more (λ u. length (later_of sets u)) (enumerate_from 1 sets) i no_entry (omega arith))
+
+pub counts_whole : (sets : List (List Cell)) (i : ℕ) (counts : List ℕ) → length sets ≤ i → counts ≡ map (λ u. length (later_of sets u)) (take i (enumerate_from 1 sets)) → counts ≡ later_counts sets
+counts_whole sets i counts l is =
+    let long = length-enumerate_from 1 sets in
+    is ∙ ap (map (λ u. length (later_of sets u))) (take_all i (enumerate_from 1 sets) (omega arith))
+
+pub sum_more : (old new : List ℕ) (n : ℕ) → new ≡ old ++ n ∷ [] → sum new ≡ sum old + n
+sum_more old new n is = ap sum is ∙ sum_by_push (λ (k : ℕ). k) old n

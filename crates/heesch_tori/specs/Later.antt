@@ -1,9 +1,8 @@
 -- The pairs of variables that share a cell, by the first of the two.
-use Rattle.std.specs.Prelude.{◌≡◌, ℕ, ◌<◌, ◌≤◌, ◌^◌, ◌+◌, ◌&&◌, true, nat_lt, List, map, filter, length, Contains}
+use Rattle.std.specs.Prelude.{◌≡◌, ℕ, ◌<◌, ◌&&◌, true, false, nat_lt, List, map, filter, length, Contains}
 use Rattle.std.specs.List.{enumerate_from}
 use Rattle.heesch_grid.specs.declared.Cell.{Cell}
 use Rattle.heesch_grid.specs.Cells.{meet, set_of}
-use Rattle.heesch_cert.specs.Literals.{literals}
 use Rattle.heesch_cnf.specs.declared.literal.Lit.{Lit}
 
 -- the variables with a greater number that share a cell with this one; each is given with its number
@@ -18,9 +17,18 @@ variable_at sets n = (n, set_of sets n)
 abbrev pub later_counts : List (List Cell) → List ℕ
 later_counts sets = map (λ u. length (later_of sets u)) (enumerate_from 1 sets)
 
--- the clause has the negation of a variable with a greater number that shares a cell with this one
+-- the literal is the negation of a variable with a greater number that shares a cell with this one
+pub record IsMet (sets : List (List Cell)) (u : ℕ) (l : Lit) : Type 0 where
+  pub negative : l.positive ≡ false
+  pub later : u < l.var
+  pub meets : meet (set_of sets u) (set_of sets l.var) ≡ true
+
+-- the clause has such a literal
 pub record MeetsOneOf (sets : List (List Cell)) (u : ℕ) (clause : List Lit) : Type 0 where
-  pub other : ℕ
-  pub inside : Contains clause (literals.minus other)
-  pub later : u < other
-  pub meets : meet (set_of sets u) (set_of sets other) ≡ true
+  pub other : Lit
+  pub inside : Contains clause other
+  pub met : IsMet sets u other
+
+-- the literal is the negation of a variable, and the clause has that of a later one that shares a cell with it
+abbrev pub IsOneOfTwo : List (List Cell) → Lit → List Lit → Type 0
+IsOneOfTwo sets l clause = (l.positive ≡ false) × MeetsOneOf sets l.var clause

@@ -7,7 +7,7 @@ ghost use Rattle.heesch_encode.specs.Literals.{plus_all};
 ghost use Rattle.heesch_grid.specs.Cells.{meet};
 ghost use Rattle.heesch_grid.specs.CoronaFormula.{exclusion_clauses};
 ghost use Rattle.heesch_numbers.specs.Common.{AllRemain};
-ghost use Rattle.heesch_tori.specs.Later.{MeetsOneOf};
+ghost use Rattle.heesch_tori.specs.Later.{IsMet, MeetsOneOf, IsOneOfTwo};
 ghost use Rattle.heesch_tori.specs.Shared.{IsVariable, tabled_sets};
 
 use crate::table::CellTable;
@@ -29,18 +29,46 @@ pub(crate) fn lists_remain(lists: &[Seq<u32>], values: &[Option<bool>]) -> bool
     true
 }
 
-/// Whether the clause has the negation of a later variable that shares a cell with this one.
+/// Whether the literal is the negation of a later variable that shares a cell with this one.
+fn is_met(table: &CellTable, first: u32, lit: Lit) -> bool
+    requires first { IsVariable (length table.now.variables) first }
+    requires variable { IsVariable (length table.now.variables) lit.var }
+    ensures { IsTrue result ↔ IsMet (tabled_sets table.now) first lit }
+{
+    if lit.positive {
+        return false;
+    }
+    if lit.var <= first {
+        return false;
+    }
+    table.meets(first, lit.var)
+}
+
+/// Whether the clause has such a literal.
 fn meets_one_of(table: &CellTable, first: u32, clause: &[Lit]) -> bool
     requires first { IsVariable (length table.now.variables) first }
     requires form { IsClause (length table.now.variables) clause.now }
     ensures { IsTrue result ↔ MeetsOneOf (tabled_sets table.now) first clause.now }
 {
     for lit in clause {
-        if !lit.positive && first < lit.var && table.meets(first, lit.var) {
+        if is_met(table, first, *lit) {
             return true;
         }
     }
     false
+}
+
+/// Whether the literal is the negation of a variable, and the clause has that of a later one that shares a cell with
+/// it.
+fn meets_within(table: &CellTable, lit: Lit, clause: &[Lit]) -> bool
+    requires variable { IsVariable (length table.now.variables) lit.var }
+    requires form { IsClause (length table.now.variables) clause.now }
+    ensures { IsTrue result ↔ IsOneOfTwo (tabled_sets table.now) lit clause.now }
+{
+    if lit.positive {
+        return false;
+    }
+    meets_one_of(table, lit.var, clause)
 }
 
 /// Whether no two variables that the clause has negated share a cell. A look at each two of them.
@@ -49,7 +77,7 @@ pub(crate) fn are_apart(table: &CellTable, clause: &[Lit]) -> bool
     ensures { IsTrue result ↔ IsNew (exclusion_clauses literals meet (tabled_sets table.now)) clause.now }
 {
     for lit in clause {
-        if !lit.positive && meets_one_of(table, lit.var, clause) {
+        if meets_within(table, *lit, clause) {
             return false;
         }
     }

@@ -81,6 +81,7 @@ impl CellTable {
     pub fn count(&self) -> u32
         ensures count { result ≡ length self.now.variables }
         ensures few { result ≤ 4608 }
+        ensures lists { AreCellLists (tabled_sets self.now) self.now.lists }
     {
         self.variables.len() as u32
     }

@@ -50,6 +50,16 @@ fn values_of(
     Ok(values)
 }
 
+/// Whether both answers say the same.
+fn is_same(left: Left, other: Left) -> bool {
+    match (left, other) {
+        (Left::Nothing, Left::Nothing) => true,
+        (Left::One(lit), Left::One(same)) => lit == same,
+        (Left::More, Left::More) => true,
+        (_, _) => false,
+    }
+}
+
 /// Whether the same is left of each so many-th clause of both, under these values.
 fn are_alike<C: ClauseSource, D: ClauseSource>(
     first: &C,
@@ -59,8 +69,7 @@ fn are_alike<C: ClauseSource, D: ClauseSource>(
 ) -> bool {
     let mut number = 1;
     while number as usize <= first.count() {
-        let (left, other) = (first.left(number, values), second.left(number, values));
-        if left != other {
+        if !is_same(first.left(number, values), second.left(number, values)) {
             return false;
         }
         number += step;
