@@ -1,6 +1,6 @@
 -- The clauses of a source: those of the lists, and then those of the pairs.
 use Rattle.std.proofs.Common.{◌≡◌, refl, sym, ap, subst, ◌∙◌, ℕ, ◌+◌, ◌-◌, ◌*◌, ◌<◌, ◌≤◌, List, [], ◌∷◌, ◌++◌, map, length, get_or, take, arith, All}
-use Rattle.std.specs.Prelude.{sum}
+use Rattle.std.specs.Prelude.{sum, nat_lt}
 use Rattle.std.proofs.lemmas.List.{length-map, length-append, get_or-map}
 use Rattle.std.proofs.lemmas.List.Elements.{All-append, All-contains}
 use Rattle.heesch_cnf.specs.declared.literal.Lit.{Lit}
@@ -31,17 +31,13 @@ use Rattle.heesch_torus.specs.Variables.{TorusVariable, sets_of, AreVariables}
 use Rattle.heesch_torus.proofs.Formulas.{formula_over}
 use Rattle.heesch_torus.proofs.Numbering.{list_clauses, numbers_clause, rising_map}
 use Rattle.heesch_tori.specs.Later.{later_counts}
-use Rattle.heesch_tori.specs.Shared.{AreReducedLists}
+use Rattle.heesch_tori.specs.Shared.{AreCellLists, AreReducedLists}
 use Rattle.heesch_tori.specs.Toured.{tour_clauses}
 use Rattle.heesch_tori.proofs.Pairs.{pairs_form, pairs_counted}
 
--- the literals of a list rise
-list_rising : (vars : ℕ) (list : List ℕ) → AreNumbers vars list → IsRising lit_before (plus_all list)
-list_rising vars list numbers = rising_map literals.plus lit_before list numbers.rising
-
--- a cell's clause, by the list of the variables that have it
-pub list_left : (values : Values) (vars : ℕ) (list : List ℕ) (left : Left) → AreNumbers vars list → IsSeen values ([] ++ plus_all list) left → IsLeft values (plus_all list) left
-list_left values vars list left numbers h = seen_left values (plus_all list) (plus_all list) (list_rising vars list numbers) (λ l m. m) (λ l m. m) left h
+-- what is left of a cell's clause, by the list of the variables that have it
+pub list_left : (values : Values) (list : List ℕ) (left : Left) → IsRising nat_lt list → IsSeen values ([] ++ plus_all list) left → IsLeft values (plus_all list) left
+list_left values list left rising h = seen_left values (plus_all list) (plus_all list) (rising_map literals.plus lit_before list rising) (λ l m. m) (λ l m. m) left h
 
 module _ (sets : List (List Cell)) (lists : List (List ℕ)) where
   pub tour_is : tour_clauses sets lists ≡ map plus_all lists ++ exclusion_clauses literals meet sets
@@ -55,6 +51,15 @@ module _ (sets : List (List Cell)) (lists : List (List ℕ)) where
 
   pub tour_form : All (AreNumbers (length sets)) lists → AreClauses (length sets) (tour_clauses sets lists)
   tour_form numbers = subst (AreClauses (length sets)) (sym tour_is) (All-append (IsClause (length sets)) (map plus_all lists) (exclusion_clauses literals meet sets) (lists_form numbers) (pairs_form sets))
+
+  -- the variables of the lists have places in the values
+  pub lists_room : (n : ℕ) → length sets < n → All (AreNumbers (length sets)) lists → All (All (λ v. v < n)) lists
+  lists_room n l numbers i d less =
+      let r = (numbers i d less).in_range in
+      λ k e m. let high = (r k e m).1 in omega arith
+
+  pub lists_rising : All (AreNumbers (length sets)) lists → All (IsRising nat_lt) lists
+  lists_rising numbers i d less = (numbers i d less).rising
 
   pub tour_length : (later : List ℕ) → later ≡ later_counts sets → length (tour_clauses sets lists) ≡ length lists + sum later
   tour_length later counts =
@@ -94,3 +99,9 @@ pub tour_formula : (g : Geometry) → IsGrid g → (shape : List Cell) (t : Trip
 tour_formula g law shape t triple vars are lists reduced =
     formula_over g law shape t triple vars are (length vars) (tour_clauses (sets_of vars) lists) refl
     (tour_is (sets_of vars) lists ∙ ap (λ cs. cs ++ exclusion_clauses literals meet (sets_of vars)) (ap (map plus_all) reduced.is ∙ list_clauses g t (sets_of vars) reduced.covering reduced.are_covering))
+
+pub sets_many : (vars : List TorusVariable) → length (sets_of vars) ≡ length vars
+sets_many vars = length-map vars (λ (x : TorusVariable). x.cells)
+
+pub tour_form_of : (vars : List TorusVariable) (lists : List (List ℕ)) → AreCellLists (sets_of vars) lists → AreClauses (length vars) (tour_clauses (sets_of vars) lists)
+tour_form_of vars lists are = subst (λ n. AreClauses n (tour_clauses (sets_of vars) lists)) (sets_many vars) (tour_form (sets_of vars) lists are.numbers)

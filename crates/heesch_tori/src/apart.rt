@@ -1,11 +1,12 @@
 //! Whether a clause contains none of the clauses of a torus formula.
-ghost use Rattle.std.specs.Prelude.{◌≡◌, ◌<◌, ◌≤◌, ◌↔◌, map, length, All, IsTrue, MatchBool};
+ghost use Rattle.std.specs.Prelude.{◌≡◌, ◌<◌, ◌≤◌, ◌↔◌, map, length, All, IsTrue, MatchBool, nat_lt};
 ghost use Rattle.heesch_cert.specs.Literals.{literals};
 ghost use Rattle.heesch_cnf.specs.Clauses.{IsClause, IsNew};
 ghost use Rattle.heesch_cnf.specs.Literals.{held};
 ghost use Rattle.heesch_encode.specs.Literals.{plus_all};
 ghost use Rattle.heesch_grid.specs.Cells.{meet};
 ghost use Rattle.heesch_grid.specs.CoronaFormula.{exclusion_clauses};
+ghost use Rattle.heesch_grid.specs.Listing.{IsRising};
 ghost use Rattle.heesch_numbers.specs.Common.{AllRemain};
 ghost use Rattle.heesch_tori.specs.Later.{IsMet, MeetsOneOf, IsOneOfTwo};
 ghost use Rattle.heesch_tori.specs.Shared.{IsVariable, tabled_sets};
@@ -17,7 +18,8 @@ use heesch_numbers::{left_with_all, remains};
 
 /// Whether each list has a variable that isn't false.
 pub(crate) fn lists_remain(lists: &[Seq<u32>], values: &[Option<bool>]) -> bool
-    requires { All (All (λ n. n < length values.now)) lists.now }
+    requires rising { All (IsRising nat_lt) lists.now }
+    requires room { All (All (λ n. n < length values.now)) lists.now }
     ensures { MatchBool result (AllRemain (held values.now) (map plus_all lists.now))
         (¬ AllRemain (held values.now) (map plus_all lists.now)) }
 {

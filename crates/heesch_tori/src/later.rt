@@ -14,8 +14,9 @@ fn count_later(table: &CellTable, first: u32) -> u32
     ensures count { result ≡ length (later_of (tabled_sets table.now) (variable_at (tabled_sets table.now) first)) }
     ensures few { result ≤ 4608 }
 {
+    let last = table.count();
     let mut count = 0;
-    for other in first + 1..table.count() + 1 {
+    for other in first + 1..last + 1 {
         if table.meets(first, other) {
             count += 1;
         }
@@ -46,8 +47,9 @@ pub(crate) fn later_at(table: &CellTable, first: u32, place: u32) -> u32
     ensures at { slice_index_or (later_of (tabled_sets table.now) (variable_at (tabled_sets table.now) first)) place
         (0, []) ≡ variable_at (tabled_sets table.now) result }
 {
+    let last = table.count();
     let mut passed = 0;
-    for second in first + 1..table.count() + 1 {
+    for second in first + 1..last + 1 {
         if table.meets(first, second) {
             if passed == place {
                 return second;

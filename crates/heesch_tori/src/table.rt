@@ -73,6 +73,7 @@ impl CellTable {
         ensures lists { result.now ≡ self.now.lists }
         ensures numbers { AreCellLists (tabled_sets self.now) self.now.lists }
         ensures few { length self.now.lists ≤ 13824 }
+        ensures most { length self.now.variables ≤ 4608 }
     {
         &self.lists
     }

@@ -7,7 +7,7 @@ use Rattle.heesch_tori.proofs.Cells.{cells_few}
 use Rattle.heesch_tori.proofs.lists.reduced_lists.Goals as goal
 
 pub lists_of_cells-requires : goal.lists_of_cells-requires
-lists_of_cells-requires g c = lists_few g.G.Grid.geometry g.met.G.Grid.laws c.args.triple c.requires.small (sets_of c.args.variables.now) c.in_ok-all.all.items c.in_ok-all.ensures c.in_ok-all.all.items refl
+lists_of_cells-requires g c = record { few = lists_few g.G.Grid.geometry g.met.G.Grid.laws c.args.triple c.requires.small (sets_of c.args.variables.now) c.in_ok-all.all.items c.in_ok-all.ensures c.in_ok-all.all.items refl }
 
 pub returns-clause-lists : goal.returns-clause-lists
 returns-clause-lists g c = if_ok c.lists_of_cells.result (λ v is. record { covering = c.in_ok-all.all.items; are_covering = c.in_ok-all.ensures; is = is }) c.lists_of_cells.ensures
