@@ -1,4 +1,4 @@
-use Rattle.std.proofs.Common.{◌≡◌, List, ℕ, length, sym, ap, subst, ◌∙◌, arith, All}
+use Rattle.std.proofs.Common.{◌≡◌, ◌+◌, ◌/◌, List, ℕ, length, sym, ap, subst, ◌∙◌, arith, All}
 use Rattle.heesch_grid.specs.declared.Cell.{Cell}
 use Rattle.heesch_torus.specs.Covering.{AreNumbers}
 use Rattle.heesch_torus.specs.Variables.{TorusVariable, sets_of, AreVariables}
@@ -34,5 +34,5 @@ invariant_of-result g c =
       lists_are = subst (λ (vs : List TorusVariable). AreCellLists (sets_of vs) c.in_ok-lists.lists.items) c.deref.ensures.value lists;
       few = are.few;
       few_lists = c.in_ok-lists.ensures.few;
-      rows = subst (λ (n : ℕ). AreRows n c.in_ok-lists.lists.items _ c.in_ok-words.words.items) many (subst (λ (ls : List (List ℕ)). AreRows c.len-2.result ls _ c.in_ok-words.words.items) c.deref-2.ensures.value c.in_ok-words.ensures);
+      rows = subst (λ (n : ℕ). AreRows n c.in_ok-lists.lists.items (c.len.result / 64 + 1) c.in_ok-words.words.items) many (subst (λ (ls : List (List ℕ)). AreRows c.len-2.result ls (c.len.result / 64 + 1) c.in_ok-words.words.items) c.deref-2.ensures.value c.in_ok-words.ensures);
     }
