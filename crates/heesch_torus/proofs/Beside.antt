@@ -5,7 +5,6 @@ use Rattle.std.specs.List.{count_by, list_any, range_with_len, dedup, slice_get}
 use Rattle.std.specs.List.Sorted.{IsStrictlyIncreasing}
 use Rattle.std.specs.Int.{bit_at, bit_not, w64}
 use Rattle.std.specs.Int.Bits.{bit_and}
-use Rattle.std.proofs.Math.Nat.{pow-le-pow_right}
 use Rattle.std.proofs.lemmas.Nat.Bits.{bit_at_and, bit_at_not, bit_at-zero, bit_at-lt, bit_at_above, same_from_bits}
 use Rattle.std.proofs.lemmas.Bool.{cases_lt, cases_order}
 use Rattle.std.proofs.lemmas.List.FromFn.{length-range_with_len, get_or-range_with_len}
@@ -57,7 +56,7 @@ beside_sorted masks first sorted left p s e shorter fewer =
     let back = IsPermutation-sym (filter test masks) sorted p in
     subst (AreBeside masks first) (sym e) (record {
       rising = IsStrictlyIncreasing-dedup sorted s;
-      only = λ m k. (filter_member test masks m (Contains-permutation sorted (filter test masks) m back (Contains-from_dedup eqb sorted m k))).0;
+      only = λ m k. let f = filter_member test masks m (Contains-permutation sorted (filter test masks) m back (Contains-from_dedup eqb sorted m k)) in (f.0, eqb-true (bit_and m first) 0 f.1);
       every = λ m k none. Contains-dedup_nat sorted m (Contains-permutation (filter test masks) sorted m p (member_filter test masks m k (eq-eqb (bit_and m first) 0 none)));
       few = let long = length_permutation (filter test masks) sorted p in let same = ap length e in omega arith;
     })
@@ -101,7 +100,7 @@ module _ (masks : List ℕ) (first full : ℕ) (word : first < 2 ^ 64) (within :
       number_in [] m k below = absurd (no_member m k)
       number_in (i ∷ chosen) m k below =
           elim (member_cases (slice_index left i) (map (λ i. slice_index left i) chosen) m k) [
-            | inl e ↦ subst (Contains masks) e (are.only (slice_index left i) (member_index left i (below i (member_here i chosen))))
+            | inl e ↦ subst (Contains masks) e (are.only (slice_index left i) (member_index left i (below i (member_here i chosen)))).0
             | inr h ↦ number_in chosen m h (λ j c. below j (member_there i chosen j c))
           ]
         where
@@ -228,6 +227,3 @@ module _ (masks : List ℕ) (first full : ℕ) (word : first < 2 ^ 64) (within :
 
   pub none_fills : ((chosen : List ℕ) → ¬ IsExactCover left points chosen) → (found : List ℕ) → All (Contains masks) found → ¬ FillBeside first full found
   none_fills none found inside fills = none (numbers found inside fills) (found_cover found inside fills)
-
-pub power_more : (m n : ℕ) → m ≤ n → 2 ^ m ≤ 2 ^ n
-power_more m n l = pow-le-pow_right {n = 2} (omega arith) l

@@ -103,7 +103,7 @@ module _ (g : Geometry) (shape : List Cell) (t : Triple) where
   pub filled_with : (turn : ℕ) → turn < g.turns → (masks : List ℕ) → HasMasksFrom g shape t turn masks → (full first : ℕ) → IsMaskOf g shape t (unmoved turn) first → (found now : List ℕ) → now ≡ found ++ first ∷ [] → All (Contains masks) found × FillBeside first full found → AreExactMasks g shape t full now
   filled_with turn below masks have full first is found now e h = subst (AreExactMasks g shape t full) (sym e) (record {
     tiles = λ m i. elim (append_cases found (first ∷ []) m i) [
-      | inl a ↦ have.only m (All-contains (Contains masks) found m h.0 a)
+      | inl a ↦ let x = have.only m (All-contains (Contains masks) found m h.0 a) in (x.0, x.1, x.3)
       | inr b ↦ elim (member_cases first [] m b) [ inl e ↦ subst (IsTileMask g shape t) e (unmoved turn, below, is) | inr none ↦ absurd (no_member m none) ]
     ];
     fill = λ k l. let z = bit_at-zero k in let p = with_push k first found in let f = h.1 k l in omega arith;

@@ -300,7 +300,7 @@ module _ (g : Geometry) (shape : List Cell) (t : Triple) (law : IsGrid g) (tripl
 
     pub masks_of_turn : (turn : ℕ) (old new : List ℕ) → turn < g.turns → HasMasksFrom g shape t (turn + 1) old → AddsMasks g shape t turn (t.p * t.q) old new → HasMasksFrom g shape t turn new
     masks_of_turn turn old new below h a = record {
-      only = λ m i. elim (a.only m i) [ inl o ↦ h.only m o | inr n ↦ (tried t turn n.0, below, n.2) ];
+      only = λ m i. elim (a.only m i) [ inl o ↦ let x = h.only m o in let low = x.2 in (x.0, x.1, omega arith, x.3) | inr n ↦ (tried t turn n.0, below, omega arith, n.2) ];
       every = λ by p low m is. elim (cases_order by.turn turn) [
         | inl same ↦
             let j = of_turn t triple (moved_in g law shape t triple by) turn (moved_within g law shape t triple by) same in

@@ -1,5 +1,7 @@
 -- One turn more: its masks, that it has no cover, and the nodes that it takes.
-use Rattle.std.proofs.Common.{◌≡◌, sym, subst, ℕ, suc, ◌+◌, ◌-◌, ◌*◌, ◌^◌, ◌<◌, ◌≤◌, List, length, inl, inr, arith, All, Contains}
+use Rattle.std.proofs.Common.{◌≡◌, sym, subst, ℕ, ◌+◌, ◌-◌, ◌*◌, ◌<◌, ◌≤◌, List, ◌∷◌, length, inl, inr, arith, All, Contains}
+use Rattle.std.specs.List.{sum}
+use Rattle.std.proofs.lemmas.List.Sums.{sum_by-cons}
 use Rattle.std.proofs.lemmas.Bool.{cases_order}
 use Rattle.std.proofs.lemmas.List.Elements.{All-contains}
 use Rattle.heesch_grid.specs.declared.Cell.{Cell}
@@ -7,37 +9,57 @@ use Rattle.heesch_grid.specs.Geometry.{Geometry, IsGrid, IsCell}
 use Rattle.heesch_grid.specs.Lattice.{Triple, IsTriple}
 use Rattle.heesch_grid.specs.Polyform.{IsPolyform}
 use Rattle.heesch_torus.specs.Formula.{reduced_cells}
-use Rattle.heesch_torus.specs.Beside.{FillBeside}
+use Rattle.heesch_torus.specs.Beside.{FillBeside, CountsChoices}
 use Rattle.heesch_torus.specs.Masks.{IsMaskOf, AddsMasks, HasMasksFrom}
-use Rattle.heesch_torus.specs.Covers.{HasAllPoints, unmoved, HasNoCoverAt}
-use Rattle.heesch_torus.proofs.Beside.{power_more}
+use Rattle.heesch_torus.specs.Covers.{HasAllPoints, unmoved, HasNoCoverAt, HasPartialCovers, HasPartialCoversFrom, AreFewNodes}
 use Rattle.heesch_torus.proofs.Masking.{masks_of_turn}
 use Rattle.heesch_torus.proofs.Filled.{no_cover_at}
 
--- ---- the nodes
+-- ---- the nodes, and partial covers
 
--- so many were used before, and these are too few for one turn more
-pub few_nodes : (nodes left done turns most n : ℕ) → n ≤ most → done < turns → nodes ≤ left + done * 2 ^ most → left < 2 ^ n → nodes < turns * 2 ^ most
-few_nodes nodes left done turns most n few below used short =
-    let power = power_more n most few in
-    let product : suc done * 2 ^ most ≤ turns * 2 ^ most = times_more (suc done) turns (2 ^ most) below in
-    let next : suc done * 2 ^ most ≡ 2 ^ most + done * 2 ^ most = suc_times done (2 ^ most) in
-    omega arith
-  where
-    times_more : (a b c : ℕ) → a ≤ b → a * c ≤ b * c
-    times_more a b c l = grind arith
+-- choices of masks beside the tile of a turn at (0, 0) are partial covers
+pub choices_are : (g : Geometry) (shape : List Cell) (t : Triple) (full turn first : ℕ) → IsMaskOf g shape t (unmoved turn) first → (masks : List ℕ) → HasMasksFrom g shape t turn masks → (count : ℕ) → CountsChoices masks first full count → HasPartialCovers g shape t full turn count
+choices_are g shape t full turn first is masks have count counts = inr (record {
+  first = first;
+  is_first = is;
+  beside = counts.beside;
+  are = record {
+    rising = counts.are.rising;
+    only = λ m i. let o = counts.are.only m i in let x = have.only m o.0 in (o.1, x.0, x.1, x.2, x.3);
+    every = λ by p low m mask apart. counts.are.every m (have.every by p low m mask) apart;
+  };
+  count_is = counts.count_is;
+})
 
-    suc_times : (a c : ℕ) → suc a * c ≡ c + a * c
-    suc_times a c = grind arith
+-- the nodes that were spent before a turn are at most the partial covers of the later ones
+pub record IsSpentFrom (g : Geometry) (shape : List Cell) (t : Triple) (full turn nodes left : ℕ) : Type 0 where
+  pub counts : List ℕ
+  pub are : HasPartialCoversFrom g shape t full turn counts
+  pub spent : nodes ≤ left + sum counts
 
-pub used_more : (nodes old new done most n : ℕ) → n ≤ most → nodes ≤ old + done * 2 ^ most → old ≤ new + 2 ^ n → nodes ≤ new + (done + 1) * 2 ^ most
-used_more nodes old new done most n few used more =
-    let power = power_more n most few in
-    let next : (done + 1) * 2 ^ most ≡ 2 ^ most + done * 2 ^ most = suc_times done (2 ^ most) in
-    omega arith
-  where
-    suc_times : (a c : ℕ) → (a + 1) * c ≡ c + a * c
-    suc_times a c = grind arith
+module _ (g : Geometry) (shape : List Cell) (t : Triple) (full turns done nodes : ℕ) (all : turns ≡ g.turns) (less : done < turns) where
+  one_more : (counts : List ℕ) → HasPartialCoversFrom g shape t full (g.turns - done) counts → HasPartialCoversFrom g shape t full (turns - 1 - done + 1) counts
+  one_more counts are = let e : g.turns - done ≡ turns - 1 - done + 1 = omega arith in subst (λ n. HasPartialCoversFrom g shape t full n counts) e are
+
+  -- these are too few for one turn more
+  pub few_nodes : (left : ℕ) → IsSpentFrom g shape t full (g.turns - done) nodes left → HasAllPoints g t full → (count : ℕ) → HasPartialCovers g shape t full (turns - 1 - done) count → left < count → AreFewNodes g shape t nodes
+  few_nodes left before points count has short = record {
+    full = full;
+    points = points;
+    turn = turns - 1 - done;
+    counts = count ∷ before.counts;
+    are = (has, one_more before.counts before.are);
+    fewer = let s = before.spent in let e = sum_by-cons (λ x. x) count before.counts in omega arith;
+  }
+
+  pub used_more : (old new : ℕ) → IsSpentFrom g shape t full (g.turns - done) nodes old → (count : ℕ) → HasPartialCovers g shape t full (turns - 1 - done) count → old ≤ new + count → IsSpentFrom g shape t full (g.turns - (done + 1)) nodes new
+  used_more old new before count has more =
+      let e : turns - 1 - done ≡ g.turns - (done + 1) = omega arith in
+      record {
+        counts = count ∷ before.counts;
+        are = subst (λ n. HasPartialCoversFrom g shape t full n (count ∷ before.counts)) e (has, one_more before.counts before.are);
+        spent = let s = before.spent in let e = sum_by-cons (λ x. x) count before.counts in omega arith;
+      }
 
 -- one turn more, counted from the last
 pub masks_now : (g : Geometry) → IsGrid g → (shape : List Cell) (t : Triple) → IsTriple t → IsPolyform g shape → (turns done : ℕ) → turns ≡ g.turns → done < turns → (old new masks : List ℕ) → masks ≡ new → HasMasksFrom g shape t (g.turns - done) old → AddsMasks g shape t (turns - 1 - done) (t.p * t.q) old new → HasMasksFrom g shape t (turns - 1 - done) masks
@@ -55,9 +77,3 @@ module _ (g : Geometry) (law : IsGrid g) (shape : List Cell) (form : IsPolyform 
     | inl e ↦ subst (HasNoCoverAt g shape t) (sym e) (no_cover_at g law shape form t triple (turns - 1 - done) masks full (omega arith) small have points none)
     | inr o ↦ elim o [ inl early ↦ absurd (omega arith) | inr late ↦ before turn (omega arith) below ]
   ]
-
-  pub masks_few : (masks : List ℕ) → HasMasksFrom g shape t (turns - 1 - done) masks → length masks ≤ g.turns * (t.p * t.q)
-  masks_few masks have = let few = have.few in let more = times_more (g.turns - (turns - 1 - done)) g.turns (t.p * t.q) (omega arith) in omega arith
-    where
-      times_more : (a b c : ℕ) → a ≤ b → a * c ≤ b * c
-      times_more a b c l = grind arith

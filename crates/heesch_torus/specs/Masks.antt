@@ -45,6 +45,6 @@ pub record AddsMasks (g : Geometry) (shape : List Cell) (t : Triple) (turn k : �
 
 -- the masks of all tiles of this turn and later ones, and no others
 pub record HasMasksFrom (g : Geometry) (shape : List Cell) (t : Triple) (turn : ℕ) (masks : List ℕ) : Type 0 where
-  pub only : (m : ℕ) → Contains masks m → (by : Iso) × IsIsometry g by × IsMaskOf g shape t by m
+  pub only : (m : ℕ) → Contains masks m → (by : Iso) × IsIsometry g by × (turn ≤ by.turn) × IsMaskOf g shape t by m
   pub every : (by : Iso) → IsIsometry g by → turn ≤ by.turn → (m : ℕ) → IsMaskOf g shape t by m → Contains masks m
   pub few : length masks ≤ (g.turns - turn) * (t.p * t.q)

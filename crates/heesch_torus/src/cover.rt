@@ -1,5 +1,5 @@
 //! The search for a cover of a triple that keeps no log.
-ghost use Rattle.std.specs.Prelude.{◌≡◌, ◌↔◌, ◌<◌, ◌≤◌, ◌+◌, ◌*◌, ◌^◌, true, length, IfOk};
+ghost use Rattle.std.specs.Prelude.{◌≡◌, ◌↔◌, ◌<◌, ◌≤◌, ◌+◌, ◌*◌, ℕ, true, length, IfOk, OnOk};
 ghost use Rattle.heesch_grid.specs.declared.Cell.{Cell};
 ghost use Rattle.heesch_grid.specs.Cells.{has};
 ghost use Rattle.heesch_grid.specs.Polyform.{IsPolyform};
@@ -7,7 +7,7 @@ ghost use Rattle.heesch_grid.specs.Vectors.{IsWithin};
 ghost use Rattle.heesch_tiling.specs.Counting.{IsInRange};
 ghost use Rattle.heesch_torus.specs.Answer.{IsChosenCover};
 ghost use Rattle.heesch_torus.specs.Covers.{IsCoverAnswer, HasAllPoints, HasMaskAmong, HasExactMasks, AreValuesOf};
-ghost use Rattle.heesch_torus.specs.Covers.{IsFillingAt, IsTorusFilling};
+ghost use Rattle.heesch_torus.specs.Covers.{HasPartialCovers, IsFillingAt, IsTorusFilling};
 ghost use Rattle.heesch_torus.specs.Domain.{HasDomain};
 ghost use Rattle.heesch_torus.specs.Masks.{IsMaskable, HasMasksFrom};
 ghost use Rattle.heesch_torus.specs.Variables.{AreVariables};
@@ -53,7 +53,8 @@ fn fill_at<G: Grid>(
     requires masks { HasMasksFrom G.geometry cells.now triple turn masks.now }
     requires full { HasAllPoints G.geometry triple full }
     ensures answer { IfOk result (IsFillingAt G.geometry cells.now triple turn masks.now full nodes.old) }
-    ensures used { IfOk result (λ _. nodes.old ≤ nodes.new + 2 ^ length masks.now) }
+    ensures spent { OnOk result ((count : ℕ) × HasPartialCovers G.geometry cells.now triple full turn count
+        × (nodes.old ≤ nodes.new + count)) }
 {
     let unmoved = Iso { turn, da: 0, db: 0 };
     let Some(first) = mask_of::<G>(numbers, cells, triple, unmoved) else {
@@ -164,8 +165,9 @@ fn cover_of<G: Grid>(
 /// A mask has a bit for each of the torus's cells, and a tile one mask: the search is for masks that
 /// have each bit once. A tile of the least turn is fixed at (0, 0), where a translation brings it.
 /// Tiles has a cover whose places are chosen as those of `search`. None comes only where the triple
-/// has no cover. Open comes only where the torus has more than 64 cells, or where the nodes are
-/// below 2 to the power of the number of isometries within the triple, times the number of turns.
+/// has no cover. Open comes only where the torus has more than 64 cells, or where the nodes were used
+/// up: they were fewer than the partial covers. Those are, for each turn with its tile at (0, 0), the
+/// choices of tiles of this turn and later ones that have no cell twice with it.
 /// Condition: the cells lie within 100,000 of 0, and the triple is one of a domain of 1 to 12 tiles.
 ///
 /// Cost: a reduction for each cell of an image within the triple, of which there are at most 4,608;

@@ -1,8 +1,8 @@
 //! Exact covers by masks that share no point with a first one.
-ghost use Rattle.std.specs.Prelude.{◌≡◌, ◌==◌, ◌<◌, ◌≤◌, ◌+◌, ◌^◌, ℕ, map, filter, length, slice_index, All, IfOk};
+ghost use Rattle.std.specs.Prelude.{◌≡◌, ◌==◌, ◌<◌, ◌≤◌, ◌+◌, ◌^◌, ℕ, map, filter, length, slice_index, All, IfOk, OnOk};
 ghost use Rattle.std.specs.Int.{bit_at};
 ghost use Rattle.std.specs.Int.Bits.{bit_and};
-ghost use Rattle.heesch_torus.specs.Beside.{AreBeside, IsFilling};
+ghost use Rattle.heesch_torus.specs.Beside.{AreBeside, CountsChoices, IsFilling};
 
 use heesch_exact::{CoverAnswer, exact_cover};
 use heesch_io::{NoMemory, Seq};
@@ -63,7 +63,8 @@ pub(crate) fn fill_beside(
     requires within { (k : ℕ) → bit_at first k ≤ bit_at full k }
     ensures answer { IfOk result (IsFilling masks.now first full nodes.old) }
     ensures nodes { nodes.new ≤ nodes.old }
-    ensures used { IfOk result (λ _. nodes.old ≤ nodes.new + 2 ^ length masks.now) }
+    ensures spent { OnOk result ((count : ℕ) × CountsChoices masks.now first full count
+        × (nodes.old ≤ nodes.new + count)) }
 {
     let beside = beside(alloc, masks, first)?;
     let answer = exact_cover(alloc, beside.as_slice(), full & !first, nodes)?;

@@ -1,11 +1,11 @@
-use Rattle.std.proofs.Common.{◌≡◌, ℕ, true, List, length, inl, sym, subst, arith}
+use Rattle.std.proofs.Common.{◌≡◌, ℕ, true, List, length, inl, inr, sym, subst, arith}
 use Rattle.heesch_grid.specs.declared.Cell.{Cell}
 use Rattle.heesch_grid.specs.declared.isometries.Iso.{Iso}
 use Rattle.heesch_grid.specs.Cells.{has}
 use Rattle.heesch_grid.specs.Tiling.{IsPeriodicCover}
 use Rattle.heesch_tiling.proofs.Steps.{cells_near}
 use Rattle.heesch_torus.specs.Formula.{reduced_cells}
-use Rattle.heesch_torus.specs.Covers.{IsTorusFilling}
+use Rattle.heesch_torus.specs.Covers.{AreFewNodes, IsTorusFilling}
 use Rattle.heesch_torus.specs.Masks.{ArePoints, IsMaskable}
 use Rattle.heesch_torus.proofs.Formulas.{domain_small}
 use Rattle.heesch_torus.proofs.Numbering.{reduced_listed}
@@ -53,3 +53,8 @@ pub returns-in-None : goal.returns-in-None
 returns-in-None g c =
     let none : (places : List Iso) → ¬ IsPeriodicCover g.G.Grid.geometry c.cells-cells.result.now c.args.triple places = subst (IsTorusFilling g.G.Grid.geometry c.cells-cells.result.now c.args.triple c.all_points-full.result c.args.nodes) c.in-None.is c.in_ok-filling.ensures in
     subst (λ (s : List Cell). (places : List Iso) → ¬ IsPeriodicCover g.G.Grid.geometry s c.args.triple places) c.cells-cells.ensures.cells none
+
+pub returns : goal.returns
+returns g c =
+    let few : AreFewNodes g.G.Grid.geometry c.cells-cells.result.now c.args.triple c.args.nodes = subst (IsTorusFilling g.G.Grid.geometry c.cells-cells.result.now c.args.triple c.all_points-full.result c.args.nodes) c.in-Open.is c.in_ok-filling.ensures in
+    inr (subst (λ (s : List Cell). AreFewNodes g.G.Grid.geometry s c.args.triple c.args.nodes) c.cells-cells.ensures.cells few)

@@ -1,15 +1,16 @@
-use Rattle.std.proofs.Common.{◌≤◌, ◌<◌, ◌+◌, ◌^◌, List, ℕ, All, length, map, sym, subst, ◌∙◌, arith, w64}
+use Rattle.std.proofs.Common.{◌≡◌, ◌≤◌, ◌<◌, ◌+◌, List, ℕ, All, length, map, refl, sym, subst, ◌∙◌, w64}
 use Rattle.std.specs.Prelude.{slice_index}
 use Rattle.std.specs.Int.{bit_not}
 use Rattle.std.specs.Int.Bits.{bit_and}
-use Rattle.heesch_exact.specs.Covers.{IsExactCover, IsAnswer, partial_covers}
-use Rattle.heesch_exact.proofs.Partial.{at_most_power}
-use Rattle.heesch_torus.proofs.Beside.{cover_fills, none_fills, power_more}
+use Rattle.heesch_exact.specs.Covers.{IsExactCover, IsAnswer, partial_covers, without}
+use Rattle.heesch_torus.specs.Beside.{AreBeside, CountsChoices}
+use Rattle.heesch_torus.proofs.Beside.{cover_fills, none_fills}
 use Rattle.heesch_torus.proofs.filling.fill_beside.Goals as goal
 
--- what holds of a longer list's bound
-more : (old new : ℕ) (left : List ℕ) (masks : List ℕ) → length left ≤ length masks → old ≤ new + 2 ^ length left → old ≤ new + 2 ^ length masks
-more old new left masks few h = let p = power_more (length left) (length masks) few in omega arith
+-- the choices of the masks beside the first, and what was spent on them
+spent : (masks : List ℕ) (first full old new : ℕ) (left given : List ℕ) → given ≡ left → AreBeside masks first left → old ≤ new + partial_covers given (without full first) → (count : ℕ) × CountsChoices masks first full count × (old ≤ new + count)
+spent masks first full old new left given e are h =
+    (partial_covers left (without full first), record { beside = left; are = are; count_is = refl }, subst (λ (xs : List ℕ). old ≤ new + partial_covers xs (without full first)) e h)
 
 pub numbered-requires : goal.numbered-requires
 numbered-requires c =
@@ -25,10 +26,9 @@ returns-in-Cover-clause-answer c =
     cover_fills c.args.masks.now c.args.first c.args.full c.ranges.first.fits c.requires.within left c.in_ok-beside.ensures c.in-Cover.chosen c.in_ok-masks-in-Cover.masks
     (c.in_ok-masks-in-Cover.ensures ∙ (λ j. map (λ i. slice_index (c.as_slice-in-Cover.ensures.value j) i) (c.as_slice-in-Cover-2.ensures j))) cover
 
-pub returns-in-Cover-clause-used : goal.returns-in-Cover-clause-used
-returns-in-Cover-clause-used c =
-    more c.args.nodes.now c.exact_cover.new.nodes c.in_ok-beside.beside.items c.args.masks.now c.in_ok-beside.ensures.few
-    (subst (λ (xs : List ℕ). c.args.nodes.now ≤ c.exact_cover.new.nodes + 2 ^ length xs) c.as_slice.ensures.value c.in_ok-answer.ensures.few)
+pub returns-in-Cover-clause-spent : goal.returns-in-Cover-clause-spent
+returns-in-Cover-clause-spent c =
+    spent c.args.masks.now c.args.first c.args.full c.args.nodes.now c.exact_cover.new.nodes c.in_ok-beside.beside.items c.as_slice.result.now c.as_slice.ensures.value c.in_ok-beside.ensures c.in_ok-answer.ensures.spent
 
 pub returns-in-None-clause-answer : goal.returns-in-None-clause-answer
 returns-in-None-clause-answer c =
@@ -36,21 +36,17 @@ returns-in-None-clause-answer c =
     (subst (IsAnswer c.as_slice.result.now (bit_and c.args.full (bit_not w64 c.args.first)) c.args.nodes.now c.exact_cover.new.nodes) c.in-None.is c.in_ok-answer.ensures.answer) in
     none_fills c.args.masks.now c.args.first c.args.full c.ranges.first.fits c.requires.within c.in_ok-beside.beside.items c.in_ok-beside.ensures none
 
-pub returns-in-None-clause-used : goal.returns-in-None-clause-used
-returns-in-None-clause-used c =
-    more c.args.nodes.now c.exact_cover.new.nodes c.in_ok-beside.beside.items c.args.masks.now c.in_ok-beside.ensures.few
-    (subst (λ (xs : List ℕ). c.args.nodes.now ≤ c.exact_cover.new.nodes + 2 ^ length xs) c.as_slice.ensures.value c.in_ok-answer.ensures.few)
+pub returns-in-None-clause-spent : goal.returns-in-None-clause-spent
+returns-in-None-clause-spent c =
+    spent c.args.masks.now c.args.first c.args.full c.args.nodes.now c.exact_cover.new.nodes c.in_ok-beside.beside.items c.as_slice.result.now c.as_slice.ensures.value c.in_ok-beside.ensures c.in_ok-answer.ensures.spent
 
 pub returns-clause-answer : goal.returns-clause-answer
 returns-clause-answer c =
-    let points = bit_and c.args.full (bit_not w64 c.args.first) in
+    let points = without c.args.full c.args.first in
     let few : c.args.nodes.now < partial_covers c.in_ok-beside.beside.items points = subst (λ (xs : List ℕ). c.args.nodes.now < partial_covers xs points) c.as_slice.ensures.value
-    (subst (IsAnswer c.as_slice.result.now (bit_and c.args.full (bit_not w64 c.args.first)) c.args.nodes.now c.exact_cover.new.nodes) c.in-Open.is c.in_ok-answer.ensures.answer).1 in
-    let most = at_most_power c.in_ok-beside.beside.items points in
-    let p = power_more (length c.in_ok-beside.beside.items) (length c.args.masks.now) c.in_ok-beside.ensures.few in
-    omega (arith, few, most, p)
+    (subst (IsAnswer c.as_slice.result.now points c.args.nodes.now c.exact_cover.new.nodes) c.in-Open.is c.in_ok-answer.ensures.answer).1 in
+    (partial_covers c.in_ok-beside.beside.items points, record { beside = c.in_ok-beside.beside.items; are = c.in_ok-beside.ensures; count_is = refl }, few)
 
-pub returns-clause-used : goal.returns-clause-used
-returns-clause-used c =
-    more c.args.nodes.now c.exact_cover.new.nodes c.in_ok-beside.beside.items c.args.masks.now c.in_ok-beside.ensures.few
-    (subst (λ (xs : List ℕ). c.args.nodes.now ≤ c.exact_cover.new.nodes + 2 ^ length xs) c.as_slice.ensures.value c.in_ok-answer.ensures.few)
+pub returns-clause-spent : goal.returns-clause-spent
+returns-clause-spent c =
+    spent c.args.masks.now c.args.first c.args.full c.args.nodes.now c.exact_cover.new.nodes c.in_ok-beside.beside.items c.as_slice.result.now c.as_slice.ensures.value c.in_ok-beside.ensures c.in_ok-answer.ensures.spent
