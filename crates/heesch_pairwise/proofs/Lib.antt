@@ -1,0 +1,4 @@
+pub mod Later
+pub mod Merging
+pub mod Pairs
+pub mod SourceMade

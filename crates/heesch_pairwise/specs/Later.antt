@@ -14,9 +14,14 @@ later_of vars x = map (λ y. y.0) (filter (λ y. nat_lt x.0 y.0 && meet x.1.tile
 abbrev pub no_number : ℕ
 no_number = 4294967295
 
--- of the variables that have each cell, the first so many have no greater number than n
-abbrev pub ArePassed : List Variable → List Cell → ℕ → List ℕ → Type 0
-ArePassed vars cells n at = (i : ℕ) → i < length cells → All (λ m. m ≤ n) (take (slice_index_or at i 0) (holders vars (slice_index_or cells i origin)))
+-- the first so many of the numbers are at most n
+pub record ArePassed (numbers : List ℕ) (count n : ℕ) : Type 0 where
+  pub within : count ≤ length numbers
+  pub low : All (λ m. m ≤ n) (take count numbers)
+
+-- so are, of the variables that have each cell, the first so many
+abbrev pub ArePassedAt : List Variable → List Cell → List ℕ → ℕ → Type 0
+ArePassedAt vars cells counts n = (i : ℕ) → i < length cells → ArePassed (holders vars (slice_index_or cells i origin)) (slice_index_or counts i 0) n
 
 -- the number is the least one above n of a variable that has one of the cells, or there is none
 pub record IsNextAfter (vars : List Variable) (cells : List Cell) (n next : ℕ) : Type 0 where

@@ -1,5 +1,5 @@
 //! Whether a clause has two variables that meet.
-ghost use Rattle.std.specs.Prelude.{◌×◌, ◌≤◌, ◌↔◌, All, IsTrue, length};
+ghost use Rattle.std.specs.Prelude.{◌≤◌, ◌↔◌, All, IsTrue, length};
 ghost use Rattle.heesch_cnf.specs.Clauses.{IsClause, IsNew};
 ghost use Rattle.heesch_pairwise.specs.Pairs.{pairs_of, HavePair, HasLater};
 
