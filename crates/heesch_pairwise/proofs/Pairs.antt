@@ -119,8 +119,8 @@ module _ (vars : List Variable) where
   pub pair_met : (n m : ℕ) (x y : Variable) → IsNumbered vars n x → IsNumbered vars m y → HavePair vars n m → (n < m) × (meet x.tile y.tile ≡ true)
   pair_met n m x y at_n at_m have =
       let f = pair_member (pair n m) have in
-      let one : n ≡ f.first = ap (λ e. (get_or e 0 (literals.minus 0)).var) f.is in
-      let two : m ≡ f.second = ap (λ e. (get_or e 1 (literals.minus 0)).var) f.is in
+      let one : n ≡ f.first = ap (λ (e : List Lit). (get_or e 0 (literals.minus 0)).var) f.is in
+      let two : m ≡ f.second = ap (λ (e : List Lit). (get_or e 1 (literals.minus 0)).var) f.is in
       let later = later_member vars f.first f.variable f.second f.inside in
       let same_x : x ≡ f.variable = same_variable n f.first x f.variable at_n f.numbered one in
       let same_y : y ≡ later.0 = same_variable m f.second y later.0 at_m later.1 two in
@@ -232,7 +232,7 @@ module _ (vars : List Variable) where
 
     -- where no negated variable has one with a later one
     pub new_from : ((k : ℕ) (d : Lit) → k < length clause → (get_or clause k d).positive ≡ false → ¬ HasLater vars (get_or clause k d).var clause) → IsNew (pairs_of vars) clause
-    new_from none = new_where (λ n (k, l, e) has. none k (literals.minus n) l (ap (λ (z : Lit). z.positive) e) (subst (λ (z : Lit). HasLater vars z.var clause) (sym e) has))
+    new_from none = new_where (λ n m has. none m.0 (literals.minus n) m.1 (ap (λ (z : Lit). z.positive) m.2) (subst (λ (z : Lit). HasLater vars z.var clause) (sym m.2) has))
 
     -- where one has
     pub old_where : (l : Lit) → Contains clause l → l.positive ≡ false → HasLater vars l.var clause → ¬ IsNew (pairs_of vars) clause
