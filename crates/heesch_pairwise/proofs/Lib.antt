@@ -1,4 +1,4 @@
-pub mod Later
+pub mod LaterLists
 pub mod Merging
-pub mod Pairs
+pub mod PairLists
 pub mod SourceMade

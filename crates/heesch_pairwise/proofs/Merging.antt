@@ -13,7 +13,7 @@ use Rattle.heesch_grid.proofs.ListFacts.{member_cases, no_member}
 use Rattle.heesch_encode.proofs.Rising.{rising_at, never_falls}
 use Rattle.heesch_numbers.proofs.OwnersByNumber.{holders_rising}
 use Rattle.heesch_pairwise.specs.Later.{later_of, no_number, ArePassed, ArePassedAt, IsNextAfter}
-use Rattle.heesch_pairwise.proofs.Later.{later_rising, later_member, later_cell, cell_later}
+use Rattle.heesch_pairwise.proofs.LaterLists.{later_rising, later_member, later_cell, cell_later}
 
 -- ---- one list
 

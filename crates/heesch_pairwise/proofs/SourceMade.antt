@@ -18,7 +18,7 @@ use Rattle.heesch_numbers.specs.Common.{common_of}
 use Rattle.heesch_numbers.proofs.SourceForms.{common_form}
 use Rattle.heesch_pairwise.specs.Pairs.{pairs_of}
 use Rattle.heesch_pairwise.specs.Pairwise.{pairwise_formula}
-use Rattle.heesch_pairwise.proofs.Pairs.{pairs_form}
+use Rattle.heesch_pairwise.proofs.PairLists.{pairs_form}
 
 -- which clauses the formula has, how many, and of what form
 module _ (g : Geometry) (u : Levels) where

@@ -6,7 +6,7 @@ use Rattle.heesch_encode.proofs.Numbered.{no_entry}
 use Rattle.heesch_encode.proofs.Pieces.{some_at}
 use Rattle.heesch_pairwise.specs.Later.{later_of, ArePassedAt, IsNextAfter}
 use Rattle.heesch_encode.proofs.Rising.{rising_at}
-use Rattle.heesch_pairwise.proofs.Later.{later_rising}
+use Rattle.heesch_pairwise.proofs.LaterLists.{later_rising}
 use Rattle.heesch_pairwise.proofs.Merging.{counts_none, counts_up, later_above, first_is, next_is}
 use Rattle.heesch_pairwise.proofs.later.later_at.Given as given
 use Rattle.heesch_pairwise.proofs.later.later_at.Goals as goal

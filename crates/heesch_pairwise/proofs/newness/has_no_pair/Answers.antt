@@ -2,7 +2,7 @@ use Rattle.std.proofs.Common.{◌≡◌, ◌<◌, ℕ, false, sym, refl, arith, 
 use Rattle.std.proofs.lemmas.List.Elements.{Contains-get_or}
 use Rattle.heesch_cnf.specs.declared.literal.Lit.{Lit}
 use Rattle.heesch_pairwise.specs.Pairs.{HasLater}
-use Rattle.heesch_pairwise.proofs.Pairs.{new_from, old_where}
+use Rattle.heesch_pairwise.proofs.PairLists.{new_from, old_where}
 use Rattle.heesch_pairwise.proofs.newness.has_no_pair.Goals as goal
 
 pub returns : goal.returns

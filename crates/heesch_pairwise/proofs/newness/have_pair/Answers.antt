@@ -2,7 +2,7 @@ use Rattle.std.proofs.Common.{◌-◌, ◌∙◌, sym, get_or, arith, true≢fal
 use Rattle.heesch_grid.specs.Cells.{meet}
 use Rattle.heesch_encode.proofs.Numbered.{no_entry}
 use Rattle.heesch_encode.proofs.Pieces.{some_at}
-use Rattle.heesch_pairwise.proofs.Pairs.{met_pair, pair_met}
+use Rattle.heesch_pairwise.proofs.PairLists.{met_pair, pair_met}
 use Rattle.heesch_pairwise.proofs.newness.have_pair.Goals as goal
 
 pub returns-then-first-second : goal.returns-then-first-second

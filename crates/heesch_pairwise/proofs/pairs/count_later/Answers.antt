@@ -4,8 +4,8 @@ use Rattle.heesch_encode.proofs.Numbered.{no_entry}
 use Rattle.heesch_encode.proofs.Pieces.{some_at}
 use Rattle.heesch_encode.specs.Meeting.{meeting_after}
 use Rattle.heesch_pairwise.specs.Later.{later_of}
-use Rattle.heesch_pairwise.proofs.Later.{later_few, later_is}
-use Rattle.heesch_pairwise.proofs.Pairs.{apart_length}
+use Rattle.heesch_pairwise.proofs.LaterLists.{later_few, later_is}
+use Rattle.heesch_pairwise.proofs.PairLists.{apart_length}
 use Rattle.heesch_pairwise.proofs.pairs.count_later.Given as given
 use Rattle.heesch_pairwise.proofs.pairs.count_later.Goals as goal
 use Rattle.heesch_pairwise.proofs.pairs.count_later.Goals.{After-in_ok-list_meeting}

@@ -10,7 +10,7 @@ use Rattle.heesch_numbers.specs.Counts.{FallsIn}
 use Rattle.heesch_numbers.proofs.Counting.{all_counted}
 use Rattle.heesch_pairwise.specs.Later.{later_of}
 use Rattle.heesch_pairwise.specs.Pairs.{pairs_of}
-use Rattle.heesch_pairwise.proofs.Pairs.{IsAt, clause_at, pairs_form, later_at_same, number_of, variable_at, pair}
+use Rattle.heesch_pairwise.proofs.PairLists.{IsAt, clause_at, pairs_form, later_at_same, number_of, variable_at, pair}
 use Rattle.heesch_pairwise.proofs.pairs.PairClauses.left.Given as given
 use Rattle.heesch_pairwise.proofs.pairs.PairClauses.left.Goals as goal
 use Rattle.heesch_pairwise.proofs.pairs.PairClauses.left.Goals.{After-place-part, After-minus-2}

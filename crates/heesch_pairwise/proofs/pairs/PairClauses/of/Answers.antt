@@ -3,7 +3,7 @@ use Rattle.std.specs.Prelude.{sum_by}
 use Rattle.std.specs.List.{enumerate_from}
 use Rattle.std.proofs.lemmas.Result.{err_from_is_err_and}
 use Rattle.heesch_encode.specs.Families.{apart_at}
-use Rattle.heesch_pairwise.proofs.Pairs.{variable_at, number_of, none_has, one_more_has, most_of_all, counts_more, sizes_more, sizes_within, counts_whole, sizes_whole}
+use Rattle.heesch_pairwise.proofs.PairLists.{variable_at, number_of, none_has, one_more_has, most_of_all, counts_more, sizes_more, sizes_within, counts_whole, sizes_whole}
 use Rattle.heesch_pairwise.proofs.pairs.PairClauses.of.Given as given
 use Rattle.heesch_pairwise.proofs.pairs.PairClauses.of.Goals as goal
 use Rattle.heesch_pairwise.proofs.pairs.PairClauses.of.Goals.{After-in_ok-count}

@@ -3,7 +3,7 @@ use Rattle.std.specs.Prelude.{sum_by}
 use Rattle.std.specs.List.{enumerate_from}
 use Rattle.heesch_encode.specs.Families.{apart_at}
 use Rattle.heesch_encode.specs.Marks.{AreUnmarked}
-use Rattle.heesch_pairwise.proofs.Pairs.{HaveAtMost, size_at}
+use Rattle.heesch_pairwise.proofs.PairLists.{HaveAtMost, size_at}
 use Rattle.heesch_pairwise.proofs.pairs.PairClauses.of.Given as goal
 
 abbrev pub invariant-loop-i : goal.invariant-loop-i

@@ -29,7 +29,7 @@ use Rattle.heesch_numbers.proofs.Counting.{found}
 use Rattle.heesch_numbers.proofs.Rooms.{size_pieces, size_map}
 use Rattle.heesch_pairwise.specs.Later.{later_of}
 use Rattle.heesch_pairwise.specs.Pairs.{pairs_of, pair_counts, HavePair, HasLater}
-use Rattle.heesch_pairwise.proofs.Later.{Entry, holder_member, later_member, member_later}
+use Rattle.heesch_pairwise.proofs.LaterLists.{Entry, holder_member, later_member, member_later}
 
 -- the clause of two variables
 abbrev pub pair : ℕ → ℕ → List Lit
