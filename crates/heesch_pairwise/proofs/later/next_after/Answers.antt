@@ -33,11 +33,11 @@ loop-i-preserved g c =
     let test = c.loop-i-test.true in
     let at = subst (λ ns. ArePassed ns count c.args.n) here c.passed-count.ensures.passed in
     let head = c.number_at.ensures in
-    let least = c.min.ensures in
+    let least = c.min-least.ensures in
     record {
       size = length-set c.loop-i.counts i count ∙ size;
       passed = counts_more vars cells c.loop-i.counts i count c.args.n (omega arith) at c.loop-i.invariant.passed;
-      next = next_more vars cells i c.args.n (omega arith) numbers here count c.passed-count.ensures.passed c.passed-count.ensures.next c.loop-i.least c.min.result (omega arith) c.loop-i.invariant.next;
+      next = next_more vars cells i c.args.n (omega arith) numbers here count c.passed-count.ensures.passed c.passed-count.ensures.next c.loop-i.least c.min-least.result (omega arith) c.loop-i.invariant.next;
     }
 
 pub returns-clause-next : goal.returns-clause-next

@@ -7,8 +7,8 @@ use Rattle.heesch_pairwise.proofs.later.passed.Goals as goal
 pub loop-at-preserved : goal.loop-at-preserved
 loop-at-preserved c = one_passed c.args.numbers.now c.args.n c.loop-at.at c.loop-at.invariant (omega arith) (omega arith)
 
-pub returns-then-n-index-clause-next : goal.returns-then-n-index-clause-next
-returns-then-n-index-clause-next c = let head = get_or_default c.args.numbers.now c.loop-at.at no_number 0 (omega arith) in omega arith
+pub returns-then-n-numbers-clause-next : goal.returns-then-n-numbers-clause-next
+returns-then-n-numbers-clause-next c = let head = get_or_default c.args.numbers.now c.loop-at.at no_number 0 (omega arith) in omega arith
 
 pub returns-clause-passed : goal.returns-clause-passed
 returns-clause-passed c =

@@ -23,3 +23,11 @@ returns-clause-each g c = λ x number.
     let tile = take_all c.loop-c.c-index items (omega (arith, c.loop-c-test.false)) ∙ c.cells-c-items.ensures.cells ∙ c.shape.ensures ∙ c.placement_of.ensures.tile x number in
     let found = c.loop-c.found in
     subst (All (λ d. length (holders vars d) ≤ found)) tile c.loop-c.invariant.each
+
+pub overflow_cast-holders_of : goal.overflow_cast-holders_of
+overflow_cast-holders_of g c =
+    let vars = c.args.universe.now.vars in
+    let few = holders_few vars (get_or c.cells-c-items.result.now c.loop-c.c-index origin) in
+    let is = ap length c.holders_of.ensures in
+    let all = c.requires.few in
+    omega arith

@@ -6,10 +6,10 @@ use Rattle.heesch_encode.specs.Families.{apart_at}
 use Rattle.heesch_pairwise.proofs.PairLists.{variable_at, number_of, none_has, one_more_has, most_of_all, counts_more, sizes_more, sizes_within, counts_whole, sizes_whole}
 use Rattle.heesch_pairwise.proofs.pairs.PairClauses.of.Given as given
 use Rattle.heesch_pairwise.proofs.pairs.PairClauses.of.Goals as goal
-use Rattle.heesch_pairwise.proofs.pairs.PairClauses.of.Goals.{After-in_ok-count}
+use Rattle.heesch_pairwise.proofs.pairs.PairClauses.of.Goals.{After-add}
 
 -- the count of the next variable
-counted : (g : given.Over) (c : After-in_ok-count g) → c.in_ok-count.count ≡ length (apart_at c.args.universe.now.vars (c.loop-i.i + 1, variable_at c.args.universe.now.vars c.loop-i.i))
+counted : (g : given.Over) (c : After-add g) → c.in_ok-count.count ≡ length (apart_at c.args.universe.now.vars (c.loop-i.i + 1, variable_at c.args.universe.now.vars c.loop-i.i))
 counted g c =
     let vars = c.args.universe.now.vars in
     let i = c.loop-i.i in
@@ -21,7 +21,7 @@ loop-i-preserved g c =
     let vars = c.args.universe.now.vars in
     let i = c.loop-i.i in
     let less : i < length vars = omega (arith, c.loop-i-test.true, c.count-i-end.ensures.count) in
-    let count = counted g (goal.at.loop-i-preserved g c).After-in_ok-count in
+    let count = counted g (goal.at.loop-i-preserved g c).After-add in
     let before = c.loop-i.invariant.left in
     let left = c.in_ok-left.ensures.left in
     let more = sizes_more vars i less in
@@ -38,7 +38,7 @@ returns-in_err-left-clause-too_large g c = λ large.
     let vars = c.args.universe.now.vars in
     let i = c.loop-i.i in
     let less : i < length vars = omega (arith, c.loop-i-test.true, c.count-i-end.ensures.count) in
-    let count = counted g (goal.at.returns-in_err-left-clause-too_large g c).After-in_ok-count in
+    let count = counted g (goal.at.returns-in_err-left-clause-too_large g c).After-add in
     let q = err_from_is_err_and c.from_residual-in_err-left.result c.from_residual-in_err-left.ensures.1 in
     let above = c.in_err-left.ensures.too_large (cc (large, q.1, q.2)) in
     let before = c.loop-i.invariant.left in

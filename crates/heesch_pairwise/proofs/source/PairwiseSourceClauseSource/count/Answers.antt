@@ -28,5 +28,5 @@ returns-clause-count g c = whole g (goal.at.returns-clause-count g c).After-coun
 pub returns-clause-few : goal.returns-clause-few
 returns-clause-few g c = let all = whole g (goal.at.returns-clause-few g c).After-count-2 in let few = c.self.invariant.few in omega arith
 
-pub count-requires : goal.count-requires
-count-requires g c = c.self.invariant.counts_are ∙ ap (λ (w : Levels). pair_counts w.vars) (sym c.universe.ensures.universe)
+pub count-requires-2 : goal.count-requires-2
+count-requires-2 g c = c.self.invariant.counts_are ∙ ap (λ (w : Levels). pair_counts w.vars) (sym c.universe.ensures.universe)

@@ -1,4 +1,4 @@
-use Rattle.std.proofs.Common.{◌∙◌, ap, sym, subst, List, arith, true≢false}
+use Rattle.std.proofs.Common.{◌∙◌, ap, sym, subst, List, length, arith, true≢false}
 use Rattle.heesch_cnf.specs.declared.literal.Lit.{Lit}
 use Rattle.heesch_cnf.specs.Clauses.{IsClause, IsNew}
 use Rattle.heesch_grid.proofs.AroundFacts.{cells_around, around_given}
