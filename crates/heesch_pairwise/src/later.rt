@@ -32,7 +32,11 @@ fn passed(numbers: &[u32], from: usize, n: u32) -> usize
 fn number_at(numbers: &[u32], at: usize) -> u32
     ensures { result ≡ slice_index_or numbers.now at no_number }
 {
-    if at < numbers.len() { numbers[at] } else { NO_NUMBER }
+    if at < numbers.len() {
+        numbers[at]
+    } else {
+        NO_NUMBER
+    }
 }
 
 /// The least number above n of a variable that has one of the cells, or more than any where there is none. Of the

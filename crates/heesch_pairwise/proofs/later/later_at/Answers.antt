@@ -14,10 +14,13 @@ use Rattle.heesch_pairwise.proofs.later.later_at.Goals as goal
 use Rattle.heesch_pairwise.proofs.later.later_at.Goals.{After-cells-cells, After-next_after-now, After-next_after-now-in-loop-rank}
 
 -- nothing is passed at first
-zeros : (i : ℕ) → get_or (replicate 32 0) i 0 ≡ 0
+abbrev none : List ℕ
+none = replicate 32 0
+
+zeros : (i : ℕ) → get_or none i 0 ≡ 0
 zeros i =
-    let long = length-replicate 32 0 in
-    elim (cases_lt i 32) [ inl l ↦ get_or-replicate 32 i 0 0 l | inr past ↦ get_or_past (replicate 32 0) i 0 (omega (arith, long, past)) ]
+    let long : length none ≡ 32 = length-replicate {A = ℕ} 32 0 in
+    elim (cases_lt i 32) [ inl l ↦ get_or-replicate {A = ℕ} 32 i 0 0 l | inr past ↦ get_or_past none i 0 (omega (arith, long, past)) ]
 
 -- the cells are those of the variable's tile
 own : (g : given.Over) (c : After-cells-cells g) (x : Variable) → IsNumbered c.args.universe.now.vars c.args.var x → c.cells-cells.result.now ≡ x.tile
@@ -92,7 +95,7 @@ pub next_after-now-requires-in-loop-rank-clause-size : goal.next_after-now-requi
 next_after-now-requires-in-loop-rank-clause-size g c = let few = c.cells-cells.ensures.shape.few in let same = ap (λ (cs : List Cell). length cs) c.cells-cells.ensures.cells in let size = c.loop-rank.invariant.size in omega (arith, few, same, size)
 
 pub next_after-now-requires-clause-passed : goal.next_after-now-requires-clause-passed
-next_after-now-requires-clause-passed g c = counts_none c.args.universe.now.vars c.cells-cells.result.now (replicate 32 0) c.args.var zeros
+next_after-now-requires-clause-passed g c = counts_none c.args.universe.now.vars c.cells-cells.result.now none c.args.var zeros
 
 pub next_after-now-requires-in-loop-rank-clause-passed : goal.next_after-now-requires-in-loop-rank-clause-passed
 next_after-now-requires-in-loop-rank-clause-passed g c = c.loop-rank.invariant.passed
