@@ -2,6 +2,7 @@ use Rattle.std.proofs.Common.{◌≡◌, ℕ, List, length, map, ◌+◌, ◌*�
 use Rattle.std.specs.Prelude.{pos, slice_index}
 use Rattle.std.specs.List.{refill}
 use Rattle.std.proofs.lemmas.List.{length-map}
+use Rattle.heesch_grid.specs.Lattice.{Triple}
 use Rattle.heesch_torus.specs.Masks.{HasDouble, AddsMasks}
 use Rattle.heesch_torus.specs.Covers.{unmoved}
 use Rattle.heesch_torus.specs.Stepping.{HasBits, HasTwice}
@@ -15,6 +16,12 @@ stepped : (step from points now : List ℕ) → from ≡ points → now ≡ map 
 stepped step from points now same e =
     let moved : now ≡ map (slice_index step) points = e ∙ ap (map (slice_index step)) same in
     written_over points now (ap length moved ∙ length-map points (slice_index step)) ∙ moved
+
+all_rows : (db p q : ℕ) → db ≡ q → db * p ≡ p * q
+all_rows db p q e = ap (λ n. n * p) e ∙ turned q p
+  where
+    turned : (m n : ℕ) → m * n ≡ n * m
+    turned m n = omega arith
 
 pub word_of-requires : goal.word_of-requires
 word_of-requires g c = subst (All (λ p. p < 64)) (sym c.as_slice.ensures.value) (points_few g.G.Grid.geometry g.met.G.Grid.laws c.args.cells.now c.args.triple c.args.numbers.now c.requires.maskable (unmoved c.args.turn) c.points_of_tile-points.result.items c.points_of_tile-points.ensures)
@@ -42,7 +49,8 @@ take_step-requires g c =
 
 pub loop-da-preserved : goal.loop-da-preserved
 loop-da-preserved g c =
-    let less : c.loop-da.da < c.args.triple.p = omega (arith, c.loop-da-test.true, c.loop-da.auto.da-end) in
+    let width = ap (λ (t : Triple). t.p) c.triple.view_is in
+    let less : c.loop-da.da < c.args.triple.p = omega (arith, width, c.loop-da-test.true, c.loop-da.auto.da-end) in
     record {
       points = tile_right g.G.Grid.geometry g.met.G.Grid.laws c.args.cells.now c.args.triple c.args.numbers.now c.requires.maskable c.args.turn c.requires.turn c.loop-da.da c.loop-db.db c.loop-da.points.items c.loop-da.invariant.points c.args.steps.now.right.items
           (refill (length c.loop-da.points.items) c.loop-da.points.items c.take_step.new.points) c.requires.steps.right
@@ -67,7 +75,8 @@ take_step-requires-in-loop-db g c =
 
 pub loop-db-preserved : goal.loop-db-preserved
 loop-db-preserved g c =
-    let last : c.loop-da.da ≡ c.args.triple.p = omega (arith, c.loop-da-test.false, c.loop-da.auto.da-end) in
+    let width = ap (λ (t : Triple). t.p) c.triple.view_is in
+    let last : c.loop-da.da ≡ c.args.triple.p = omega (arith, width, c.loop-da-test.false, c.loop-da.auto.da-end) in
     record {
       points = tile_up g.G.Grid.geometry g.met.G.Grid.laws c.args.cells.now c.args.triple c.args.numbers.now c.requires.maskable c.args.turn c.requires.turn c.loop-da.da c.loop-db.db c.loop-da.points.items c.loop-da.invariant.points last c.args.steps.now.up.items
           (refill (length c.loop-da.points.items) c.loop-da.points.items c.take_step-in-loop-db.new.points) c.requires.steps.up
@@ -77,8 +86,6 @@ loop-db-preserved g c =
 
 pub returns : goal.returns
 returns g c =
-    let last : c.loop-db.db ≡ c.args.triple.q = omega (arith, c.loop-db-test.false, c.loop-db.auto.db-end) in
-    subst (λ n. AddsMasks g.G.Grid.geometry c.args.cells.now c.args.triple c.args.turn n c.args.masks.now.items c.loop-db.masks.items) (all c.loop-db.db c.args.triple.p c.args.triple.q last) c.loop-db.invariant.masks
-  where
-    all : (db p q : ℕ) → db ≡ q → db * p ≡ p * q
-    all db p q e = grind arith
+    let height = ap (λ (t : Triple). t.q) c.triple.view_is in
+    let last : c.loop-db.db ≡ c.args.triple.q = omega (arith, height, c.loop-db-test.false, c.loop-db.auto.db-end) in
+    subst (λ n. AddsMasks g.G.Grid.geometry c.args.cells.now c.args.triple c.args.turn n c.args.masks.now.items c.loop-db.masks.items) (all_rows c.loop-db.db c.args.triple.p c.args.triple.q last) c.loop-db.invariant.masks
