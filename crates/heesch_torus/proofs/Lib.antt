@@ -10,7 +10,10 @@ pub mod Choosing
 pub mod Modelled
 pub mod Solving
 pub mod Beside
+pub mod Moving
 pub mod Masking
+pub mod Words
+pub mod Stepping
 pub mod Shifted
 pub mod Filled
 pub mod Listed

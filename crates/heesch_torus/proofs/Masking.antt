@@ -26,6 +26,7 @@ use Rattle.heesch_torus.specs.Trying.{tried}
 use Rattle.heesch_torus.specs.Masks.{ArePoints, IsMaskOf, HasDouble, AddsMasks, HasMasksFrom}
 use Rattle.heesch_torus.proofs.Numbering.{range_more, reduced_listed}
 use Rattle.heesch_torus.proofs.Excluding.{range_split}
+use Rattle.heesch_torus.proofs.Moving.{residue_moved}
 use Rattle.heesch_torus.proofs.Tried.{moved_in, moved_within, image_is, rows, columns, of_turn}
 
 -- ---- elements by their numbers
@@ -33,6 +34,11 @@ use Rattle.heesch_torus.proofs.Tried.{moved_in, moved_within, image_is, rows, co
 get_seam : {X : Type 0} (xs : List X) (y : X) (ys : List X) → slice_get (xs ++ y ∷ ys) (length xs) ≡ Some y
 get_seam [] y ys = refl
 get_seam (x ∷ xs) y ys = get_seam xs y ys
+
+pub element : (xs : List Cell) (k : ℕ) → k < length xs → (c : Cell) × (slice_get xs k ≡ Some c)
+element [] k l = absurd (omega arith)
+element (x ∷ xs) zero l = (x, refl)
+element (x ∷ xs) (suc k) l = element xs k (omega arith)
 
 none_some : {X : Type 0} (x : X) → None ≡ Some x → ⊥
 none_some x e = cc
@@ -98,7 +104,7 @@ module _ (g : Geometry) (t : Triple) where
       by_cell true is few = omega arith
       by_cell false is few = omega arith
 
-  number_gives : (n size : ℕ) → n < size → is_cell_at n ≡ true → slice_get (map (in_window g t) (filter is_cell_at (range_with_len 0 size))) (cells_until n) ≡ Some (in_window g t n)
+  pub number_gives : (n size : ℕ) → n < size → is_cell_at n ≡ true → slice_get (map (in_window g t) (filter is_cell_at (range_with_len 0 size))) (cells_until n) ≡ Some (in_window g t n)
   number_gives n size less cell =
       let rest : ℕ = size - (n + 1) in
       let split : size ≡ n + suc (size - (n + 1)) = omega arith in
@@ -150,11 +156,6 @@ module _ (g : Geometry) (t : Triple) where
       | inr more ↦ p.others k (omega arith) ∙ sym (q.others k (omega arith))
     ]
   ])
-    where
-      element : (xs : List Cell) (k : ℕ) → k < length xs → (c : Cell) × (slice_get xs k ≡ Some c)
-      element [] k l = absurd (omega arith)
-      element (x ∷ xs) zero l = (x, refl)
-      element (x ∷ xs) (suc k) l = element xs k (omega arith)
 
   pub no_mask : (by : Iso) → IsMaskOf g [] t by 0
   no_mask by = record { cells = λ k c e. bit_at-zero k; others = λ k l. bit_at-zero k }
@@ -283,16 +284,10 @@ module _ (g : Geometry) (shape : List Cell) (t : Triple) (law : IsGrid g) (tripl
 
   -- a tile and the one that a lattice vector moves it to have the same reduced cells
   module _ (form : (c : Cell) → Contains shape c → IsCell g c) where
-    residue_moved : (i j : ℤ) (c : Cell) → IsCell g c → residue g t (translated g t i j c) ≡ residue g t c
-    residue_moved i j c cell =
-        let d : Cell = translated g t i j c in
-        let d_cell = translated_cell g law t triple i j c cell in
-        reduced_once g law t triple (i +ℤ vector_i g law t triple d) (j +ℤ vector_j g law t triple d) c (residue g t d) cell (is_reduced g law t triple d d_cell) (translated_twice g law t triple i j (vector_i g law t triple d) (vector_j g law t triple d) c)
-
     same_residues : (by : Iso) → IsIsometry g by → (cells : List Cell) → ((c : Cell) → Contains cells c → IsCell g c) → tile_residues g cells t (moved_in g law shape t triple by) ≡ tile_residues g cells t by
     same_residues by p [] cell = refl
     same_residues by p (c ∷ cells) cell = λ n.
-        (ap (residue g t) (image_is g law shape t triple by c) ∙ residue_moved (columns g law shape t triple by) (rows g law shape t triple by) (apply g by c) (law.cells_kept by p c (cell c (member_here c cells)))) n
+        (ap (residue g t) (image_is g law shape t triple by c) ∙ residue_moved g law t triple (columns g law shape t triple by) (rows g law shape t triple by) (apply g by c) (law.cells_kept by p c (cell c (member_here c cells)))) n
         ∷ same_residues by p cells (λ d m. cell d (Contains-append_right (c ∷ []) cells d m)) n
 
     mask_within : (by : Iso) → IsIsometry g by → (m : ℕ) → IsMaskOf g shape t by m → IsMaskOf g shape t (moved_in g law shape t triple by) m

@@ -11,4 +11,5 @@ pub mod Answer
 pub mod Outcome
 pub mod Beside
 pub mod Masks
+pub mod Stepping
 pub mod Covers

@@ -18,12 +18,13 @@ pub record ArePoints (g : Geometry) (t : Triple) (numbers : List ℕ) (count : �
   pub each : (n : ℕ) → n < window_size g t → IsCell g (in_window g t n) → slice_get (reduced_cells g t) (slice_index numbers n) ≡ Some (in_window g t n)
   pub count_is : count ≡ length (reduced_cells g t)
 
--- the cells of the shape lie in the grid near 0, and the reduced cells of the triple, at most 64, have these numbers
+-- the cells of the shape, at most 32, lie in the grid near 0, and the reduced cells of the triple, at most 64, have these numbers
 pub record IsMaskable (g : Geometry) (shape : List Cell) (t : Triple) (numbers : List ℕ) : Type 0 where
   pub triple : IsTriple t
   pub points : ArePoints g t numbers (length (reduced_cells g t))
   pub few : length (reduced_cells g t) ≤ 64
   pub cells : (c : Cell) → has shape c ≡ true → IsCell g c × IsWithin 100000 c
+  pub size : length shape ≤ 32
 
 -- the mask has the bit of a reduced cell as often as the tile has the cell: once or not at all
 pub record IsMaskOf (g : Geometry) (shape : List Cell) (t : Triple) (by : Iso) (mask : ℕ) : Type 0 where

@@ -17,6 +17,7 @@ use crate::found::Variable;
 use crate::masks::{add_masks, mask_of};
 use crate::places::chosen_tiling;
 use crate::points::{all_points, points_of};
+use crate::steps::steps_of;
 use crate::variables::variables_of;
 use heesch_cert::Tiling;
 use heesch_grid::{Cell, Grid, Iso};
@@ -88,9 +89,10 @@ fn fill_torus<G: Grid>(
 {
     let mut masks = Vec::new(alloc);
     let mut left = nodes;
+    let steps = steps_of::<G>(numbers, triple);
     for done in 0..G::TURNS {
         let turn = G::TURNS - 1 - done;
-        add_masks::<G>(&mut masks, numbers, cells, triple, turn)?;
+        add_masks::<G>(&mut masks, numbers, &steps, cells, triple, turn)?;
         let filling = fill_at::<G>(alloc, numbers, cells, triple, turn, &masks, full, &mut left)?;
         match filling {
             Filling::Filled { masks } => return Ok(Filling::Filled { masks }),

@@ -24,6 +24,7 @@ mod pairs;
 mod places;
 mod points;
 mod residues;
+mod steps;
 mod variables;
 
 pub use answer::{TorusAnswer, search};

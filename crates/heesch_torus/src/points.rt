@@ -7,11 +7,14 @@ ghost use Rattle.heesch_grid.specs.Lattice.{IsTriple};
 ghost use Rattle.heesch_grid.specs.Vectors.{IsWithin};
 ghost use Rattle.heesch_tiling.specs.Counting.{residue, IsInRange};
 ghost use Rattle.heesch_torus.specs.Formula.{reduced_cells};
-ghost use Rattle.heesch_torus.specs.Masks.{ArePoints};
+ghost use Rattle.heesch_torus.specs.Masks.{ArePoints, IsMaskable};
+ghost use Rattle.heesch_torus.specs.Stepping.{ArePointsOf};
 
+use arrayvec::ArrayVec;
 use heesch_grid::{Cell, Grid, Iso};
 use heesch_io::NoMemory;
 use heesch_lattice::Triple;
+use heesch_shape::CELLS_MAX;
 use heesch_tiling::{number_of, pair_at, residue_of, window_size};
 use std::alloc::Global;
 
@@ -21,6 +24,9 @@ pub(crate) struct Points {
     pub(crate) numbers: Vec<u32>,
     pub(crate) count: u32,
 }
+
+/// The numbers of the reduced cells of a tile, in the order of its cells.
+pub(crate) type TilePoints = ArrayVec<u32, CELLS_MAX>;
 
 /// The numbers of the reduced cells of a triple.
 pub(crate) fn points_of<G: Grid>(alloc: Global, triple: Triple) -> Result<Points, NoMemory>
@@ -49,6 +55,24 @@ pub(crate) fn point_of<G: Grid>(numbers: &[u32], triple: Triple, by: Iso, c: Cel
         (residue G.geometry triple (apply G.geometry by c)) }
 {
     numbers[number_of::<G>(triple, residue_of::<G>(triple, by, c))]
+}
+
+/// The numbers of the reduced cells of a tile, in the order of its cells.
+pub(crate) fn points_of_tile<G: Grid>(
+    numbers: &[u32],
+    cells: &[Cell],
+    triple: Triple,
+    by: Iso,
+) -> TilePoints
+    requires maskable { IsMaskable G.geometry cells.now triple numbers.now }
+    requires range { IsInRange G.geometry by }
+    ensures { ArePointsOf G.geometry cells.now triple by result.items }
+{
+    let mut points = ArrayVec::new();
+    for c in cells {
+        points.push(point_of::<G>(numbers, triple, by, *c));
+    }
+    points
 }
 
 /// The mask of so many points.

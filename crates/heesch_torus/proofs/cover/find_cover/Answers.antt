@@ -1,4 +1,4 @@
-use Rattle.std.proofs.Common.{◌≡◌, ℕ, true, List, length, inl, inr, sym, subst, arith}
+use Rattle.std.proofs.Common.{◌≡◌, ℕ, ◌≤◌, true, List, length, inl, inr, sym, subst, arith}
 use Rattle.heesch_grid.specs.declared.Cell.{Cell}
 use Rattle.heesch_grid.specs.declared.isometries.Iso.{Iso}
 use Rattle.heesch_grid.specs.Cells.{has}
@@ -24,6 +24,7 @@ maskable g c numbers is =
       points = subst (λ ns. ArePoints geometry c.args.triple ns (length (reduced_cells geometry c.args.triple))) (sym is) (subst (ArePoints geometry c.args.triple c.in_ok-points.points.numbers.items) points.count_is points);
       few = omega (arith, points.count_is, c.if-points-gt64.false);
       cells = λ d h. cells_near geometry c.args.shape.now c.cells-cells.ensures.shape.polyform c.requires.near d (subst (λ xs. has xs d ≡ true) c.cells-cells.ensures.cells h);
+      size = subst (λ (xs : List Cell). length xs ≤ 32) (sym c.cells-cells.ensures.cells) c.cells-cells.ensures.shape.few;
     }
 
 pub points_of-requires : goal.points_of-requires

@@ -1,24 +1,20 @@
-use Rattle.std.proofs.Common.{◌≡◌, pos, inl, inr, sym, ◌∙◌}
-use Rattle.std.specs.Int.{bit_at}
-use Rattle.std.proofs.lemmas.Nat.Bits.{shr_and_one}
-use Rattle.heesch_grid.specs.Cells.{cell}
-use Rattle.heesch_torus.proofs.Beside.{bit_cases}
-use Rattle.heesch_torus.proofs.Masking.{point_below, mask_more, mask_double}
+use Rattle.std.proofs.Common.{ℕ, List, All, sym, subst, ◌<◌}
+use Rattle.heesch_torus.specs.Masks.{IsMaskOf, HasDouble}
+use Rattle.heesch_torus.specs.Stepping.{HasBits, HasTwice}
+use Rattle.heesch_torus.proofs.Stepping.{points_few, word_mask, twice_double, some_kept, none_kept}
 use Rattle.heesch_torus.proofs.masks.mask_of.Goals as goal
 
-pub returns-then-mask-point-eq1-clause-none : goal.returns-then-mask-point-eq1-clause-none
-returns-then-mask-point-eq1-clause-none g c =
-    mask_double g.G.Grid.geometry c.args.triple g.met.G.Grid.laws c.requires.maskable.triple c.args.cells.now c.args.by c.loop-c.c-index (cell (pos 0) (pos 0)) c.point_of-point.result c.loop-c.mask c.loop-c-test.true c.requires.maskable.few c.point_of-point.ensures c.loop-c.invariant
-    (sym (shr_and_one c.loop-c.mask c.point_of-point.result) ∙ c.if-mask-point-eq1.true)
+pub word_of-requires : goal.word_of-requires
+word_of-requires g c = subst (All (λ p. p < 64)) (sym c.as_slice.ensures.value) (points_few g.G.Grid.geometry g.met.G.Grid.laws c.args.cells.now c.args.triple c.args.numbers.now c.requires.maskable c.args.by c.points_of_tile-points.result.items c.points_of_tile-points.ensures)
 
-pub overflow_shl-mask : goal.overflow_shl-mask
-overflow_shl-mask g c =
-    point_below g.G.Grid.geometry c.args.triple g.met.G.Grid.laws c.requires.maskable.triple c.args.cells.now c.args.by c.loop-c.c-index (cell (pos 0) (pos 0)) c.point_of-point.result c.loop-c.mask c.loop-c-test.true c.requires.maskable.few c.point_of-point.ensures c.loop-c.invariant
+pub returns-clause-found : goal.returns-clause-found
+returns-clause-found g c =
+    some_kept (HasBits c.as_slice.result.now) (IsMaskOf g.G.Grid.geometry c.args.cells.now c.args.triple c.args.by) c.word_of.result
+    (λ word bits. word_mask g.G.Grid.geometry g.met.G.Grid.laws c.args.cells.now c.args.triple c.args.numbers.now c.requires.maskable c.args.by c.points_of_tile-points.result.items word c.points_of_tile-points.ensures (subst (λ (ps : List ℕ). HasBits ps word) c.as_slice.ensures.value bits))
+    c.word_of.ensures.found
 
-pub loop-c-preserved : goal.loop-c-preserved
-loop-c-preserved g c =
-    let free : bit_at c.loop-c.mask c.point_of-point.result ≡ 0 = elim (bit_cases c.loop-c.mask c.point_of-point.result) [
-      | inl z ↦ z
-      | inr one ↦ absurd (c.if-mask-point-eq1.false (shr_and_one c.loop-c.mask c.point_of-point.result ∙ one))
-    ] in
-    mask_more g.G.Grid.geometry c.args.triple g.met.G.Grid.laws c.requires.maskable.triple c.args.cells.now c.args.by c.loop-c.c-index (cell (pos 0) (pos 0)) c.point_of-point.result c.loop-c.mask c.loop-c-test.true c.requires.maskable.few c.point_of-point.ensures c.loop-c.invariant free
+pub returns-clause-none : goal.returns-clause-none
+returns-clause-none g c =
+    none_kept (HasTwice c.as_slice.result.now) (HasDouble g.G.Grid.geometry c.args.cells.now c.args.triple c.args.by) c.word_of.result
+    (λ twice. twice_double g.G.Grid.geometry g.met.G.Grid.laws c.args.cells.now c.args.triple c.args.numbers.now c.requires.maskable c.args.by c.points_of_tile-points.result.items c.points_of_tile-points.ensures (subst HasTwice c.as_slice.ensures.value twice))
+    c.word_of.ensures.none
