@@ -1,4 +1,5 @@
-//! A formula of more than 2^16 variables and clauses, and a refutation of as many hints. No clause rules out want of memory.
+//! A formula of more than 2^16 variables and clauses, and a refutation of as many hints. No clause rules out want of
+//! memory.
 use super::made::judged;
 use heesch_cdcl::{Found, Solver};
 use heesch_cnf::{Formula, Lit, Lits, is_clause};
@@ -11,7 +12,8 @@ use std::test::Fail;
 /// How many variables the chain has.
 const VARS: u32 = 70_000;
 
-/// The clause of this number from 0: the first variable is true, each other one where the one before it is, and the last one isn't.
+/// The clause of this number from 0: the first variable is true, each other one where the one before it is, and the
+/// last one isn't.
 fn link(alloc: Global, number: u32) -> Result<Lits, Fail> {
     let mut literals = Seq::new(alloc);
     if number > 0 {
@@ -29,8 +31,8 @@ fn link(alloc: Global, number: u32) -> Result<Lits, Fail> {
     Ok(literals)
 }
 
-/// The first clauses of the chain, over its variables. With all of them but the last it has one model; with the last too it has
-/// none, and every clause is needed to see that.
+/// The first clauses of the chain, over its variables. With all of them but the last it has one model; with the last
+/// too it has none, and every clause is needed to see that.
 fn chain(rt: &impl Abort, alloc: Global, links: u32) -> Result<Formula, Fail> {
     let mut formula = Formula::new(alloc, VARS);
     for number in 0..links {
