@@ -1,4 +1,5 @@
 //! A module for each crate that is tried.
+mod beyond;
 mod claims;
 mod effort;
 mod exact;
