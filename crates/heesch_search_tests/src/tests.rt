@@ -4,6 +4,5 @@ mod encode;
 mod levels;
 mod made;
 mod outer;
-mod tori;
 mod torus;
 mod verdict;

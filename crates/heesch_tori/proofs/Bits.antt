@@ -1,5 +1,5 @@
 -- Rows of bits: which bit is whose, cell after cell, and where two rows have one in common.
-use Rattle.std.proofs.Common.{◌≡◌, ◌≢◌, sym, ap, subst, ◌∙◌, ℕ, ◌+◌, ◌-◌, ◌*◌, ◌/◌, ◌%◌, ◌^◌, ◌<◌, ◌≤◌, List, [], ◌∷◌, ◌++◌, map, length, get_or, take, inl, inr, arith, Contains, bit_and, w64, min}
+use Rattle.std.proofs.Common.{◌≡◌, sym, ap, subst, ◌∙◌, ℕ, ◌+◌, ◌-◌, ◌*◌, ◌/◌, ◌%◌, ◌^◌, ◌<◌, ◌≤◌, List, [], ◌∷◌, map, length, get_or, take, inl, inr, arith, Contains, bit_and, w64, min}
 use Rattle.std.specs.Prelude.{slice_index_or, replicate}
 use Rattle.std.specs.Int.{bit_at, trailing_zeros}
 use Rattle.std.proofs.lemmas.Nat.{and_le_l}
@@ -12,7 +12,7 @@ use Rattle.heesch_grid.proofs.WindowFacts.{map_member, member_map}
 use Rattle.heesch_encode.specs.Marks.{IsMarked, Marking}
 use Rattle.heesch_encode.proofs.Marking.{marking_none, marking_more}
 use Rattle.heesch_torus.specs.Covering.{AreNumbers}
-use Rattle.heesch_tori.specs.Rows.{bit_number, HaveCommonBit, AreRowsTo, AreRows}
+use Rattle.heesch_tori.specs.Rows.{bit_number, HaveCommonBit, AreRowsTo}
 
 -- ---- numbers of bits
 

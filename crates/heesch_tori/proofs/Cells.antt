@@ -1,5 +1,5 @@
 -- The lists of the reduced cells, and by these which variables share a cell.
-use Rattle.std.proofs.Common.{◌≡◌, sym, ap, subst, ◌∙◌, ℕ, ◌+◌, ◌-◌, ◌*◌, ◌<◌, ◌≤◌, List, [], ◌∷◌, ◌++◌, map, filter, length, get_or, Bool, true, false, refl, inl, inr, arith, All, Contains, true≢false, eqb-true, eq-eqb}
+use Rattle.std.proofs.Common.{◌≡◌, sym, ap, subst, ◌∙◌, ℕ, ◌+◌, ◌-◌, ◌<◌, ◌≤◌, List, [], ◌∷◌, ◌++◌, map, filter, length, Bool, true, false, refl, inl, inr, arith, All, Contains, true≢false, eqb-true, eq-eqb}
 use Rattle.std.specs.Prelude.{◌==◌, ◌↔◌, IsTrue, slice_index_or}
 use Rattle.std.specs.List.{list_any, range_with_len}
 use Rattle.std.proofs.lemmas.Bool.{cases_Bool}
@@ -9,7 +9,7 @@ use Rattle.std.proofs.lemmas.List.FromFn.{length-range_with_len}
 use Rattle.std.proofs.Math.Seq.{get_or-append_seam}
 use Rattle.std.proofs.lemmas.List.Elements.{All-contains, Contains-get_or}
 use Rattle.heesch_grid.specs.declared.Cell.{Cell}
-use Rattle.heesch_grid.specs.Cells.{has, meet, set_of, same_cell}
+use Rattle.heesch_grid.specs.Cells.{has, meet, set_of}
 use Rattle.heesch_grid.specs.Geometry.{Geometry, IsGrid}
 use Rattle.heesch_grid.specs.Lattice.{Triple, IsTriple, IsReduced}
 use Rattle.heesch_grid.specs.Pairs.{has-true}
@@ -17,13 +17,11 @@ use Rattle.heesch_grid.proofs.CellFacts.{has-is}
 use Rattle.heesch_grid.proofs.ListFacts.{All-from_members, any_member, member_any, filter_member}
 use Rattle.heesch_grid.proofs.WindowFacts.{map_member, member_map}
 use Rattle.heesch_tiling.specs.Counting.{window_size, in_window}
-use Rattle.heesch_torus.specs.Covering.{having, AreCovering, AreNumbers, lists_before, cell_lists}
-use Rattle.heesch_torus.specs.Formula.{reduced_cells}
+use Rattle.heesch_torus.specs.Covering.{having, AreNumbers, lists_before, cell_lists}
 use Rattle.heesch_torus.specs.Variables.{IsReducedSet, AreReducedSets}
 use Rattle.heesch_torus.proofs.Excluding.{listed}
 use Rattle.heesch_torus.proofs.Numbering.{covering_numbers, below_count, reduced_listed, list_more, list_none}
-use Rattle.heesch_encode.specs.Marks.{IsMarked}
-use Rattle.heesch_tori.specs.Rows.{bit_number, HaveCommonBit, AreRows}
+use Rattle.heesch_tori.specs.Rows.{HaveCommonBit, AreRows}
 use Rattle.heesch_tori.specs.Shared.{IsVariable, HaveBoth, AreCellLists, AreReducedLists}
 
 -- the numbers of the sets that have a cell

@@ -1,5 +1,5 @@
 -- The clauses of a source: those of the lists, and then those of the pairs.
-use Rattle.std.proofs.Common.{◌≡◌, refl, sym, ap, subst, ◌∙◌, ℕ, ◌+◌, ◌-◌, ◌*◌, ◌<◌, ◌≤◌, List, [], ◌∷◌, ◌++◌, map, length, get_or, take, arith, All}
+use Rattle.std.proofs.Common.{◌≡◌, refl, sym, ap, subst, ◌∙◌, ℕ, ◌+◌, ◌-◌, ◌<◌, ◌≤◌, List, [], ◌++◌, map, length, get_or, arith, All}
 use Rattle.std.specs.Prelude.{sum, nat_lt}
 use Rattle.std.proofs.lemmas.List.{length-map, length-append, get_or-map}
 use Rattle.std.proofs.lemmas.List.Elements.{All-append, All-contains}
@@ -15,7 +15,6 @@ use Rattle.heesch_grid.specs.CoronaFormula.{exclusion_clauses}
 use Rattle.heesch_grid.specs.Geometry.{Geometry, IsGrid}
 use Rattle.heesch_grid.specs.Lattice.{Triple, IsTriple}
 use Rattle.heesch_grid.specs.Listing.{IsRising}
-use Rattle.heesch_grid.specs.TorusFormula.{torus_clauses}
 use Rattle.heesch_grid.proofs.ListFacts.{All-from_members}
 use Rattle.heesch_grid.proofs.WindowFacts.{map_member}
 use Rattle.heesch_cert.specs.Literals.{literals}
@@ -25,8 +24,8 @@ use Rattle.heesch_numbers.specs.Seen.{IsSeen}
 use Rattle.heesch_numbers.proofs.Newness.{new_where, where_new}
 use Rattle.heesch_numbers.proofs.Seeing.{seen_left}
 use Rattle.heesch_numbers.proofs.SourceForms.{in_first, in_second, both_new, first_new, second_new}
-use Rattle.heesch_torus.specs.Covering.{AreNumbers, AreCovering}
-use Rattle.heesch_torus.specs.Formula.{reduced_cells, IsFormulaOf}
+use Rattle.heesch_torus.specs.Covering.{AreNumbers}
+use Rattle.heesch_torus.specs.Formula.{IsFormulaOf}
 use Rattle.heesch_torus.specs.Variables.{TorusVariable, sets_of, AreVariables}
 use Rattle.heesch_torus.proofs.Formulas.{formula_over}
 use Rattle.heesch_torus.proofs.Numbering.{list_clauses, numbers_clause, rising_map}

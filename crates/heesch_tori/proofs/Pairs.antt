@@ -1,5 +1,5 @@
 -- The clauses of pairs of variables that share a cell: by number, their form, and when a clause contains one.
-use Rattle.std.proofs.Common.{◌≡◌, sym, ap, subst, ◌∙◌, ℕ, ◌+◌, ◌-◌, ◌*◌, ◌<◌, ◌≤◌, List, [], ◌∷◌, map, filter, length, get_or, Bool, true, false, refl, ◌||◌, inl, inr, arith, All, Contains, ◌&&◌, ltb-true, lt-ltb}
+use Rattle.std.proofs.Common.{◌≡◌, sym, ap, subst, ◌∙◌, ℕ, ◌+◌, ◌-◌, ◌<◌, ◌≤◌, List, [], ◌∷◌, map, length, get_or, Bool, true, false, refl, ◌||◌, inl, inr, arith, Contains, ◌&&◌, ltb-true, lt-ltb}
 use Rattle.std.specs.Prelude.{nat_lt, sum, flat_map}
 use Rattle.std.specs.List.{enumerate_from}
 use Rattle.std.proofs.lemmas.Bool.{and_parts, and_from, cases_lt}
@@ -22,7 +22,6 @@ use Rattle.heesch_torus.specs.Formula.{pair_clause}
 use Rattle.heesch_torus.proofs.Excluding.{pairs_with, pair_of}
 use Rattle.heesch_torus.proofs.Numbering.{map_agree}
 use Rattle.heesch_tori.specs.Later.{later_of, later_counts, variable_at, MeetsOneOf}
-use Rattle.heesch_tori.specs.Shared.{IsVariable}
 use Rattle.heesch_tori.proofs.Passed.{Entry, no_entry, entry_is, entry_last}
 
 module _ (sets : List (List Cell)) where

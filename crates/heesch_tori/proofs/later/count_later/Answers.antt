@@ -1,4 +1,4 @@
-use Rattle.std.proofs.Common.{◌≡◌, ◌+◌, ◌<◌, ◌≤◌, ℕ, length, true, false, refl, sym, ap, ◌∙◌, arith}
+use Rattle.std.proofs.Common.{◌+◌, ◌<◌, ◌≤◌, ℕ, length, refl, sym, ap, ◌∙◌, arith}
 use Rattle.heesch_tori.specs.Shared.{tabled_sets}
 use Rattle.heesch_tori.proofs.Clauses.{sets_many}
 use Rattle.heesch_tori.proofs.Passed.{none_passed, one_passed, one_missed, all_passed}

@@ -1,4 +1,4 @@
-use Rattle.std.proofs.Common.{◌≡◌, ◌+◌, ◌-◌, ◌≤◌}
+use Rattle.std.proofs.Common.{◌≡◌, ◌+◌, ◌≤◌}
 use Rattle.heesch_tori.specs.Shared.{tabled_sets}
 use Rattle.heesch_tori.proofs.Passed.{passed_to}
 use Rattle.heesch_tori.proofs.later.count_later.Given as goal

@@ -1,4 +1,4 @@
-use Rattle.std.proofs.Common.{◌≡◌, ◌+◌, ◌<◌, ◌≤◌, ℕ, length, true, false, refl, sym, ap, ◌∙◌, arith}
+use Rattle.std.proofs.Common.{◌≡◌, ◌+◌, ◌<◌, ◌≤◌, ℕ, length, refl, sym, ap, ◌∙◌, arith}
 use Rattle.heesch_tori.specs.Later.{later_of, variable_at}
 use Rattle.heesch_tori.specs.Shared.{tabled_sets}
 use Rattle.heesch_tori.proofs.Clauses.{sets_many}

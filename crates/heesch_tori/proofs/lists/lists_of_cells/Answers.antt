@@ -1,7 +1,6 @@
-use Rattle.std.proofs.Common.{◌≡◌, ◌+◌, ◌++◌, ◌∷◌, [], List, ℕ, length, true, false, sym, ap, ◌∙◌, append_assoc, arith}
+use Rattle.std.proofs.Common.{◌≡◌, ◌++◌, ◌∷◌, [], length, true, false, sym, ap, ◌∙◌, append_assoc, arith}
 use Rattle.std.specs.Vec.Iter.{into_iter_items}
 use Rattle.heesch_tiling.specs.Counting.{in_window}
-use Rattle.heesch_torus.specs.Covering.{lists_before}
 use Rattle.heesch_tori.proofs.Cells.{cell_more, cell_none, place_more}
 use Rattle.heesch_tori.proofs.lists.lists_of_cells.Goals as goal
 use Rattle.heesch_tori.proofs.lists.lists_of_cells.Goals.{then-is_cell+in_ok-push, else-is_cell}

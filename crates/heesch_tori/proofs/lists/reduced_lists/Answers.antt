@@ -1,5 +1,4 @@
-use Rattle.std.proofs.Common.{◌≤◌, List, ℕ, length, refl, ap, sym, arith}
-use Rattle.heesch_torus.specs.Covering.{cell_lists}
+use Rattle.std.proofs.Common.{length, refl, ap, arith}
 use Rattle.heesch_torus.specs.Variables.{sets_of}
 use Rattle.heesch_torus.proofs.Formulas.{lists_few}
 use Rattle.heesch_torus.proofs.Outcomes.{if_ok}

@@ -1,4 +1,4 @@
-use Rattle.std.proofs.Common.{◌≡◌, ◌+◌, ◌-◌, ◌<◌, ◌≤◌, [], ◌∷◌, List, ℕ, get_or, length, refl, sym, ap, subst, ◌∙◌, arith}
+use Rattle.std.proofs.Common.{◌≡◌, ◌+◌, ◌-◌, ◌<◌, ◌≤◌, [], ◌∷◌, List, ℕ, get_or, length, sym, ap, subst, ◌∙◌, arith}
 use Rattle.std.specs.Prelude.{nat_lt}
 use Rattle.std.proofs.lemmas.List.{get_or_default}
 use Rattle.heesch_cnf.specs.declared.literal.Lit.{Lit}
@@ -6,15 +6,11 @@ use Rattle.heesch_cnf.specs.Left.{IsLeft}
 use Rattle.heesch_cnf.specs.Lines.{numbered}
 use Rattle.heesch_cnf.specs.Literals.{held}
 use Rattle.heesch_encode.specs.Literals.{plus_all}
-use Rattle.heesch_grid.specs.Cells.{meet}
-use Rattle.heesch_grid.specs.CoronaFormula.{exclusion_clauses}
 use Rattle.heesch_grid.specs.Listing.{IsRising}
-use Rattle.heesch_cert.specs.Literals.{literals}
 use Rattle.heesch_numbers.specs.Counts.{FallsIn}
 use Rattle.heesch_numbers.proofs.Seeing.{seen_none}
 use Rattle.heesch_torus.specs.Formula.{pair_clause}
 use Rattle.heesch_torus.specs.Variables.{sets_of}
-use Rattle.heesch_tori.specs.Later.{later_counts}
 use Rattle.heesch_tori.specs.Toured.{Toured, tour_clauses}
 use Rattle.heesch_tori.proofs.Clauses.{sets_many, list_left, tour_length, cell_numbered, pair_numbered}
 use Rattle.heesch_tori.proofs.Pairs.{first_within, place_within, pair_at}

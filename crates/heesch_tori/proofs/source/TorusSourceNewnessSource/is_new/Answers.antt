@@ -1,4 +1,4 @@
-use Rattle.std.proofs.Common.{◌≡◌, List, ℕ, map, sym, ap, subst, ◌∙◌, true≢false}
+use Rattle.std.proofs.Common.{List, ℕ, map, sym, subst, true≢false}
 use Rattle.heesch_cnf.specs.Clauses.{IsNew}
 use Rattle.heesch_cnf.specs.Literals.{held}
 use Rattle.heesch_encode.specs.Literals.{plus_all}

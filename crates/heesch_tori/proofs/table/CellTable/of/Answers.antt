@@ -1,4 +1,4 @@
-use Rattle.std.proofs.Common.{◌≡◌, ◌+◌, ◌/◌, List, ℕ, length, sym, ap, subst, ◌∙◌, arith, All}
+use Rattle.std.proofs.Common.{◌≡◌, ◌+◌, ◌/◌, List, ℕ, length, sym, ap, subst, arith, All}
 use Rattle.heesch_grid.specs.declared.Cell.{Cell}
 use Rattle.heesch_torus.specs.Covering.{AreNumbers}
 use Rattle.heesch_torus.specs.Variables.{TorusVariable, sets_of, AreVariables}
