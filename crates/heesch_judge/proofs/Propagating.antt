@@ -1,6 +1,7 @@
 -- Unit propagation, clause by clause: what fixpoints with the values before have too.
 use Rattle.std.proofs.Common.{◌≡◌, refl, sym, ap, subst, ◌∙◌, ℕ, ◌+◌, ◌<◌, ◌≤◌, Bool, true, false, cond, not, eqb, ◌||◌, Option, None, Some, List, [], ◌∷◌, ◌++◌, length, get_or, set, take, is_none, All, arith, inl, inr, true≢false, get_or-set_same, get_or-set_other, Decides}
 use Rattle.std.proofs.lemmas.Bool.Decides.{Decides-eqb}
+use Rattle.std.specs.Prelude.{◌↔◌, IsTrue, MatchOption, is_some}
 use Rattle.std.specs.List.{Contains}
 use Rattle.std.proofs.lemmas.List.{take_all, take_more}
 use Rattle.std.proofs.lemmas.List.Elements.{All-append, All-contains, All-cons, All-head, All-more, All-nil, All-take, Contains-append_left, Contains-append_right}
@@ -12,7 +13,8 @@ use Rattle.heesch_cnf.specs.Literals.{Values, held, lit_value, signed}
 use Rattle.heesch_cnf.specs.Lines.{refuting}
 use Rattle.heesch_cnf.proofs.Lists.{Contains-here}
 use Rattle.heesch_trail.specs.Fixpoint.{IsFixpoint, IsSettled}
-use Rattle.heesch_judge.specs.Propagation.{Extends, Forces, HasConflict, HasConflictOver, IsPass, IsPropagated, PassesOver, open_count}
+use Rattle.heesch_judge.specs.Propagation.{EndsOpen, Extends, Forces, HasConflict, HasConflictOver, IsPass, IsPropagated, PassesOver, open_count}
+use Rattle.heesch_judge.proofs.Equal.{granted, refused}
 use Rattle.heesch_judge.proofs.Settled.{left_there, one_true, settled_more, unsettled}
 
 -- ---- one clause
@@ -82,6 +84,15 @@ module _ (values : List (Option Bool)) (clause : List Lit) where
           | inr open ↦ absurd (closed (open_of l.positive (held values l.var) open))
         ]
 
+    -- so it is made true where it is open
+    pub passes_assigned : l.var < length values → (came : Bool) (after : List (Option Bool)) → (came ≡ true → (held values l.var ≡ None) × (after ≡ set values l.var (Some l.positive))) → (came ≡ false → (¬ (held values l.var ≡ None)) × (after ≡ values)) → PassesOver (clause ∷ []) values (Some came) after
+    passes_assigned fits true after made kept = let m = made refl in subst (λ vs. PassesOver (clause ∷ []) values (Some true) vs) (sym m.1) (passes_made fits m.0)
+    passes_assigned fits false after made kept = let k = kept refl in subst (λ vs. PassesOver (clause ∷ []) values (Some false) vs) (sym k.1) (passes_true k.0)
+
+    -- its variable is one of the clause's
+    pub in_range : (vars : ℕ) → IsClause vars clause → l.var ≤ vars
+    in_range vars form = (All-contains (λ (m : Lit). (1 ≤ m.var) × (m.var ≤ vars)) clause l form.in_range (left_there (held values) clause l (subst (λ ls. Contains ls l) (sym alone) (Contains-here l []))).0).1
+
 -- ---- one pass after the other
 
 -- where nothing is looked at
@@ -133,11 +144,11 @@ module _ (clauses : List (List Lit)) (i : ℕ) (below : i < length clauses) wher
   more_together v first last = All-more (IsSettled v) clauses i [] below first (All-head (IsSettled v) (get_or clauses i []) [] last)
 
   module _ (before middle : List (Option Bool)) (g : Bool) (p : IsPass (take i clauses) before g middle) where
-    pub one_conflict : (after : List (Option Bool)) (found : Option Bool) → found ≡ None → PassesOver (get_or clauses i [] ∷ []) middle found after → HasConflictOver clauses (held before)
-    one_conflict after found is passes = second_conflict clauses (take i clauses) (get_or clauses i [] ∷ []) one_apart before middle g p (subst (λ o. PassesOver (get_or clauses i [] ∷ []) middle o after) is passes)
+    pub one_conflict : HasConflictOver (get_or clauses i [] ∷ []) (held middle) → HasConflictOver clauses (held before)
+    one_conflict bad = second_conflict clauses (take i clauses) (get_or clauses i [] ∷ []) one_apart before middle g p bad
 
-    pub one_more : (after : List (Option Bool)) (found : Option Bool) (h : Bool) → found ≡ Some h → PassesOver (get_or clauses i [] ∷ []) middle found after → IsPass (take (i + 1) clauses) before (g || h) after
-    one_more after found h is passes = second_pass (take (i + 1) clauses) (take i clauses) (get_or clauses i [] ∷ []) more_apart before middle g p more_together after h (subst (λ o. PassesOver (get_or clauses i [] ∷ []) middle o after) is passes)
+    pub one_more : (after : List (Option Bool)) (h : Bool) → IsPass (get_or clauses i [] ∷ []) middle h after → IsPass (take (i + 1) clauses) before (g || h) after
+    one_more after h q = second_pass (take (i + 1) clauses) (take i clauses) (get_or clauses i [] ∷ []) more_apart before middle g p more_together after h q
 
 -- a pass over all of them
 pub whole_pass : (clauses : List (List Lit)) (n : ℕ) (before after : List (Option Bool)) (g : Bool) → length clauses ≤ n → IsPass (take n clauses) before g after → IsPass clauses before g after
@@ -172,3 +183,9 @@ propagated_from clauses before after none fixpoint forced = record { fixpoint = 
 
 pub conflict_from : (clauses : List (List Lit)) (before : Values) → before ≡ refuting [] → HasConflictOver clauses before → HasConflict clauses
 conflict_from clauses before none bad values fixpoint = bad values fixpoint (extends_open before values none)
+
+-- ---- whether it ends without a conflict
+
+pub open_told : {V : Type 0} (items : V → List (Option Bool)) (clauses : List (List Lit)) (found : Option V) → MatchOption found (HasConflict clauses) (λ values. IsPropagated clauses (held (items values))) → IsTrue (is_some found) ↔ EndsOpen clauses
+open_told items clauses None bad = refused (λ open. bad open.0 open.1)
+open_told items clauses (Some values) given = granted (held (items values), given.fixpoint)

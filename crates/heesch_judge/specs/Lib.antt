@@ -1,5 +1,5 @@
 pub mod Admitted
+pub mod Propagation
 pub mod Closed
 pub mod Spelling
 pub mod Judged
-pub mod Propagation

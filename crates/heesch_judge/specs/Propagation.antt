@@ -17,7 +17,11 @@ pub record IsPropagated (clauses : List (List Lit)) (values : Values) : Type 0 w
 abbrev pub HasConflict : List (List Lit) → Type 0
 HasConflict clauses = (values : Values) → ¬ IsFixpoint values clauses
 
--- the same under no values that extend the ones before
+-- unit propagation ends without a conflict: under some values each clause has a true literal or two open ones
+abbrev pub EndsOpen : List (List Lit) → Type 0
+EndsOpen clauses = (values : Values) × IsFixpoint values clauses
+
+-- it ends in a conflict from these values on: under no values that extend them has each clause a true literal or two open ones
 abbrev pub HasConflictOver : List (List Lit) → Values → Type 0
 HasConflictOver clauses before = (others : Values) → IsFixpoint others clauses → ¬ Extends others before
 

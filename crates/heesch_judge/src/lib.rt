@@ -22,6 +22,6 @@ pub use closed::is_closed;
 pub use coronas::spells_up_to;
 pub use empty::first_empty;
 pub use logs::has_no_cut;
-pub use propagation::propagated;
+pub use propagation::{ends_open, propagated};
 pub use refuted::refutes_up_to;
 pub use spent::is_spent_up_to;

@@ -1,12 +1,12 @@
 //! The values that unit propagation gives.
-ghost use Rattle.std.specs.Prelude.{◌≡◌, ◌≢◌, ◌<◌, ◌+◌, ◌∷◌, [], ℕ, None, Some, List, IfOk, IfSome, IsFalse, IsTrue, MatchOption, length, slice_set, vec_len};
+ghost use Rattle.std.specs.Prelude.{◌≡◌, ◌≢◌, ◌<◌, ◌+◌, ◌∷◌, ◌↔◌, [], ℕ, None, Some, List, IfOk, IfSome, IsFalse, IsTrue, MatchOption, length, slice_set, vec_len};
 ghost use Rattle.heesch_cnf.specs.declared.literal.Lit.{Lit as Literal};
 ghost use Rattle.heesch_cnf.specs.Clauses.{AreClauses, IsClause};
 ghost use Rattle.heesch_cnf.specs.Left.{IsLeft};
 ghost use Rattle.heesch_cnf.specs.Lines.{clauses_of, clauses_with};
 ghost use Rattle.heesch_cnf.specs.Literals.{held};
 ghost use Rattle.heesch_trail.specs.Fixpoint.{IsFixpoint};
-ghost use Rattle.heesch_judge.specs.Propagation.{Forces, HasConflict, HasConflictOver, IsPropagated, PassesOver};
+ghost use Rattle.heesch_judge.specs.Propagation.{EndsOpen, Forces, HasConflict, HasConflictOver, IsPropagated, PassesOver};
 
 use crate::empty::all_open;
 use heesch_cnf::{ClauseSource, Left, Lit, left_in};
@@ -59,7 +59,7 @@ fn pass_over<C: ClauseSource>(formula: &C, values: &mut [Option<bool>]) -> Optio
         let left = formula.left(index as u32 + 1, values);
         match force(vars, values, left) {
             None => return None,
-            Some(came) => grew = grew || came,
+            Some(came) => grew |= came,
         }
     }
     Some(grew)
@@ -73,10 +73,11 @@ fn pass_over_lines<S: Steps>(vars: u32, steps: &S, values: &mut [Option<bool>]) 
 {
     let mut grew = false;
     for index in 0..steps.count() {
-        let left = left_in(values, steps.clause(index));
+        let clause = steps.clause(index);
+        let left = left_in(values, clause);
         match force(vars, values, left) {
             None => return None,
-            Some(came) => grew = grew || came,
+            Some(came) => grew |= came,
         }
     }
     Some(grew)
@@ -93,9 +94,13 @@ fn pass<C: ClauseSource, S: Steps>(
     ensures { PassesOver (clauses_with (C.listed formula.now).clauses (S.written steps.now).lines)
         values.old result values.new }
 {
-    let by_lines = pass_over_lines(formula.vars(), steps, values)?;
-    let by_formula = pass_over(formula, values)?;
-    Some(by_lines || by_formula)
+    let Some(by_lines) = pass_over_lines(formula.vars(), steps, values) else {
+        return None;
+    };
+    match pass_over(formula, values) {
+        None => None,
+        Some(by_formula) => Some(by_lines | by_formula),
+    }
 }
 
 /// The same again and again, until no value comes. Whether it ends without a conflict.
@@ -114,10 +119,11 @@ fn propagate<C: ClauseSource, S: Steps>(
         IsTrue result → Forces clauses (held values.old) (held values.new) }
 {
     'passes: loop {
-        match pass(formula, steps, values) {
-            None => return false,
-            Some(false) => return true,
-            Some(true) => {}
+        let Some(grew) = pass(formula, steps, values) else {
+            return false;
+        };
+        if !grew {
+            return true;
         }
     }
 }
@@ -147,4 +153,21 @@ pub fn propagated<C: ClauseSource, S: Steps>(
         return Ok(None);
     }
     Ok(Some(values))
+}
+
+/// Whether unit propagation over the clauses of the formula and of the lines ends without a conflict. Then no final
+/// line holds over them.
+///
+/// The condition and the cost are those of `propagated`.
+pub fn ends_open<C: ClauseSource, S: Steps>(
+    alloc: Global,
+    formula: &C,
+    steps: &S,
+) -> Result<bool, NoMemory>
+    requires form { AreClauses (C.listed formula.now).vars (clauses_of (S.written steps.now).lines) }
+    ensures { let clauses = clauses_with (C.listed formula.now).clauses (S.written steps.now).lines in
+        IfOk result (λ yes. IsTrue yes ↔ EndsOpen clauses) }
+{
+    let found = propagated(alloc, formula, steps)?;
+    Ok(found.is_some())
 }
