@@ -74,7 +74,7 @@ module _ (g : Geometry) (shape : List Cell) (s : Sourced) (is : IsSourceOf g sha
   pub spent_up_to : (turns : ℕ) → IsSpentProof g s k turns proof → (size : ℕ) → formula_size s.formula.clauses ≤ size → IsSpentUpTo Two g shape s.universe.level k turns size proof
   spent_up_to turns r size fits =
       let spent = r.is_spent.is_spent in
-      let open = r.is_spent.open_still in
+      let still = r.is_spent.open_still in
       record {
         is_spent = record { vars = s.universe.vars; count = s.formula.vars; clauses = s.formula.clauses; formula = is.formula; fits = fits; lawful = lawful r.admitted; is_spent = spent };
         open_still = record {
@@ -82,7 +82,7 @@ module _ (g : Geometry) (shape : List Cell) (s : Sourced) (is : IsSourceOf g sha
           count = s.formula.vars;
           clauses = s.formula.clauses;
           formula = is.formula;
-          no_final = λ hints final. no_final open.0 (clauses_with s.formula.clauses (log_of s.universe.vars proof).lines) hints open.1 final;
+          no_final = λ hints final. no_final still.0 (clauses_with s.formula.clauses (log_of s.universe.vars proof).lines) hints still.1 final;
           few = subst (λ n. n ≤ 3 ^ s.formula.vars) spent.used (few_lines s.formula.vars s.formula.clauses (log_of s.universe.vars proof).lines spent.lines spent.new_lines);
         };
         cuts = cuts r.admitted;
@@ -113,11 +113,11 @@ module _ (g : Geometry) (shape : List Cell) (s : Sourced) (is : IsSourceOf g sha
     where
       none : (n : ℕ) → IsFirstEmpty s.formula.clauses n → ⊥
       none n first =
-          let open = r.is_spent.open_still in
-          let settled = settled_first open.0 s.formula.clauses (clauses_of (log_of s.universe.vars proof).lines) open.1 in
+          let still = r.is_spent.open_still in
+          let settled = settled_first still.0 s.formula.clauses (clauses_of (log_of s.universe.vars proof).lines) still.1 in
           let low = first.number.0 in
           let high = first.number.1 in
-          empty_unsettled open.0 (subst (IsSettled open.0) first.nothing (settled (n - 1) [] (omega (arith, low, high))))
+          empty_unsettled still.0 (subst (IsSettled still.0) first.nothing (settled (n - 1) [] (omega (arith, low, high))))
 
   -- where an empty clause is named, there are no coronas
   no_coronas : IsGrid g → IsPolyform g shape → 1 ≤ s.universe.level → (n : ℕ) → IsFirstEmpty s.formula.clauses n → ¬ HasCoronas g shape s.universe.level

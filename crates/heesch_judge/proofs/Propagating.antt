@@ -63,16 +63,17 @@ module _ (values : List (Option Bool)) (clause : List Lit) where
 
     -- one variable fewer is open
     fewer_open : l.var < length values → held values l.var ≡ None → open_count (set values l.var (Some l.positive)) < open_count values
-    fewer_open fits open =
-        let sum = sum_by-set (λ v. cond (is_none v) 1 0) values l.var (Some l.positive) None fits in
-        let was : cond (is_none (get_or values l.var None)) 1 0 ≡ 1 = ap (λ v. cond (is_none v) 1 0) open in
+    fewer_open fits is_open =
+        let counts : Option Bool → ℕ = λ v. cond (is_none v) 1 0 in
+        let sum = sum_by-set counts values l.var (Some l.positive) None fits in
+        let was : counts (get_or values l.var None) ≡ 1 = ap counts is_open in
         omega (arith, sum, was)
 
     pub passes_made : l.var < length values → held values l.var ≡ None → PassesOver (clause ∷ []) values (Some true) (set values l.var (Some l.positive))
-    passes_made fits open = record {
+    passes_made fits is_open = record {
       forced = λ others fixpoint extends. made_extends fits others (All-head (IsSettled others) clause [] fixpoint) extends;
       still = λ e. absurd (true≢false e);
-      fewer = λ e. fewer_open fits open;
+      fewer = λ e. fewer_open fits is_open;
     }
 
     -- or it is true already
@@ -81,7 +82,7 @@ module _ (values : List (Option Bool)) (clause : List Lit) where
         let found = left_there (held values) clause l (subst (λ ls. Contains ls l) (sym alone) (Contains-here l [])) in
         elim found.1 [
           | inl made ↦ passes_settled (inl (l, (found.0, made)))
-          | inr open ↦ absurd (closed (open_of l.positive (held values l.var) open))
+          | inr none ↦ absurd (closed (open_of l.positive (held values l.var) none))
         ]
 
     -- so it is made true where it is open
@@ -187,5 +188,5 @@ conflict_from clauses before none bad values fixpoint = bad values fixpoint (ext
 -- ---- whether it ends without a conflict
 
 pub open_told : {V : Type 0} (items : V → List (Option Bool)) (clauses : List (List Lit)) (found : Option V) → MatchOption found (HasConflict clauses) (λ values. IsPropagated clauses (held (items values))) → IsTrue (is_some found) ↔ EndsOpen clauses
-open_told items clauses None bad = refused (λ open. bad open.0 open.1)
+open_told items clauses None bad = refused (λ some. bad some.0 some.1)
 open_told items clauses (Some values) given = granted (held (items values), given.fixpoint)

@@ -40,9 +40,9 @@ fn second_level<G: Grid>(
 /// Whether there are j coronas of the shape whose patches of the levels 1 to `free_levels` are hole-free: with 0 holes
 /// are allowed, with j forbidden, and with j - 1 they may stand in the outermost corona alone.
 ///
-/// In the second version the search over the geometry proposes an answer, and what the judge takes is answered: coronas,
-/// a refutation, or a proof of `turns` steps. Where it takes none, and in the first version, the solver on the formula is
-/// asked (`heesch_levels::level_up_to`).
+/// In the second version the search over the geometry proposes an answer, and what the judge takes is answered:
+/// coronas, a refutation, or a proof of `turns` steps. Where it takes none, and in the first version, the solver on the
+/// formula is asked (`heesch_levels::level_up_to`).
 ///
 /// `TooLarge` comes exactly where the formula of this version has more than `size` literals, though it isn't made.
 /// `Refuted` comes at once, without a step, where a clause of the formula is empty. `Spent` comes only where each of

@@ -8,9 +8,9 @@ pub returns : goal.returns
 returns g c =
     let geometry = g.G.Grid.geometry in
     let law = g.met.G.Grid.laws in
-    let form = c.cells-_cells.ensures.shape.polyform in
+    let form = c.cells-cells.ensures.shape.polyform in
     let s = c.args.source.now in
-    let some : 1 ≤ s.universe.level = subst (λ (u : Levels). 1 ≤ u.level) c.universe.ensures c.level-_level.ensures.range.0 in
+    let some : 1 ≤ s.universe.level = subst (λ (u : Levels). 1 ≤ u.level) c.universe.ensures c.level-level.ensures.range.0 in
     record {
       judged = c.judges_level.ensures;
       answer = IfOk-weaker c.judges_level.result _ _ (λ told judged t size fits. level_right geometry law c.args.shape.now form s c.requires.source some c.args.turns c.args.free_levels c.args.answer.now (judged.0 t) size fits) c.judges_level.ensures;

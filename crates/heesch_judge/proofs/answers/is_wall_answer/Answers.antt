@@ -10,7 +10,7 @@ pub returns : goal.returns
 returns g c =
     let geometry = g.G.Grid.geometry in
     let law = g.met.G.Grid.laws in
-    let form = c.cells-_cells.ensures.shape.polyform in
+    let form = c.cells-cells.ensures.shape.polyform in
     let shape = c.args.shape.now in
     let s = c.args.source.now in
     let answer = c.args.answer.now in

@@ -7,13 +7,13 @@ use Rattle.heesch_judge.proofs.propagation.force.Goals as goal
 pub returns-in-Nothing : goal.returns-in-Nothing
 returns-in-Nothing c = λ clause form left. passes_nothing c.args.values.now clause c.args.values.now (subst (IsLeft (held c.args.values.now) clause) c.in-Nothing.is left)
 
-pub returns-then-lit-var-gt-vars : goal.returns-then-lit-var-gt-vars
-returns-then-lit-var-gt-vars c = λ clause form left.
+pub returns-then-lit-vars : goal.returns-then-lit-vars
+returns-then-lit-vars c = λ clause form left.
     let range = in_range c.args.values.now clause c.in-One.lit (subst (IsLeft (held c.args.values.now) clause) c.in-One.is left) c.args.vars form in
     absurd (omega (arith, range))
 
-pub returns-in-One : goal.returns-in-One
-returns-in-One c = λ clause form left.
+pub returns-else-lit-vars : goal.returns-else-lit-vars
+returns-else-lit-vars c = λ clause form left.
     let fits : c.in-One.lit.var < length c.args.values.now = omega arith in
     passes_assigned c.args.values.now clause c.in-One.lit (subst (IsLeft (held c.args.values.now) clause) c.in-One.is left) fits c.assign.result c.assign.new.values c.assign.ensures.made c.assign.ensures.kept
 

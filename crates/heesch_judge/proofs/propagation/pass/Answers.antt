@@ -19,8 +19,8 @@ returns-in-None g c =
     let ys = clauses_of (g.S.Steps.written c.args.steps.now).lines in
     second_conflict (clauses_with xs (g.S.Steps.written c.args.steps.now).lines) ys xs (both_apart xs ys) c.args.values.now c.pass_over_lines.new.values c.in-Some.by_lines c.in-Some.ensures c.in-None.ensures
 
-pub returns-in-Some : goal.returns-in-Some
-returns-in-Some g c =
+pub returns-in-Some-pass_over : goal.returns-in-Some-pass_over
+returns-in-Some-pass_over g c =
     let xs = (g.C.ClauseSource.listed c.args.formula.now).clauses in
     let ys = clauses_of (g.S.Steps.written c.args.steps.now).lines in
-    second_pass (clauses_with xs (g.S.Steps.written c.args.steps.now).lines) ys xs (both_apart xs ys) c.args.values.now c.pass_over_lines.new.values c.in-Some.by_lines c.in-Some.ensures (both_together xs ys) c.pass_over.new.values c.in-Some-2.by_formula c.in-Some-2.ensures
+    second_pass (clauses_with xs (g.S.Steps.written c.args.steps.now).lines) ys xs (both_apart xs ys) c.args.values.now c.pass_over_lines.new.values c.in-Some.by_lines c.in-Some.ensures (both_together xs ys) c.pass_over.new.values c.in-Some-pass_over.by_formula c.in-Some-pass_over.ensures

@@ -19,5 +19,5 @@ pub returns : goal.returns
 returns g c =
     let holds : c.in_ok-spent.spent ≡ true = search rules in
     IfOk-weaker c.ends_open.result _ _
-    (λ told open. ((λ t. record { is_spent = c.in_ok-spent.ensures.0 holds; open_still = open.0 t }), (λ r. open.1 r.open_still)))
+    (λ told ends. ((λ t. record { is_spent = c.in_ok-spent.ensures.0 holds; open_still = ends.0 t }), (λ r. ends.1 r.open_still)))
     c.ends_open.ensures

@@ -6,7 +6,7 @@ pub search_level-requires-clause-few : goal.search_level-requires-clause-few
 search_level-requires-clause-few g c =
     let s = c.args.source.now in
     let count = c.requires.source.formula.count_is in
-    let vars = c.vars-_vars.ensures.vars in
-    let small = c.vars-_vars.ensures.small in
+    let vars = c.vars-vars.ensures.vars in
+    let small = c.vars-vars.ensures.small in
     let few : length s.universe.vars < 2 ^ 31 = omega (arith, count, vars, small) in
     subst (λ (u : Levels). length u.vars < 2 ^ 31) (sym c.universe.ensures) few
