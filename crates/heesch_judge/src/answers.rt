@@ -7,7 +7,8 @@ ghost use Rattle.heesch_grid.specs.Polyform.{IsCanonicalListOf};
 ghost use Rattle.heesch_levels.specs.Answer.{IsLevelAnswer, NamesEmptyClause, NamesEmptyClauses};
 ghost use Rattle.heesch_levels.specs.UpTo.{IsAnswerUpTo};
 ghost use Rattle.heesch_levels.specs.Wall.{ShowsHoles, level_answer};
-ghost use Rattle.heesch_judge.specs.Judged.{AreJudgedLayers, IsJudgedLevel, IsJudgedWall, IsRefutationAtOnce, IsSourceOf};
+ghost use Rattle.heesch_judge.specs.Judged.{AreJudgedLayers, IsJudgedLevel, IsJudgedWall, IsSourceOf};
+ghost use Rattle.heesch_judge.specs.Judged.{IsRefutationAtOnce};
 
 use crate::coronas::spells_up_to;
 use crate::empty::first_empty;

@@ -1,12 +1,14 @@
 //! The values that unit propagation gives.
-ghost use Rattle.std.specs.Prelude.{◌≡◌, ◌≢◌, ◌<◌, ◌+◌, ◌∷◌, ◌↔◌, [], ℕ, None, Some, List, IfOk, IfSome, IsFalse, IsTrue, MatchOption, length, slice_set, vec_len};
+ghost use Rattle.std.specs.Prelude.{◌≡◌, ◌≢◌, ◌<◌, ◌+◌, ◌∷◌, ◌↔◌, [], None, Some, List, length, slice_set, vec_len};
+ghost use Rattle.std.specs.Prelude.{IfOk, IfSome, IsFalse, IsTrue, MatchOption};
 ghost use Rattle.heesch_cnf.specs.declared.literal.Lit.{Lit as Literal};
 ghost use Rattle.heesch_cnf.specs.Clauses.{AreClauses, IsClause};
 ghost use Rattle.heesch_cnf.specs.Left.{IsLeft};
 ghost use Rattle.heesch_cnf.specs.Lines.{clauses_of, clauses_with};
 ghost use Rattle.heesch_cnf.specs.Literals.{held};
 ghost use Rattle.heesch_trail.specs.Fixpoint.{IsFixpoint};
-ghost use Rattle.heesch_judge.specs.Propagation.{EndsOpen, Forces, HasConflict, HasConflictOver, IsPropagated, PassesOver};
+ghost use Rattle.heesch_judge.specs.Propagation.{EndsOpen, Forces, HasConflict, HasConflictOver};
+ghost use Rattle.heesch_judge.specs.Propagation.{IsPropagated, PassesOver};
 
 use crate::empty::all_open;
 use heesch_cnf::{ClauseSource, Left, Lit, left_in};
