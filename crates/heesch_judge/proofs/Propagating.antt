@@ -137,9 +137,10 @@ module _ (clauses : List (List Lit)) (i : ℕ) (below : i < length clauses) wher
   more_apart : (v : Values) → IsFixpoint v (take (i + 1) clauses) → IsFixpoint v (take i clauses) × IsFixpoint v (get_or clauses i [] ∷ [])
   more_apart v all =
       let P = IsSettled v in
-      let split = subst (All P) (take_more clauses i [] below) all in
-      (All-from_members P (take i clauses) (λ c m. All-contains P (take i clauses ++ get_or clauses i [] ∷ []) c split (Contains-append_left (take i clauses) (get_or clauses i [] ∷ []) c m)),
-      All-from_members P (get_or clauses i [] ∷ []) (λ c m. All-contains P (take i clauses ++ get_or clauses i [] ∷ []) c split (Contains-append_right (take i clauses) (get_or clauses i [] ∷ []) c m)))
+      let split = subst (All P) (take_more clauses i [] below) all in (
+        All-from_members P (take i clauses) (λ c m. All-contains P (take i clauses ++ get_or clauses i [] ∷ []) c split (Contains-append_left (take i clauses) (get_or clauses i [] ∷ []) c m)),
+        All-from_members P (get_or clauses i [] ∷ []) (λ c m. All-contains P (take i clauses ++ get_or clauses i [] ∷ []) c split (Contains-append_right (take i clauses) (get_or clauses i [] ∷ []) c m)),
+      )
 
   more_together : (v : Values) → IsFixpoint v (take i clauses) → IsFixpoint v (get_or clauses i [] ∷ []) → IsFixpoint v (take (i + 1) clauses)
   more_together v first last = All-more (IsSettled v) clauses i [] below first (All-head (IsSettled v) (get_or clauses i []) [] last)
@@ -159,9 +160,10 @@ whole_pass clauses n before after g all p = subst (λ cs. IsPass cs before g aft
 module _ (xs ys : List (List Lit)) where
   pub both_apart : (v : Values) → IsFixpoint v (xs ++ ys) → IsFixpoint v ys × IsFixpoint v xs
   both_apart v all =
-      let P = IsSettled v in
-      (All-from_members P ys (λ c m. All-contains P (xs ++ ys) c all (Contains-append_right xs ys c m)),
-      All-from_members P xs (λ c m. All-contains P (xs ++ ys) c all (Contains-append_left xs ys c m)))
+      let P = IsSettled v in (
+        All-from_members P ys (λ c m. All-contains P (xs ++ ys) c all (Contains-append_right xs ys c m)),
+        All-from_members P xs (λ c m. All-contains P (xs ++ ys) c all (Contains-append_left xs ys c m)),
+      )
 
   pub both_together : (v : Values) → IsFixpoint v ys → IsFixpoint v xs → IsFixpoint v (xs ++ ys)
   both_together v second first = All-append (IsSettled v) xs ys first second

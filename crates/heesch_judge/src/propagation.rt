@@ -106,11 +106,7 @@ fn pass<C: ClauseSource, S: Steps>(
 }
 
 /// The same again and again, until no value comes. Whether it ends without a conflict.
-fn propagate<C: ClauseSource, S: Steps>(
-    formula: &C,
-    steps: &S,
-    values: &mut [Option<bool>],
-) -> bool
+fn propagate<C: ClauseSource, S: Steps>(formula: &C, steps: &S, values: &mut [Option<bool>]) -> bool
     requires room { (C.listed formula.now).vars < length values.old }
     requires form { AreClauses (C.listed formula.now).vars (clauses_of (S.written steps.now).lines) }
     ensures conflict { let clauses = clauses_with (C.listed formula.now).clauses (S.written steps.now).lines in

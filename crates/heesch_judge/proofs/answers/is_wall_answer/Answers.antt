@@ -17,7 +17,7 @@ returns g c =
     let some : 1 ≤ s.universe.level = subst (λ (u : Levels). 1 ≤ u.level) c.universe.ensures c.level-level.ensures.range.0 in
     let same : c.level-level.result ≡ s.universe.level = c.level-level.ensures.level ∙ ap (λ (u : Levels). u.level) c.universe.ensures in
     let judged : IfOk c.judges_wall.result (λ (yes : Bool). IsTrue yes ↔ IsJudgedWall geometry shape s s.universe.level c.args.turns answer)
-        = subst (λ n. IfOk c.judges_wall.result (λ (yes : Bool). IsTrue yes ↔ IsJudgedWall geometry shape s n c.args.turns answer)) same c.judges_wall.ensures in
+    = subst (λ n. IfOk c.judges_wall.result (λ (yes : Bool). IsTrue yes ↔ IsJudgedWall geometry shape s n c.args.turns answer)) same c.judges_wall.ensures in
     record {
       judged = judged;
       answer = IfOk-weaker c.judges_wall.result _ _ (λ told is t size fits. wall_right geometry law shape form s c.requires.source some c.args.turns answer (is.0 t) size fits) judged;
