@@ -1,4 +1,5 @@
 pub mod Admitted
+pub mod Propagation
 pub mod Closed
 pub mod Spelling
 pub mod Judged

@@ -5,16 +5,17 @@ ghost use Rattle.heesch_cnf.specs.declared.version.Version.TheVariants.{Two};
 ghost use Rattle.heesch_grid.specs.Clauses.{formula_size};
 ghost use Rattle.heesch_grid.specs.Polyform.{IsCanonicalListOf};
 ghost use Rattle.heesch_levels.specs.Answer.{IsLevelAnswer, NamesEmptyClause, NamesEmptyClauses};
-ghost use Rattle.heesch_levels.specs.UpTo.{IsAnswerUpTo, RefutesUpTo};
+ghost use Rattle.heesch_levels.specs.UpTo.{IsAnswerUpTo};
 ghost use Rattle.heesch_levels.specs.Wall.{ShowsHoles, level_answer};
-ghost use Rattle.heesch_judge.specs.Judged.{IsSourceOf};
+ghost use Rattle.heesch_judge.specs.Judged.{AreJudgedLayers, IsJudgedLevel, IsJudgedWall, IsSourceOf};
+ghost use Rattle.heesch_judge.specs.Judged.{IsRefutationAtOnce};
 
 use crate::coronas::spells_up_to;
 use crate::empty::first_empty;
 use crate::logs::has_no_cut;
 use crate::refuted::refutes_up_to;
 use crate::spent::is_spent_up_to;
-use heesch_cert::Proof;
+use heesch_cert::{Layers, Proof};
 use heesch_cnf::NewnessSource;
 use heesch_grid::Grid;
 use heesch_io::NoMemory;
@@ -67,10 +68,7 @@ fn is_refutation<G: Grid>(
     proof: &Proof,
 ) -> Result<bool, NoMemory>
     requires source { IsSourceOf G.geometry shape.now source.now }
-    ensures refutes { IfOk result (λ yes. IsTrue yes → (size : ℕ) → formula_size source.now.formula.clauses ≤ size
-        → RefutesUpTo Two G.geometry shape.now source.now.universe.level free_levels size proof.now) }
-    ensures at_once { let answer = LevelAnswer.Refuted proof.now in
-        IfOk result (λ yes. IsTrue yes → NamesEmptyClauses Two G.geometry shape.now source.now.universe.level answer) }
+    ensures { IfOk result (λ yes. IsTrue yes ↔ IsRefutationAtOnce G.geometry source.now free_levels proof.now) }
 {
     let named = names_first(alloc, source, proof)?;
     if !named {
@@ -79,42 +77,108 @@ fn is_refutation<G: Grid>(
     refutes_up_to(alloc, shape, source, free_levels, proof)
 }
 
+/// Whether the layers spell coronas of the level of the source, hole-free ones at the levels 1 to `free_levels`.
+fn are_layers<G: Grid>(
+    alloc: Global,
+    shape: &Shape<G>,
+    source: &CoronaSource<G>,
+    free_levels: u32,
+    layers: &Layers,
+) -> Result<bool, NoMemory>
+    requires canonical { IsCanonicalListOf G.geometry shape.now shape.now }
+    ensures { IfOk result (λ yes.
+        IsTrue yes ↔ AreJudgedLayers G.geometry shape.now source.now free_levels layers.now) }
+{
+    let level = source.universe().level();
+    spells_up_to(alloc, shape, level, free_levels, layers)
+}
+
+/// Whether the answer is what it claims to be.
+fn judges_level<G: Grid>(
+    alloc: Global,
+    shape: &Shape<G>,
+    source: &CoronaSource<G>,
+    free_levels: u32,
+    turns: u32,
+    answer: &LevelAnswer,
+) -> Result<bool, NoMemory>
+    requires source { IsSourceOf G.geometry shape.now source.now }
+    requires canonical { IsCanonicalListOf G.geometry shape.now shape.now }
+    ensures { IfOk result (λ yes.
+        IsTrue yes ↔ IsJudgedLevel G.geometry shape.now source.now free_levels turns answer.now) }
+{
+    match answer {
+        LevelAnswer::Coronas { layers } => are_layers(alloc, shape, source, free_levels, layers),
+        LevelAnswer::Refuted { proof } => is_refutation(alloc, shape, source, free_levels, proof),
+        LevelAnswer::Spent { proof } => {
+            is_spent_up_to(alloc, shape, source, free_levels, turns, proof)
+        }
+        LevelAnswer::TooLarge => Ok(false),
+    }
+}
+
+/// The same of an answer on the wall.
+fn judges_wall<G: Grid>(
+    alloc: Global,
+    shape: &Shape<G>,
+    source: &CoronaSource<G>,
+    level: u32,
+    turns: u32,
+    answer: &WallAnswer,
+) -> Result<bool, NoMemory>
+    requires source { IsSourceOf G.geometry shape.now source.now }
+    requires canonical { IsCanonicalListOf G.geometry shape.now shape.now }
+    ensures { IfOk result (λ yes.
+        IsTrue yes ↔ IsJudgedWall G.geometry shape.now source.now level turns answer.now) }
+{
+    match answer {
+        WallAnswer::Coronas { layers } => are_layers(alloc, shape, source, level, layers),
+        WallAnswer::Refuted { proof } => {
+            if !has_no_cut(proof) {
+                return Ok(false);
+            }
+            is_refutation(alloc, shape, source, level, proof)
+        }
+        WallAnswer::Holed { proof, layers } => {
+            let spelled = are_layers(alloc, shape, source, 0, layers)?;
+            if !spelled {
+                return Ok(false);
+            }
+            is_refutation(alloc, shape, source, level, proof)
+        }
+        WallAnswer::Spent { proof } => is_spent_up_to(alloc, shape, source, level, turns, proof),
+        WallAnswer::TooLarge => Ok(false),
+    }
+}
+
 /// Whether the answer is one of `heesch_levels::level_up_to` in the second version, for so many turns and with holes
-/// forbidden at the levels 1 to `free_levels`: coronas, a refutation, which names the first empty clause at once where
-/// one is empty, or a spent proof, which the values show to leave the formula open, as `is_spent_up_to` says. It is
-/// never TooLarge, since there is a source.
+/// forbidden at the levels 1 to `free_levels`: coronas with translations within 100,000 of 0; a refutation, as
+/// `refutes_up_to` says, which names the first empty clause at once where one is empty; or a spent proof, as
+/// `is_spent_up_to` says. It is never TooLarge, since there is a source.
 ///
-/// Condition: the source is that of this shape, which is its own canonical list. Proofs, layers and values may be any.
-/// The cost is that of `spells_up_to`, or `first_empty` and `refutes_up_to`, or `is_spent_up_to`.
+/// Condition: the source is that of this shape, which is its own canonical list. Proofs and layers may be any. The
+/// cost is that of `spells_up_to`, or `first_empty` and `refutes_up_to`, or `is_spent_up_to`.
 pub fn is_level_answer<G: Grid>(
     alloc: Global,
     shape: &Shape<G>,
     source: &CoronaSource<G>,
     free_levels: u32,
     turns: u32,
-    values: &[Option<bool>],
     answer: &LevelAnswer,
 ) -> Result<bool, NoMemory>
     requires source { IsSourceOf G.geometry shape.now source.now }
     requires canonical { IsCanonicalListOf G.geometry shape.now shape.now }
+    ensures judged { IfOk result (λ yes.
+        IsTrue yes ↔ IsJudgedLevel G.geometry shape.now source.now free_levels turns answer.now) }
     ensures answer { IfOk result (λ yes. IsTrue yes → (size : ℕ) → formula_size source.now.formula.clauses ≤ size
         → IsAnswerUpTo Two G.geometry shape.now source.now.universe.level free_levels turns size answer.now) }
     ensures at_once { IfOk result (λ yes. IsTrue yes
         → NamesEmptyClauses Two G.geometry shape.now source.now.universe.level answer.now) }
 {
-    // Reading the cells tells the proof that they are a polyform.
+    // Reading the cells and the level tells the proof that they are a polyform, and that it is at least 1.
     let _cells = shape.cells();
-    match answer {
-        LevelAnswer::Coronas { layers } => {
-            let level = source.universe().level();
-            spells_up_to(alloc, shape, level, free_levels, layers)
-        }
-        LevelAnswer::Refuted { proof } => is_refutation(alloc, shape, source, free_levels, proof),
-        LevelAnswer::Spent { proof } => {
-            is_spent_up_to(alloc, shape, source, free_levels, turns, values, proof)
-        }
-        LevelAnswer::TooLarge => Ok(false),
-    }
+    let _level = source.universe().level();
+    judges_level(alloc, shape, source, free_levels, turns, answer)
 }
 
 /// Whether the answer is one of `heesch_levels::wall` in the second version, for so many turns: as `is_level_answer`
@@ -127,11 +191,12 @@ pub fn is_wall_answer<G: Grid>(
     shape: &Shape<G>,
     source: &CoronaSource<G>,
     turns: u32,
-    values: &[Option<bool>],
     answer: &WallAnswer,
 ) -> Result<bool, NoMemory>
     requires source { IsSourceOf G.geometry shape.now source.now }
     requires canonical { IsCanonicalListOf G.geometry shape.now shape.now }
+    ensures judged { IfOk result (λ yes.
+        IsTrue yes ↔ IsJudgedWall G.geometry shape.now source.now source.now.universe.level turns answer.now) }
     ensures answer { IfOk result (λ yes. IsTrue yes → (size : ℕ) → formula_size source.now.formula.clauses ≤ size
         → IsLevelAnswer Two G.geometry shape.now source.now.universe.level true turns size (level_answer answer.now)) }
     ensures holes { IfOk result (λ yes. IsTrue yes
@@ -142,24 +207,5 @@ pub fn is_wall_answer<G: Grid>(
     // Reading the cells tells the proof that they are a polyform.
     let _cells = shape.cells();
     let level = source.universe().level();
-    match answer {
-        WallAnswer::Coronas { layers } => spells_up_to(alloc, shape, level, level, layers),
-        WallAnswer::Refuted { proof } => {
-            if !has_no_cut(proof) {
-                return Ok(false);
-            }
-            is_refutation(alloc, shape, source, level, proof)
-        }
-        WallAnswer::Holed { proof, layers } => {
-            let spelled = spells_up_to(alloc, shape, level, 0, layers)?;
-            if !spelled {
-                return Ok(false);
-            }
-            is_refutation(alloc, shape, source, level, proof)
-        }
-        WallAnswer::Spent { proof } => {
-            is_spent_up_to(alloc, shape, source, level, turns, values, proof)
-        }
-        WallAnswer::TooLarge => Ok(false),
-    }
+    judges_wall(alloc, shape, source, level, turns, answer)
 }

@@ -37,21 +37,22 @@ fn second_level<G: Grid>(
     }
 }
 
-/// Searches for j coronas of the shape whose patches of the levels 1 to `free_levels` are hole-free, by a solver on
-/// the corona formula of level j in this version: with 0 holes are allowed, with j forbidden, and with j - 1 they may
-/// stand in the outermost corona alone.
+/// Whether there are j coronas of the shape whose patches of the levels 1 to `free_levels` are hole-free: with 0 holes
+/// are allowed, with j forbidden, and with j - 1 they may stand in the outermost corona alone.
 ///
-/// `TooLarge` comes exactly where the formula has more than `size` literals. `Refuted` comes at once, without a step,
-/// where a clause of the formula is empty. `Spent` comes only where the proof has exactly `turns` steps, each of them
-/// new, and no final line holds over it. Each model that leaves a hole at a level where none may be is answered by a
-/// cut of that level against it, which is a step.
+/// In the second version the search over the geometry proposes an answer, and what the judge takes is answered:
+/// coronas, a refutation, or a proof of `turns` steps. Where it takes none, and in the first version, the solver on the
+/// formula is asked (`heesch_levels::level_up_to`).
+///
+/// `TooLarge` comes exactly where the formula of this version has more than `size` literals, though it isn't made.
+/// `Refuted` comes at once, without a step, where a clause of the formula is empty. `Spent` comes only where each of
+/// the steps is new, and no final line holds over them.
 ///
 /// Condition: j is 1 to 6, `free_levels` at most j, `turns` 1 to 1,000,000, `size` 1 to 60,000,000, and the shape is
 /// its own canonical list.
 ///
-/// The cost is that of the formula, with that of the first `free_levels` levels where they are some and not all, and
-/// of the solver; that of `cut_for` for each model, where holes are forbidden at all; and at the end a look at each
-/// variable for each level, or at each step. The clauses of the steps are moved.
+/// The cost is that of the source of the formula, of the search over the cover table, with a cut for each model that
+/// leaves a hole, and of the judge; and where the solver is asked, that of `heesch_levels::level_up_to`.
 pub fn level_up_to<G: Grid>(
     alloc: Global,
     shape: &Shape<G>,
@@ -93,19 +94,13 @@ fn levels_without_holes(j: u32, hole_free: bool) -> u32
     if hole_free { j } else { 0 }
 }
 
-/// Searches for j coronas of the shape, hole-free ones where `hole_free`, by a solver on the corona formula of level j
-/// in this version.
+/// Whether there are j coronas of the shape, hole-free ones where `hole_free`: what `level_up_to` answers with holes
+/// forbidden at all levels, or at none.
 ///
-/// `TooLarge` comes exactly where the formula has more than `size` literals. `Refuted` comes only where there are no
-/// such coronas, and at once, without a step, where a clause of the formula is empty. `Spent` comes only where the
-/// proof has exactly `turns` steps, each of them new, and no final line holds over it; never where 3 to the power of
-/// the formula's variables is below `turns`. Where holes are forbidden, each model that leaves a hole is answered by a
-/// cut against it, which is a step; where they are allowed, no step is a cut.
+/// `Refuted` comes only where there are no such coronas. `Spent` comes never where 3 to the power of the formula's
+/// variables is below `turns`. Where holes are allowed, no step is a cut.
 ///
-/// Condition: j is 1 to 6, `turns` 1 to 1,000,000, `size` 1 to 60,000,000, and the shape is its own canonical list.
-///
-/// The cost is that of the formula and of the solver; where holes are forbidden, that of `cut_for` for each model; and
-/// at the end a look at each variable for each level, or at each step. The clauses of the steps are moved.
+/// The condition and the cost are those of `level_up_to`.
 pub fn level<G: Grid>(
     alloc: Global,
     shape: &Shape<G>,

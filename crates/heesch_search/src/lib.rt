@@ -7,7 +7,6 @@
 #![tactic(auto)]
 
 mod levels;
-mod propagation;
 mod proposals;
 mod walls;
 

@@ -11,9 +11,9 @@ ghost use Rattle.heesch_levels.specs.Wall.{ShowsHoles, level_answer};
 ghost use Rattle.heesch_chart.specs.Sizes.{AdvisesOn, HasValues};
 ghost use Rattle.heesch_search.specs.Said.{HasSource, SaysLevel, SaysWall};
 
-use crate::propagation::propagated;
 use heesch_cert::Proof;
 use heesch_chart::{Advice, search_level};
+use heesch_cnf::ClauseSource;
 use heesch_encode::EncodeStop;
 use heesch_grid::Grid;
 use heesch_io::{NoMemory, Seq};
@@ -22,16 +22,6 @@ use heesch_levels::{LevelAnswer, WallAnswer, layers_of};
 use heesch_numbers::CoronaSource;
 use heesch_shape::Shape;
 use std::alloc::Global;
-
-/// A universe has fewer variables than this.
-const VARIABLES_MAX: u32 = 1 << 31;
-
-/// An answer to be judged, and behind a spent proof the values that unit propagation gives.
-#[derive(Drop)]
-struct Proposal<A> {
-    answer: A,
-    values: Vec<Option<bool>>,
-}
 
 /// The source of the second corona formula of the shape and the level, where that has at most `size` literals.
 pub(crate) fn source_of<G: Grid>(
@@ -54,35 +44,21 @@ pub(crate) fn source_of<G: Grid>(
     }
 }
 
-/// A proposal that needs no values.
-fn without_values<A>(alloc: Global, answer: A) -> Proposal<A> {
-    Proposal {
-        answer,
-        values: Vec::new(alloc),
-    }
-}
-
 /// The answer of the level that the advice proposes.
 fn level_proposal<G: Grid>(
     alloc: Global,
     source: &CoronaSource<G>,
     advice: Advice,
-) -> Result<Option<Proposal<LevelAnswer>>, NoMemory>
+) -> Result<Option<LevelAnswer>, NoMemory>
     requires { AdvisesOn (length source.now.universe.vars) advice }
 {
     match advice {
         Advice::Coronas { values } => {
             let layers = layers_of(alloc, source.universe(), values.as_slice())?;
-            Ok(Some(without_values(alloc, LevelAnswer::Coronas { layers })))
+            Ok(Some(LevelAnswer::Coronas { layers }))
         }
-        Advice::Refuted { proof, .. } => {
-            Ok(Some(without_values(alloc, LevelAnswer::Refuted { proof })))
-        }
-        Advice::Spent { proof } => {
-            let values = propagated(alloc, source, &proof)?;
-            let answer = LevelAnswer::Spent { proof };
-            Ok(Some(Proposal { answer, values }))
-        }
+        Advice::Refuted { proof, .. } => Ok(Some(LevelAnswer::Refuted { proof })),
+        Advice::Spent { proof } => Ok(Some(LevelAnswer::Spent { proof })),
         Advice::GaveUp => Ok(None),
     }
 }
@@ -93,18 +69,17 @@ fn refuted_wall<G: Grid>(
     source: &CoronaSource<G>,
     proof: Proof,
     holed: Option<Seq<bool>>,
-) -> Result<Option<Proposal<WallAnswer>>, NoMemory>
+) -> Result<Option<WallAnswer>, NoMemory>
     requires { HasValues (length source.now.universe.vars) holed }
 {
     if has_no_cut(&proof) {
-        return Ok(Some(without_values(alloc, WallAnswer::Refuted { proof })));
+        return Ok(Some(WallAnswer::Refuted { proof }));
     }
     let Some(values) = holed else {
         return Ok(None);
     };
     let layers = layers_of(alloc, source.universe(), values.as_slice())?;
-    let answer = WallAnswer::Holed { proof, layers };
-    Ok(Some(without_values(alloc, answer)))
+    Ok(Some(WallAnswer::Holed { proof, layers }))
 }
 
 /// The answer on the wall that the advice proposes.
@@ -112,20 +87,16 @@ fn wall_proposal<G: Grid>(
     alloc: Global,
     source: &CoronaSource<G>,
     advice: Advice,
-) -> Result<Option<Proposal<WallAnswer>>, NoMemory>
+) -> Result<Option<WallAnswer>, NoMemory>
     requires { AdvisesOn (length source.now.universe.vars) advice }
 {
     match advice {
         Advice::Coronas { values } => {
             let layers = layers_of(alloc, source.universe(), values.as_slice())?;
-            Ok(Some(without_values(alloc, WallAnswer::Coronas { layers })))
+            Ok(Some(WallAnswer::Coronas { layers }))
         }
         Advice::Refuted { proof, holed } => refuted_wall(alloc, source, proof, holed),
-        Advice::Spent { proof } => {
-            let values = propagated(alloc, source, &proof)?;
-            let answer = WallAnswer::Spent { proof };
-            Ok(Some(Proposal { answer, values }))
-        }
+        Advice::Spent { proof } => Ok(Some(WallAnswer::Spent { proof })),
         Advice::GaveUp => Ok(None),
     }
 }
@@ -142,12 +113,9 @@ fn advice_on<G: Grid>(
     requires canonical { IsCanonicalListOf G.geometry shape.now shape.now }
     ensures { IfOk result (AdvisesOn (length source.now.universe.vars)) }
 {
-    let universe = source.universe();
-    // No universe has so many variables: the test tells the proof so.
-    if universe.count() >= VARIABLES_MAX {
-        return Ok(Advice::GaveUp);
-    }
-    search_level(alloc, shape, universe, free_levels, turns)
+    // The formula has fewer than 2^31 variables, and so the universe has: reading their number tells the proof so.
+    let _vars = source.vars();
+    search_level(alloc, shape, source.universe(), free_levels, turns)
 }
 
 /// The answer of the level of the source that is proposed, where the judge finds it true.
@@ -167,11 +135,10 @@ fn judged_level<G: Grid>(
         (NamesEmptyClauses Two G.geometry shape.now source.now.universe.level)) }
 {
     let advice = advice_on(alloc, shape, source, free_levels, turns)?;
-    let Some(proposal) = level_proposal(alloc, source, advice)? else {
+    let Some(answer) = level_proposal(alloc, source, advice)? else {
         return Ok(None);
     };
-    let Proposal { answer, values } = proposal;
-    let holds = is_level_answer(alloc, shape, source, free_levels, turns, &values, &answer)?;
+    let holds = is_level_answer(alloc, shape, source, free_levels, turns, &answer)?;
     if holds { Ok(Some(answer)) } else { Ok(None) }
 }
 
@@ -193,11 +160,10 @@ fn judged_wall<G: Grid>(
 {
     let level = source.universe().level();
     let advice = advice_on(alloc, shape, source, level, turns)?;
-    let Some(proposal) = wall_proposal(alloc, source, advice)? else {
+    let Some(answer) = wall_proposal(alloc, source, advice)? else {
         return Ok(None);
     };
-    let Proposal { answer, values } = proposal;
-    let holds = is_wall_answer(alloc, shape, source, turns, &values, &answer)?;
+    let holds = is_wall_answer(alloc, shape, source, turns, &answer)?;
     if holds { Ok(Some(answer)) } else { Ok(None) }
 }
 

@@ -35,15 +35,14 @@ fn second_wall<G: Grid>(
     }
 }
 
-/// Searches for j hole-free coronas of the shape, as `level` does, and where there are none tells whether there are
-/// any with holes.
+/// Whether there are j hole-free coronas of the shape, as `level` says; and where there are none, whether there are any
+/// with holes.
 ///
-/// There are some exactly where the refutation has a cut: each cut was made against a model, whose layers are j
-/// coronas with a hole. Those of the first such model are answered, and it is the one that the search with holes
-/// allowed ends with; so behind `Refuted` or `Holed` that search need not be made at this level.
+/// There are some exactly where the refutation has a cut: each cut is made against a model, whose layers are j coronas
+/// with a hole. Those of the first such model are answered beside the refutation, as the judge finds them to be. So
+/// behind `Refuted` or `Holed` the search with holes allowed need not be made at this level.
 ///
-/// The condition and the cost are those of `level`, and behind a refutation with cuts one more look at each variable
-/// for each level.
+/// The condition and the cost are those of `level`, and behind a refutation with cuts the judge's look at these layers.
 pub fn wall<G: Grid>(
     alloc: Global,
     shape: &Shape<G>,

@@ -1,10 +1,16 @@
-use Rattle.std.proofs.Common.{◌≡◌, true, rules}
+use Rattle.std.proofs.Common.{◌≡◌, ◌∙◌, true, false, rules, sym, true≢false}
 use Rattle.std.proofs.lemmas.Result.{IfOk-weaker}
-use Rattle.heesch_levels.specs.declared.answer.LevelAnswer.TheVariants.{Refuted}
-use Rattle.heesch_judge.proofs.Judging.{names}
+use Rattle.heesch_judge.proofs.Equal.{refused}
 use Rattle.heesch_judge.proofs.answers.is_refutation.Goals as goal
 
-pub returns-clause-at_once : goal.returns-clause-at_once
-returns-clause-at_once g c =
+pub returns-then-not-named : goal.returns-then-not-named
+returns-then-not-named g c =
+    let fails : c.in_ok-named.named ≡ false = search rules in
+    refused (λ r. true≢false (sym (c.in_ok-named.ensures.1 r.at_once) ∙ fails))
+
+pub returns : goal.returns
+returns g c =
     let holds : c.in_ok-named.named ≡ true = search rules in
-    IfOk-weaker c.refutes_up_to.result _ _ (λ told judged t. names g.G.Grid.geometry c.args.shape.now c.args.source.now c.requires.source (Refuted c.args.proof.now) (c.in_ok-named.ensures.0 holds)) c.refutes_up_to.ensures.judged
+    IfOk-weaker c.refutes_up_to.result _ _
+    (λ told judged. ((λ t. record { refutation = judged.0 t; at_once = c.in_ok-named.ensures.0 holds }), (λ r. judged.1 r.refutation)))
+    c.refutes_up_to.ensures.judged

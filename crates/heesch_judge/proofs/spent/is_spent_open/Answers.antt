@@ -1,4 +1,5 @@
-use Rattle.std.proofs.Common.{◌≡◌, ◌∙◌, ◌<◌, length, false, true, arith, rules, sym, true≢false}
+use Rattle.std.proofs.Common.{◌≡◌, ◌∙◌, false, true, rules, sym, true≢false}
+use Rattle.std.proofs.lemmas.Result.{IfOk-weaker}
 use Rattle.heesch_judge.proofs.Equal.{refused}
 use Rattle.heesch_judge.proofs.Settled.{lines_form}
 use Rattle.heesch_judge.proofs.spent.is_spent_open.Goals as goal
@@ -8,17 +9,15 @@ returns-then-not-spent g c =
     let fails : c.in_ok-spent.spent ≡ false = search rules in
     refused (λ r. true≢false (sym (c.in_ok-spent.ensures.1 r.is_spent) ∙ fails))
 
-pub is_closed-requires-clause-form : goal.is_closed-requires-clause-form
-is_closed-requires-clause-form g c =
+pub ends_open-requires : goal.ends_open-requires
+ends_open-requires g c =
     let f = g.N.ClauseSource.listed c.args.formula.now in
     let holds : c.in_ok-spent.spent ≡ true = search rules in
-    lines_form f.vars f.clauses c.args.log.now.lines (c.in_ok-spent.ensures.0 holds).lines
+    record { form = lines_form f.vars f.clauses c.args.log.now.lines (c.in_ok-spent.ensures.0 holds).lines }
 
 pub returns : goal.returns
 returns g c =
-    let f = g.N.ClauseSource.listed c.args.formula.now in
     let holds : c.in_ok-spent.spent ≡ true = search rules in
-    let room : f.vars < length c.args.values.now = omega arith in (
-      (λ t. record { is_spent = c.in_ok-spent.ensures.0 holds; closed = record { room = room; fixpoint = c.is_closed.ensures.0 t } }),
-      (λ r. c.is_closed.ensures.1 r.closed.fixpoint),
-    )
+    IfOk-weaker c.ends_open.result _ _
+    (λ told ends. ((λ t. record { is_spent = c.in_ok-spent.ensures.0 holds; open_still = ends.0 t }), (λ r. ends.1 r.open_still)))
+    c.ends_open.ensures

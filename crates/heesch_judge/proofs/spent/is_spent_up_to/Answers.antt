@@ -14,7 +14,7 @@ returns-in_default g c =
     let proof = c.args.proof.now in
     let fails = subst (λ (o : Option Log). MatchOption o (¬ IsAdmitted geometry u k proof) (IsLogOf geometry u k proof)) c.in_default.is c.in_ok-log.ensures in
     record {
-      judged = no_spent_proof geometry c.args.source.now u c.universe.ensures k proof c.args.turns c.args.values.now fails;
+      judged = no_spent_proof geometry c.args.source.now u c.universe.ensures k proof c.args.turns fails;
       spent = λ t. absurd (true≢false (sym t));
     }
 
@@ -26,8 +26,8 @@ returns g c =
     let proof = c.args.proof.now in
     let s = c.args.source.now in
     let is = subst (λ (o : Option Log). MatchOption o (¬ IsAdmitted geometry u k proof) (IsLogOf geometry u k proof)) c.in-Some.is c.in_ok-log.ensures in
-    let told = spent_told geometry s u c.universe.ensures k proof c.args.turns c.args.values.now c.in-Some.log is in
+    let told = spent_told geometry s u c.universe.ensures k proof c.args.turns c.in-Some.log is in
     record {
       judged = IfOk-weaker c.is_spent_open.result _ _ (λ answer tells. told answer tells) c.is_spent_open.ensures;
-      spent = IfOk-weaker c.is_spent_open.result _ _ (λ answer tells t. spent_up_to geometry c.args.shape.now s c.requires.source k proof c.args.turns c.args.values.now ((told answer tells).0 t)) c.is_spent_open.ensures;
+      spent = IfOk-weaker c.is_spent_open.result _ _ (λ answer tells t. spent_up_to geometry c.args.shape.now s c.requires.source k proof c.args.turns ((told answer tells).0 t)) c.is_spent_open.ensures;
     }
