@@ -1,6 +1,7 @@
 pub mod Equal
 pub mod LogLines
 pub mod Settled
+pub mod Propagating
 pub mod Ends
 pub mod FirstEmpty
 pub mod Spelled

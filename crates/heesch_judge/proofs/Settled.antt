@@ -13,10 +13,11 @@ use Rattle.heesch_cnf.specs.declared.values.Left.TheVariants.{Nothing, One, More
 use Rattle.heesch_cnf.specs.Clauses.{AreClauses, IsClause, left_of}
 use Rattle.heesch_cnf.specs.Left.{IsLeft}
 use Rattle.heesch_cnf.specs.Lines.{LineHolds, LinesHold, clause_of, clauses_of, clauses_with}
-use Rattle.heesch_cnf.specs.Literals.{Values, is_false_value, is_true_value, lit_value}
+use Rattle.heesch_cnf.specs.Literals.{Values, is_false_value, is_true_value, lit_value, signed}
 use Rattle.heesch_cnf.proofs.Lists.{Contains-cases, Contains-filter, Contains-here, Contains-none, Contains-there}
 use Rattle.heesch_cnf.proofs.Rising.{Rises, Rises-filter, Rises-from_adjacent}
 use Rattle.heesch_trail.specs.Fixpoint.{IsFixpoint, IsSettled}
+use Rattle.heesch_judge.specs.Propagation.{Extends}
 use Rattle.heesch_judge.proofs.Equal.{granted, refused}
 use Rattle.heesch_judge.proofs.LogLines.{each_more}
 
@@ -48,34 +49,53 @@ is_true o e = ap is_true_value e
 only : (x l : Lit) → Contains (x ∷ []) l → x ≡ l
 only x l h = elim (Contains-cases x [] l h) [ inl e ↦ e | inr none ↦ absurd (Contains-none l none) ]
 
-module _ (values : Values) (clause : List Lit) where
-  -- a literal of the clause that is true, or open, is left
-  true_left : (l : Lit) → Contains clause l → lit_value values l ≡ Some true → Contains (left_of values clause) l
-  true_left l has e = Contains-filter (λ m. not (is_false_value (lit_value values m))) clause l has (ap (λ o. not (is_false_value o)) e)
+-- a literal that isn't false stays so under fewer values
+not_false_before : (others values : Values) → Extends others values → (l : Lit) → not (is_false_value (lit_value others l)) ≡ true → not (is_false_value (lit_value values l)) ≡ true
+not_false_before others values extends l h = by_value (values l.var) refl
+  where
+    open_stays : (sign : Bool) → not (is_false_value (signed sign None)) ≡ true
+    open_stays true = refl
+    open_stays false = refl
 
-  open_left : (l : Lit) → Contains clause l → lit_value values l ≡ None → Contains (left_of values clause) l
-  open_left l has e = Contains-filter (λ m. not (is_false_value (lit_value values m))) clause l has (ap (λ o. not (is_false_value o)) e)
+    by_value : (o : Option Bool) → values l.var ≡ o → not (is_false_value (lit_value values l)) ≡ true
+    by_value None e = ap (λ o. not (is_false_value (signed l.positive o))) e ∙ open_stays l.positive
+    by_value (Some b) e = ap (λ o. not (is_false_value (signed l.positive o))) (e ∙ sym (extends l.var b e)) ∙ h
 
-  left_there : (l : Lit) → Contains (left_of values clause) l → Contains clause l × ((lit_value values l ≡ Some true) ⊎ (lit_value values l ≡ None))
-  left_there l h = let both = filtered (λ m. not (is_false_value (lit_value values m))) clause l h in (both.0, open_or_true (lit_value values l) both.1)
+-- what is left of a clause that is settled under further values
+module _ (others values : Values) (extends : Extends others values) (clause : List Lit) where
+  not_false_left : (l : Lit) → Contains clause l → not (is_false_value (lit_value others l)) ≡ true → Contains (left_of values clause) l
+  not_false_left l has h = Contains-filter (λ m. not (is_false_value (lit_value values m))) clause l has (not_false_before others values extends l h)
+
+  true_left : (l : Lit) → Contains clause l → lit_value others l ≡ Some true → Contains (left_of values clause) l
+  true_left l has e = not_false_left l has (ap (λ o. not (is_false_value o)) e)
+
+  open_left : (l : Lit) → Contains clause l → lit_value others l ≡ None → Contains (left_of values clause) l
+  open_left l has e = not_false_left l has (ap (λ o. not (is_false_value o)) e)
 
   -- nothing is left
-  unsettled : left_of values clause ≡ [] → ¬ IsSettled values clause
+  pub unsettled : left_of values clause ≡ [] → ¬ IsSettled others clause
   unsettled none (inl t) = Contains-none t.0 (subst (λ ls. Contains ls t.0) none (true_left t.0 t.1.0 t.1.1))
   unsettled none (inr two) = Contains-none two.one (subst (λ ls. Contains ls two.one) none (open_left two.one two.has_one two.one_open))
 
-  -- one literal is left, which is true where the clause is settled
-  one_true : (l : Lit) → left_of values clause ≡ l ∷ [] → IsSettled values clause → lit_value values l ≡ Some true
-  one_true l alone (inl t) = ap (lit_value values) (only l t.0 (subst (λ ls. Contains ls t.0) alone (true_left t.0 t.1.0 t.1.1))) ∙ t.1.1
+  -- one literal is left, which is true then
+  pub one_true : (l : Lit) → left_of values clause ≡ l ∷ [] → IsSettled others clause → lit_value others l ≡ Some true
+  one_true l alone (inl t) = ap (lit_value others) (only l t.0 (subst (λ ls. Contains ls t.0) alone (true_left t.0 t.1.0 t.1.1))) ∙ t.1.1
   one_true l alone (inr two) =
       let one = only l two.one (subst (λ ls. Contains ls two.one) alone (open_left two.one two.has_one two.one_open)) in
       let other = only l two.other (subst (λ ls. Contains ls two.other) alone (open_left two.other two.has_other two.other_open)) in
       absurd (two.differ (sym one ∙ other))
 
+same_extends : (values : Values) → Extends values values
+same_extends values x b e = e
+
+module _ (values : Values) (clause : List Lit) where
+  pub left_there : (l : Lit) → Contains (left_of values clause) l → Contains clause l × ((lit_value values l ≡ Some true) ⊎ (lit_value values l ≡ None))
+  left_there l h = let both = filtered (λ m. not (is_false_value (lit_value values m))) clause l h in (both.0, open_or_true (lit_value values l) both.1)
+
   settled_one : (l : Lit) → left_of values clause ≡ l ∷ [] → IsTrue (is_true_value (lit_value values l)) ↔ IsSettled values clause
   settled_one l alone = (
     (λ t. inl (l, ((left_there l (subst (λ ls. Contains ls l) (sym alone) (Contains-here l []))).0, true_is (lit_value values l) t))),
-    (λ s. is_true (lit_value values l) (one_true l alone s)),
+    (λ s. is_true (lit_value values l) (one_true values values (same_extends values) clause l alone s)),
   )
 
   -- two are left, of different variables
@@ -103,7 +123,7 @@ module _ (values : Values) (clause : List Lit) where
   SettledBy left settled = (vars : ℕ) → IsClause vars clause → IsLeft values clause left → IsTrue settled ↔ IsSettled values clause
 
   pub by_nothing : SettledBy Nothing false
-  by_nothing vars form none = refused (unsettled none)
+  by_nothing vars form none = refused (unsettled values values (same_extends values) clause none)
 
   pub by_one : (l : Lit) (settled : Bool) → settled ≡ is_true_value (lit_value values l) → SettledBy (One l) settled
   by_one l settled is vars form alone = subst (λ b. IsTrue b ↔ IsSettled values clause) (sym is) (settled_one l alone)

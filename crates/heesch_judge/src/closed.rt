@@ -63,7 +63,7 @@ fn are_lines_settled<S: Steps>(vars: u32, steps: &S, values: &[Option<bool>]) ->
 
 /// Whether each clause, of the formula and of the lines, has a true literal or two open ones under the values. It
 /// takes no memory, and looks at each clause once.
-pub(crate) fn is_closed<C: ClauseSource, S: Steps>(
+pub fn is_closed<C: ClauseSource, S: Steps>(
     formula: &C,
     steps: &S,
     values: &[Option<bool>],

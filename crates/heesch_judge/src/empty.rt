@@ -9,7 +9,7 @@ use heesch_io::NoMemory;
 use std::alloc::Global;
 
 /// The values of the variables 0 to `vars`, all open.
-fn all_open(alloc: Global, vars: u32) -> Result<Vec<Option<bool>>, NoMemory>
+pub(crate) fn all_open(alloc: Global, vars: u32) -> Result<Vec<Option<bool>>, NoMemory>
     ensures room { IfOk result (λ values. vec_len values ≡ vars + 1) }
     ensures open { IfOk result (λ values. held values.items ≡ refuting []) }
 {

@@ -12,13 +12,16 @@ mod empty;
 mod logs;
 mod near;
 mod proof_log;
+mod propagation;
 mod refuted;
 mod spelling;
 mod spent;
 
 pub use answers::{is_level_answer, is_wall_answer};
+pub use closed::is_closed;
 pub use coronas::spells_up_to;
 pub use empty::first_empty;
 pub use logs::has_no_cut;
+pub use propagation::propagated;
 pub use refuted::refutes_up_to;
 pub use spent::is_spent_up_to;
