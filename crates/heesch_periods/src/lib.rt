@@ -7,11 +7,11 @@
 //! of `heesch_torus` answers, which writes the formula down.
 #![tactic(auto)]
 
+mod answer;
 mod judge;
 mod log;
 mod numbers;
 mod rows;
-mod search;
 mod table;
 
-pub use search::search;
+pub use answer::search;

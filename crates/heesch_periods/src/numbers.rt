@@ -1,7 +1,8 @@
 //! The numbers of a torus formula's clauses, from the table of its variables.
-ghost use Rattle.std.specs.Prelude.{◌≡◌, ◌+◌, ◌<◌, ◌^◌};
+ghost use Rattle.std.specs.Prelude.{◌≡◌, ◌+◌, ◌/◌, ◌<◌, ◌^◌, length};
+ghost use Rattle.heesch_periods.specs.Rows.{ones_up_to};
 
-use crate::rows::{BitRows, ones_up_to};
+use crate::rows::{BitRows, ones_in, ones_up_to};
 use heesch_cover::CoverTable;
 use heesch_io::NoMemory;
 use heesch_lazy::Reason;
@@ -36,6 +37,15 @@ fn behind(count: u32, index: u32) -> u32
     count.wrapping_add(index).wrapping_add(1)
 }
 
+/// The number of the pair with a later variable, behind so many clauses before the first pair, where these bits are set
+/// of the later variables that meet it.
+fn pair_number(before: u32, row: &[u64], second: u32) -> u32
+    ensures { let number = before + ones_up_to row.now second in
+        second / 64 < length row.now → number < 2 ^ 32 → result ≡ number }
+{
+    before.wrapping_add(ones_up_to(row, second))
+}
+
 impl Numbers {
     /// Those of a table. For each variable a step for each word of bits of each of its cells.
     pub fn of(alloc: Global, table: &CoverTable) -> Result<Numbers, NoMemory> {
@@ -62,7 +72,7 @@ impl Numbers {
         self.meeting.push_union(holders, cells, variable)?;
         self.before.push(self.count)?;
         let row = self.meeting.row(index);
-        self.count = self.count.wrapping_add(ones_up_to(row, u32::MAX));
+        self.count = self.count.wrapping_add(ones_in(row));
         Ok(())
     }
 
@@ -71,7 +81,7 @@ impl Numbers {
     fn pair(&self, first: u32, second: u32) -> u32 {
         let index = (first as usize).wrapping_sub(1);
         let before = self.before.get(index).copied().unwrap_or(0);
-        before.wrapping_add(ones_up_to(self.meeting.row(index), second))
+        pair_number(before, self.meeting.row(index), second)
     }
 
     /// The number of the clause that a reason names; 0 for one that no variable asks for.

@@ -1,5 +1,6 @@
 //! Rows of bits, which are added and counted by words.
-ghost use Rattle.std.specs.Prelude.{◌≤◌, ◌<◌};
+ghost use Rattle.std.specs.Prelude.{◌≡◌, ◌+◌, ◌/◌, ◌%◌, ◌<◌, ◌^◌, length};
+ghost use Rattle.heesch_periods.specs.Rows.{ones_in, ones_up_to};
 
 use heesch_io::NoMemory;
 use std::alloc::Global;
@@ -15,33 +16,48 @@ pub(crate) struct BitRows {
 }
 
 /// The bits of a word up to this one.
-fn up_to(bit: u32) -> u64
+fn low_bits(word: u64, bit: u32) -> u64
     requires { bit < 64 }
+    ensures { result ≡ word % 2 ^ (bit + 1) }
 {
-    u64::MAX >> (BITS - 1 - bit)
+    if bit + 1 == BITS {
+        word
+    } else {
+        word & ((1 << (bit + 1)) - 1)
+    }
 }
 
-/// How many bits of a row there are up to this one. A step for each word before it.
-pub(crate) fn ones_up_to(row: &[u64], last: u32) -> u32 {
-    let whole = (last / BITS) as usize;
+/// How many bits of the words are set.
+pub(crate) fn ones_in(words: &[u64]) -> u32
+    ensures { ones_in words.now < 2 ^ 32 → result ≡ ones_in words.now }
+{
     let mut count = 0u32;
-    for word in row.iter().take(whole) {
+    for word in words {
         count = count.wrapping_add(word.count_ones());
     }
-    if whole < row.len() {
-        count = count.wrapping_add((row[whole] & up_to(last % BITS)).count_ones());
-    }
     count
+}
+
+/// How many bits of a row are set up to this one, and 0 where it has none so far. A step for each word up to it.
+pub(crate) fn ones_up_to(row: &[u64], last: u32) -> u32
+    ensures { last / 64 < length row.now → ones_up_to row.now last < 2 ^ 32 → result ≡ ones_up_to row.now last }
+{
+    let whole = (last / BITS) as usize;
+    if whole >= row.len() {
+        return 0;
+    }
+    let part = low_bits(row[whole], last % BITS);
+    ones_in(&row[..whole]).wrapping_add(part.count_ones())
 }
 
 /// Takes the bits up to this one out of a row.
 fn drop_up_to(row: &mut [u64], last: u32) {
     let whole = (last / BITS) as usize;
-    for word in row.iter_mut().take(whole) {
-        *word = 0;
+    for index in 0..whole.min(row.len()) {
+        row[index] = 0;
     }
     if whole < row.len() {
-        row[whole] &= !up_to(last % BITS);
+        row[whole] ^= low_bits(row[whole], last % BITS);
     }
 }
 

@@ -1,6 +1,6 @@
 use Rattle.std.proofs.Common.{◌≡◌, true, rules}
 use Rattle.heesch_periods.proofs.Saying.{refutation}
-use Rattle.heesch_periods.proofs.search.judged_answer.Goals as goal
+use Rattle.heesch_periods.proofs.answer.judged_answer.Goals as goal
 
 pub returns-then-refuted : goal.returns-then-refuted
 returns-then-refuted g c =

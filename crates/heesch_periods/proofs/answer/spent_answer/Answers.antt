@@ -1,6 +1,6 @@
 use Rattle.std.proofs.Common.{◌≡◌, true, rules}
 use Rattle.heesch_periods.proofs.Saying.{lines_over, spent_search}
-use Rattle.heesch_periods.proofs.search.spent_answer.Goals as goal
+use Rattle.heesch_periods.proofs.answer.spent_answer.Goals as goal
 
 pub is_left_open-requires : goal.is_left_open-requires
 is_left_open-requires g c =
