@@ -39,7 +39,11 @@ fn spent_answer<G: Grid>(
     }
     let formula = torus_formula(alloc, shape, triple)?;
     let open = is_left_open(alloc, &formula, &log)?;
-    if open { Ok(Some(TorusAnswer::Spent { log })) } else { Ok(None) }
+    if open {
+        Ok(Some(TorusAnswer::Spent { log }))
+    } else {
+        Ok(None)
+    }
 }
 
 /// The answer that the search over the geometry proposes, where it is found true.
@@ -63,7 +67,11 @@ fn judged_answer<G: Grid>(
         return spent_answer(alloc, shape, triple, turns, &source, log);
     }
     let refuted = refutes_alone(alloc, &source, &log)?;
-    if refuted { Ok(Some(TorusAnswer::None { log })) } else { Ok(None) }
+    if refuted {
+        Ok(Some(TorusAnswer::None { log }))
+    } else {
+        Ok(None)
+    }
 }
 
 /// Searches for a cover of a triple by the torus formula, whose clauses are known by their numbers and not written

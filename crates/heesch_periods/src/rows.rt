@@ -115,7 +115,12 @@ impl BitRows {
     }
 
     /// The union of these rows of others, without the bits up to this one, stands last.
-    pub fn push_union(&mut self, others: &BitRows, rows: &[u32], last: u32) -> Result<(), NoMemory> {
+    pub fn push_union(
+        &mut self,
+        others: &BitRows,
+        rows: &[u32],
+        last: u32,
+    ) -> Result<(), NoMemory> {
         self.push_empty()?;
         let row = self.last_row();
         for index in rows {

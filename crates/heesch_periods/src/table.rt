@@ -30,11 +30,7 @@ fn tiles_of(alloc: Global, vars: u32, lists: &[Seq<u32>]) -> Result<NumberLists,
 
 /// The table of so many variables, where for each reduced cell those are listed that have it, rising: each cell is
 /// wanted from the start, and want i is for the cell of number i + 1. A step for each variable of each cell.
-pub(crate) fn table_of(
-    alloc: Global,
-    vars: u32,
-    lists: &[Seq<u32>],
-) -> Result<CoverTable, NoMemory>
+pub(crate) fn table_of(alloc: Global, vars: u32, lists: &[Seq<u32>]) -> Result<CoverTable, NoMemory>
     ensures { IfOk result (λ table. table.vars ≡ vars) }
 {
     let tiles = tiles_of(alloc, vars, lists)?;
