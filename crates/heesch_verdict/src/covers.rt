@@ -14,7 +14,8 @@ use heesch_cert::Tiling;
 use heesch_grid::Grid;
 use heesch_io::NoMemory;
 use heesch_lattice::Triple;
-use heesch_torus::{CoverAnswer, TorusAnswer, find_cover, search};
+use heesch_periods::search;
+use heesch_torus::{CoverAnswer, TorusAnswer, find_cover};
 use std::alloc::Global;
 
 /// How many nodes the search without a log may visit for one triple, before it leaves it open.

@@ -12,7 +12,8 @@ use heesch_cert::{Tiling, TripleProof, Verdict};
 use heesch_grid::Grid;
 use heesch_io::{NoMemory, Seq};
 use heesch_lattice::Triple;
-use heesch_torus::{TorusAnswer, search};
+use heesch_periods::search;
+use heesch_torus::TorusAnswer;
 use std::alloc::Global;
 
 /// How the logged searches for covers ended.
