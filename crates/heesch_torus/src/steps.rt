@@ -54,8 +54,24 @@ pub(crate) fn steps_of<G: Grid>(numbers: &[u32], triple: Triple) -> Steps
     ensures { AreSteps G.geometry triple result }
 {
     Steps {
-        right: step_of::<G>(numbers, triple, Iso { turn: 0, da: 1, db: 0 }),
-        up: step_of::<G>(numbers, triple, Iso { turn: 0, da: 0, db: 1 }),
+        right: step_of::<G>(
+            numbers,
+            triple,
+            Iso {
+                turn: 0,
+                da: 1,
+                db: 0,
+            },
+        ),
+        up: step_of::<G>(
+            numbers,
+            triple,
+            Iso {
+                turn: 0,
+                da: 0,
+                db: 1,
+            },
+        ),
     }
 }
 
