@@ -1,4 +1,7 @@
 //! What the program `heesch` does, over any source and any sink.
+//!
+//! How a part of `run` leaves the sink is one definition by status (`EndsAs`). `put_reply` has it for the commands
+//! with one text, and the writers have it for `classify`.
 #![tactic(auto)]
 
 mod bad_input;

@@ -1,4 +1,8 @@
 //! Clauses, formulas and logs of a refutation, with the definition of when a line of a log holds.
+//!
+//! `FlatFormula` stands beside `Formula`: one array of literals packed into 32 bits, and the place where each
+//! clause ends. The encoder and the torus formula write it, and the solver reads it. `Formula` stays what callers
+//! may pass. A `ClauseSource` need have no clause standing anywhere: the log checker reads clauses by it.
 #![tactic(auto)]
 
 mod flat;

@@ -1,4 +1,8 @@
 //! The corona formula E(S, j) of a polyform and a level.
+//!
+//! The clauses are computed once, into one array, and given up where they pass the size. The cells around a
+//! placement are those around the turned shape, moved. A formula of 2^30 clauses or more counts as want of memory;
+//! with 60,000,000 literals there is none.
 #![tactic(auto)]
 
 mod around;

@@ -3,6 +3,9 @@
 //! The method is Knuth's for exact covers ("Dancing Links", 2000), over words in place of links: a node covers a point
 //! that few candidates have, by each of them in turn, and counts the candidates of all points at once, one bit a
 //! point.
+//!
+//! A contract sees masks as numbers. Which point a node covers is no part of any contract. All candidates with that
+//! point meet each other, so a set that was tried need not be dropped by name.
 #![tactic(auto)]
 
 mod candidates;

@@ -1,4 +1,6 @@
 //! The corona formula of a given shape for other solvers, and what their model of it says.
+//!
+//! It says what an input is the formula or the answer of, and its first fault. `heesch_app` adds the status.
 #![tactic(auto)]
 
 mod answers;

@@ -3,6 +3,9 @@
 //!
 //! A cell is a pair of whole numbers. A grid says which pairs are cells and what their corners are.
 //! Nothing here takes memory or refuses.
+//!
+//! `Iso::apply` is for translations within 100,000. `apply_far` takes any whose image lies within 1,000,000.
+//! `hex_turn` says the sums of each turn in its arm, which takes less time than a table of matrices.
 #![tactic(auto)]
 
 ghost use Rattle.std.proofs.Common.{rules};

@@ -2,6 +2,8 @@
 //! each shape of a list its entry and what is known of its outer number, written as they are made.
 //!
 //! A ticket of the pool is one shape, which is classified and then searched for outer coronas.
+//!
+//! The definitions of outer coronas stand here and not below, so that nothing below is proved again with them.
 #![tactic(auto)]
 
 mod answer;

@@ -3,6 +3,10 @@
 //! Nothing in it waits. Beside it `heesch_merge` and `heesch_rup` alone start threads for the program, by `join` and
 //! by rayon. Each worker draws the next number as soon as it is free, and the answers come out in the order of their
 //! numbers, whatever the schedule.
+//!
+//! A runtime, an allocator, a number of workers and a gate go from call to call as one value, `Crew`, which keeps
+//! that the workers are 1 to 64. A job has no more workers than tickets: a thread that finds no ticket costs its
+//! making and its end. What a gate is given is shown by a test.
 #![tactic(auto)]
 
 mod beside;

@@ -1,5 +1,9 @@
 //! The check of a log, line by line, and whether its lines are new. Of the solver it shares the types alone, and none
 //! of its code.
+//!
+//! The log checker reads clauses and hints by code of its own, and shares types and definitions alone with the
+//! solver. It reads lines by a trait whose meaning is a log, so a caller whose lines stand elsewhere copies none.
+//! Long logs over a formula in memory are checked by chunks of lines, by rayon, whatever the number of workers.
 #![tactic(auto)]
 
 mod added;
