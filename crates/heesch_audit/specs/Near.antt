@@ -1,7 +1,5 @@
 -- Entries whose coordinates lie near 0.
-use Rattle.std.specs.Prelude.{List, Option, Some, None, All, ⊤}
-use Rattle.heesch_grid.specs.declared.isometries.Iso.{Iso}
-use Rattle.heesch_grid.specs.Cells.{cell}
+use Rattle.std.specs.Prelude.{Option, Some, None, All, ⊤}
 use Rattle.heesch_grid.specs.Symmetry.{Member}
 use Rattle.heesch_grid.specs.Vectors.{IsWithin}
 use Rattle.heesch_cert.specs.declared.proof.Step.{Step}
@@ -16,15 +14,9 @@ use Rattle.heesch_cert.specs.declared.entry.TripleProof.{TripleProof}
 use Rattle.heesch_cert.specs.declared.entry.Evidence.{Evidence}
 use Rattle.heesch_cert.specs.declared.entry.Evidence.TheVariants.{Cover, Search}
 use Rattle.heesch_cert.specs.declared.entry.Entry.{Entry}
+use Rattle.heesch_logs.specs.Near.{IsNearIso, AreNearLayers}
 
--- the translation lies within 100,000 of 0; the turn may be any
-abbrev pub IsNearIso : Iso → Type 0
-IsNearIso by = IsWithin 100000 (cell by.da by.db)
-
--- so do the translations of all layers
-abbrev pub AreNearLayers : List (List Iso) → Type 0
-AreNearLayers layers = All (All IsNearIso) layers
-
+-- the translations of the layers lie within 100,000 of 0
 abbrev pub IsNearWider : Option Layers → Type 0
 IsNearWider None = ⊤
 IsNearWider (Some wider) = AreNearLayers wider.layers

@@ -11,11 +11,11 @@ ghost use Rattle.heesch_audit.specs.Shapes.{IsCanonicalShape};
 
 use crate::logs::{is_ended, is_ended_in_turn};
 use crate::proof_end::ProofEnd;
-use crate::proof_log::ProofLog;
 use heesch_cnf::Version;
 use heesch_encode::{EncodeStop, FlatEncoded, encode_flat};
 use heesch_grid::Grid;
 use heesch_io::NoMemory;
+use heesch_logs::ProofLog;
 use heesch_numbers::CoronaSource;
 use heesch_place::Universe;
 use heesch_shape::Shape;

@@ -9,11 +9,11 @@ ghost use Rattle.heesch_audit.specs.Near.{IsNearProof, IsNearWall};
 ghost use Rattle.heesch_audit.specs.Shapes.{IsCanonicalShape};
 
 use crate::corona_formula::CoronaFormula;
-use crate::logs::lawful_log;
 use crate::proof_end::ProofEnd;
 use heesch_cert::{Limits, Proof, Wall};
 use heesch_grid::Grid;
 use heesch_io::NoMemory;
+use heesch_logs::admitted_log;
 use heesch_shape::Shape;
 use std::alloc::Global;
 use std::thread::Threads;
@@ -96,7 +96,8 @@ impl<F> LevelFormula<F> {
         let Some(formula) = &self.formula else {
             return Ok(false);
         };
-        let Some(log) = lawful_log(alloc, shape, formula.variables(), proof)? else {
+        let universe = formula.variables();
+        let Some(log) = admitted_log(alloc, shape, universe, universe.level(), proof)? else {
             return Ok(false);
         };
         formula.is_ended(rt, alloc, &log, end, self.limits.turns)

@@ -9,11 +9,12 @@ ghost use Rattle.heesch_audit.specs.Portions.{triples_of, AreProved, AreTriplesA
 ghost use Rattle.heesch_audit.specs.Shapes.{IsCanonicalShape};
 
 use crate::audited::Audited;
-use crate::logs::{end_of, is_ended, learnt_log};
+use crate::logs::{end_of, is_ended};
 use heesch_cert::{Evidence, TripleProof, Verdict};
 use heesch_grid::Grid;
 use heesch_io::NoMemory;
 use heesch_lattice::Triple;
+use heesch_logs::learnt_log;
 use heesch_torus::{torus_formula, triples_up_to};
 use std::thread::Threads;
 

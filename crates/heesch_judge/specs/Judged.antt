@@ -8,7 +8,7 @@ use Rattle.heesch_cert.specs.Formulas.{IsCountedFormula}
 use Rattle.heesch_cert.specs.Proofs.{log_of}
 use Rattle.heesch_place.specs.Universes.{IsUniverseOf}
 use Rattle.heesch_numbers.specs.Sourced.{Sourced}
-use Rattle.heesch_judge.specs.Admitted.{IsAdmitted}
+use Rattle.heesch_logs.specs.Admitted.{IsAdmitted}
 use Rattle.heesch_judge.specs.Closed.{IsSpentOpen, RefutesAnew}
 
 -- the source is that of the second corona formula of the shape, at the level of its universe

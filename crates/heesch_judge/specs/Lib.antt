@@ -1,4 +1,2 @@
-pub mod Admitted
 pub mod Closed
-pub mod Spelling
 pub mod Judged

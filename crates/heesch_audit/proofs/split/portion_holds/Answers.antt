@@ -4,7 +4,7 @@ use Rattle.heesch_grid.specs.declared.Cell.{Cell}
 use Rattle.heesch_cert.specs.declared.entry.TripleProof.{TripleProof}
 use Rattle.heesch_audit.specs.Portions.{AreProved, AreTriplesAsked, PortionHolds}
 use Rattle.heesch_audit.specs.Shapes.{AreCanonical}
-use Rattle.heesch_audit.proofs.Equal.{granted, refused}
+use Rattle.heesch_logs.proofs.Equal.{granted, refused}
 use Rattle.heesch_audit.proofs.Portions.{Domain, asked_domains, bare_portion, portion_from, portion_proved, unless_bare}
 use Rattle.heesch_audit.proofs.Proofs.{if_ok_more}
 use Rattle.heesch_audit.proofs.split.portion_holds.Goals as goal

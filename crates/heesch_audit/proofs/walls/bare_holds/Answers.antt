@@ -7,7 +7,7 @@ use Rattle.heesch_cert.specs.Proofs.{IsTooLarge}
 use Rattle.heesch_cert.specs.TrueEntry.{BareShows}
 use Rattle.heesch_audit.specs.Ends.{EndsCoronas}
 use Rattle.heesch_audit.proofs.Ends.{bare_answered, bare_by, bare_near, not_asked}
-use Rattle.heesch_audit.proofs.Equal.{granted, refused, through}
+use Rattle.heesch_logs.proofs.Equal.{granted, refused, through}
 use Rattle.heesch_audit.proofs.walls.bare_holds.Goals as goal
 
 pub returns-then-not-fits_same : goal.returns-then-not-fits_same

@@ -1,5 +1,5 @@
 use Rattle.std.proofs.Common.{◌≡◌, ◌∙◌, ◌<◌, length, false, true, arith, rules, sym, true≢false}
-use Rattle.heesch_judge.proofs.Equal.{refused}
+use Rattle.heesch_logs.proofs.Equal.{refused}
 use Rattle.heesch_judge.proofs.Settled.{lines_form}
 use Rattle.heesch_judge.proofs.spent.is_spent_open.Goals as goal
 

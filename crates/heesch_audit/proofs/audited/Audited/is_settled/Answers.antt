@@ -3,7 +3,7 @@ use Rattle.std.specs.Prelude.{Option, MatchOption}
 use Rattle.std.proofs.lemmas.Result.{IfOk-weaker}
 use Rattle.heesch_cnf.specs.declared.log.Log.{Log}
 use Rattle.heesch_cert.specs.Proofs.{HasNoCut, log_of}
-use Rattle.heesch_audit.proofs.Equal.{refused, through}
+use Rattle.heesch_logs.proofs.Equal.{refused, through}
 use Rattle.heesch_audit.proofs.Proofs.{settles}
 use Rattle.heesch_audit.proofs.audited.Audited.is_settled.Goals as goal
 

@@ -3,7 +3,7 @@ use Rattle.std.specs.Prelude.{◌↔◌, IsTrue}
 use Rattle.heesch_cert.specs.declared.entry.TripleProof.{TripleProof}
 use Rattle.heesch_cert.specs.TrueEntry.{TriplesHold}
 use Rattle.heesch_audit.specs.Portions.{AreProved}
-use Rattle.heesch_audit.proofs.Equal.{refused}
+use Rattle.heesch_logs.proofs.Equal.{refused}
 use Rattle.heesch_audit.proofs.Portions.{Domain, all_proved, asked_domains, asked_of, one_portion}
 use Rattle.heesch_audit.proofs.Proofs.{if_ok_more}
 use Rattle.heesch_audit.proofs.audited.Audited.triples_hold.Goals as goal
