@@ -1,5 +1,5 @@
 -- What the answers on logs say of proofs.
-use Rattle.std.proofs.Common.{◌≡◌, sym, subst, ◌∙◌, ℕ, ◌≤◌, List, [], arith, get_or, inl, inr, All, Result}
+use Rattle.std.proofs.Common.{◌≡◌, sym, subst, ◌∙◌, ℕ, ◌≤◌, List, [], arith, inl, inr, All, Result}
 use Rattle.std.specs.Prelude.{◌↔◌, ◌⊎◌, Option, Some, None, IfOk, Ok, Err}
 use Rattle.heesch_grid.specs.declared.Cell.{Cell}
 use Rattle.heesch_grid.specs.Clauses.{formula_size}
@@ -13,8 +13,6 @@ use Rattle.heesch_cnf.specs.Flat.{Clauses}
 use Rattle.heesch_cnf.specs.Lines.{Refutes, IsSpent}
 use Rattle.heesch_cert.specs.declared.limits.Limits.{Limits}
 use Rattle.heesch_cert.specs.declared.proof.Proof.{Proof}
-use Rattle.heesch_cert.specs.declared.proof.Step.{Step}
-use Rattle.heesch_cert.specs.declared.proof.Step.TheVariants.{Learn, Cut}
 use Rattle.heesch_cert.specs.Formulas.{IsCountedFormula}
 use Rattle.heesch_cert.specs.Proofs.{HasNoCut, IsLawfulStep, IsTooLarge, SettlesTriple, RefutesTorus, IsSpentOnTorus, log_of}
 use Rattle.heesch_cert.proofs.Exactly.{refutes_exactly, spent_exactly, too_large_exactly, refutes_torus_exactly, spent_torus_exactly}
@@ -24,9 +22,9 @@ use Rattle.heesch_audit.specs.declared.proof_end.ProofEnd.{ProofEnd}
 use Rattle.heesch_audit.specs.declared.proof_end.ProofEnd.TheVariants.{Refuted, Spent}
 use Rattle.heesch_audit.specs.Ends.{EndsCoronas, IsEndOf, LogEnds}
 use Rattle.heesch_audit.specs.Formulas.{IsFormulaAt}
-use Rattle.heesch_audit.specs.Near.{IsNearProof, IsNearStep}
-use Rattle.heesch_logs.specs.Admitted.{IsAdmitted, IsAdmittedStep, IsLogOf}
-use Rattle.heesch_logs.proofs.Admitting.{lawful_steps}
+use Rattle.heesch_logs.specs.Admitted.{IsAdmitted, IsLogOf}
+use Rattle.heesch_logs.specs.Near.{IsNearProof}
+use Rattle.heesch_logs.proofs.Admitting.{admitted_where_lawful, lawful_steps}
 use Rattle.heesch_logs.proofs.Equal.{through}
 use Rattle.heesch_logs.proofs.Refuted.{open_not_refuted}
 
@@ -46,14 +44,6 @@ if_ok_more P Q f (Ok x) p = f x p
 if_ok_more P Q f (Err e) p = tt
 
 -- ---- proofs over a corona formula
-
-admitted_step : (g : Geometry) (u : Levels) (k : ℕ) (step : Step) → k ≡ u.level → IsNearStep step → IsLawfulStep g u.shape u.level u.vars step → IsAdmittedStep g u k step
-admitted_step g u k (Learn clause hints) same near lawful = tt
-admitted_step g u k (Cut cut) same near lawful = record { near = near; up_to = (let low = lawful.level_to in omega (arith, low, same)); lawful = lawful }
-
--- where its holes lie near 0, a proof with lawful cuts is admitted
-admitted_where_lawful : (g : Geometry) (u : Levels) (k : ℕ) (proof : Proof) → k ≡ u.level → IsNearProof proof → All (IsLawfulStep g u.shape u.level u.vars) proof.steps → IsAdmitted g u k proof
-admitted_where_lawful g u k proof same near lawful = λ i d below. admitted_step g u k (get_or proof.steps i d) same (near i d below) (lawful i d below)
 
 module _ (limits : Limits) (g : Geometry) (law : IsGrid g) (shape : List Cell) (form : IsPolyform g shape) (j : ℕ) where
   -- a formula of few literals isn't too large
@@ -78,7 +68,7 @@ module _ (limits : Limits) (g : Geometry) (law : IsGrid g) (shape : List Cell) (
       pub unlawful_not_ended : (end : ProofEnd) (k : ℕ) → k ≡ u.level → IsNearProof proof → (¬ IsAdmitted g u k proof) → ¬ EndsCoronas end g limits shape j proof
       unlawful_not_ended end k same near fails r =
           let P : List Cell → ℕ → Type 0 = λ cells n. All (IsLawfulStep g cells n u.vars) proof.steps in
-          fails (admitted_where_lawful g u k proof same near (subst (λ cells. P cells u.level) (sym at.same_shape) (subst (P shape) (sym at.same_level) ((exactly end).0 r).1)))
+          fails (admitted_where_lawful g u k same proof near (subst (λ cells. P cells u.level) (sym at.same_shape) (subst (P shape) (sym at.same_level) ((exactly end).0 r).1)))
 
       pub ends_coronas : (log : Log) (k : ℕ) → IsLogOf g u k proof log → (end : ProofEnd) → LogEnds end f.vars f.clauses limits.turns log ↔ EndsCoronas end g limits shape j proof
       ends_coronas log k is end =

@@ -2,12 +2,11 @@
 ghost use Rattle.std.specs.Prelude.{◌↔◌, All, IsTrue};
 ghost use Rattle.heesch_grid.specs.Symmetry.{Member as InClass};
 ghost use Rattle.heesch_cert.specs.declared.entry.TripleProof.{TripleProof as Written};
-ghost use Rattle.heesch_audit.specs.Near.{IsNearWider, IsNearStep, IsNearProof, IsNearWall};
-ghost use Rattle.heesch_audit.specs.Near.{IsNearBare, IsNearEvidence, IsNearEntry};
-ghost use Rattle.heesch_logs.specs.Near.{IsNearIso};
+ghost use Rattle.heesch_audit.specs.Near.{IsNearWider, IsNearWall, IsNearBare, IsNearEvidence, IsNearEntry};
+ghost use Rattle.heesch_logs.specs.Near.{IsNearIso, IsNearProof};
 
-use heesch_cert::{Bare, Entry, Evidence, Layers, Member, Proof, Step, TripleProof, Wall};
-use heesch_logs::{are_near_cells, are_near_isos, are_near_layers, is_near_iso};
+use heesch_cert::{Bare, Entry, Evidence, Layers, Member, TripleProof, Wall};
+use heesch_logs::{are_near_cells, are_near_isos, are_near_layers, is_near_iso, is_near_proof};
 
 /// Whether the translations of the symmetries lie within 100,000 of 0.
 fn are_near_members(members: &[Member]) -> bool
@@ -28,26 +27,6 @@ fn is_near_wider(wider: &Option<Layers>) -> bool
         None => true,
         Some(layers) => are_near_layers(layers.layers.as_slice()),
     }
-}
-
-fn is_near_step(step: &Step) -> bool
-    ensures { IsTrue result ↔ IsNearStep step.now }
-{
-    match step {
-        Step::Learn { .. } => true,
-        Step::Cut { cut } => are_near_cells(cut.hole.as_slice()),
-    }
-}
-
-fn is_near_proof(proof: &Proof) -> bool
-    ensures { IsTrue result ↔ IsNearProof proof.now }
-{
-    for step in proof.steps.as_slice() {
-        if !is_near_step(step) {
-            return false;
-        }
-    }
-    true
 }
 
 fn is_near_wall(wall: &Wall) -> bool

@@ -13,6 +13,6 @@ mod spelling;
 
 pub use coronas::are_coronas;
 pub use logs::{admitted_log, has_no_cut, is_refuted, learnt_log};
-pub use near::{are_near_cells, are_near_isos, are_near_layers, is_near_iso};
+pub use near::{are_near_cells, are_near_isos, are_near_layers, is_near_iso, is_near_proof};
 pub use proof_log::ProofLog;
 pub use spelling::are_spelled;

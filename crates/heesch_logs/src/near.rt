@@ -2,9 +2,9 @@
 ghost use Rattle.std.specs.Prelude.{◌↔◌, All, IsTrue};
 ghost use Rattle.heesch_grid.specs.Vectors.{IsWithin};
 ghost use Rattle.heesch_grid.specs.Cells.{cell};
-ghost use Rattle.heesch_logs.specs.Near.{IsNearIso, AreNearLayers};
+ghost use Rattle.heesch_logs.specs.Near.{IsNearIso, AreNearLayers, IsNearStep, IsNearProof};
 
-use heesch_cert::Isos;
+use heesch_cert::{Isos, Proof, Step};
 use heesch_grid::{Cell, Iso};
 
 /// How far from 0 coordinates may lie.
@@ -54,6 +54,27 @@ pub fn are_near_layers(layers: &[Isos]) -> bool
 {
     for layer in layers {
         if !are_near_isos(layer.as_slice()) {
+            return false;
+        }
+    }
+    true
+}
+
+fn is_near_step(step: &Step) -> bool
+    ensures { IsTrue result ↔ IsNearStep step.now }
+{
+    match step {
+        Step::Learn { .. } => true,
+        Step::Cut { cut } => are_near_cells(cut.hole.as_slice()),
+    }
+}
+
+/// Whether the cells of the holes of all cuts of the proof lie within 100,000 of 0. It looks at each once.
+pub fn is_near_proof(proof: &Proof) -> bool
+    ensures { IsTrue result ↔ IsNearProof proof.now }
+{
+    for step in proof.steps.as_slice() {
+        if !is_near_step(step) {
             return false;
         }
     }
