@@ -5,8 +5,9 @@ ghost use Rattle.heesch_cert.specs.Proofs.{IsTooLarge};
 ghost use Rattle.heesch_cert.specs.TrueEntry.{WallShows};
 ghost use Rattle.heesch_audit.specs.Ends.{EndsCoronas};
 ghost use Rattle.heesch_audit.specs.Formulas.{IsLevelFormula};
-ghost use Rattle.heesch_audit.specs.Near.{IsNearProof, IsNearWall};
+ghost use Rattle.heesch_audit.specs.Near.{IsNearWall};
 ghost use Rattle.heesch_audit.specs.Shapes.{IsCanonicalShape};
+ghost use Rattle.heesch_logs.specs.Near.{IsNearProof};
 
 use crate::corona_formula::CoronaFormula;
 use crate::proof_end::ProofEnd;

@@ -1,7 +1,6 @@
 //! Parts 6 to 8, the ends of the searches for coronas.
 ghost use Rattle.std.specs.Prelude.{◌≡◌, ◌≤◌, ◌↔◌, IsTrue, IfOk, IfSome, MatchOption, length};
 ghost use Rattle.heesch_cert.specs.Limits.{AreLimits};
-ghost use Rattle.heesch_cert.specs.Proofs.{IsTooLarge};
 ghost use Rattle.heesch_cert.specs.TrueEntry.{FormFits, SameWhereNoCut, BareShows};
 ghost use Rattle.heesch_audit.specs.Formulas.{IsLevelFormula, AsksFormula};
 ghost use Rattle.heesch_audit.specs.Near.{IsNearEvidence, IsNearBare};

@@ -6,7 +6,7 @@ ghost use Rattle.heesch_grid.specs.Polyform.{IsCanonicalListOf};
 ghost use Rattle.heesch_corona.specs.Tiles.{AreTilesOf, IsInRange};
 ghost use Rattle.heesch_levels.specs.UpTo.{SpellsUpTo};
 ghost use Rattle.heesch_logs.specs.Near.{AreNearLayers};
-ghost use Rattle.heesch_logs.specs.Spelling.{IsNearShape, IsSpelledAfter};
+ghost use Rattle.heesch_logs.specs.Spelling.{IsNearShape};
 
 use heesch_cert::Layers;
 use heesch_grid::{Grid, Iso};
