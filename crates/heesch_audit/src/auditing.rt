@@ -62,9 +62,10 @@ impl<'a, G: Grid> Audited<'a, G> {
 /// which it stands. The verdict of a valid entry is right.
 ///
 /// Nothing is searched for but the plain tiling of the shape. A proof costs as many steps as its lines and hints have
-/// literals, besides the formula that it is over: that of a level is made once where both searches are of one level,
-/// and let go before the next is made, and its clauses stand in one array. A proof is read where it stands: while it
-/// is checked, its clauses stand once more in one array, and those of its cuts are made.
+/// literals, besides the formula that it is over: in the first version the clauses of that of a level stand in one
+/// array; else each clause is computed from its number. It is made once where both searches are of one level, and let
+/// go before the next is made. A proof is read where it stands: while it is checked, its clauses stand once more in
+/// one array, and those of its cuts are made.
 pub fn audit<G: Grid, R: Threads + Sync>(
     rt: &R,
     alloc: Global,
@@ -90,7 +91,7 @@ pub fn audit<G: Grid, R: Threads + Sync>(
     if let Some(part) = audited.failing_part(rt)? {
         return Ok(EntryAnswer::Invalid { part });
     }
-    if !audited.triples_hold(rt)? {
+    if !audited.triples_hold()? {
         return Ok(EntryAnswer::Invalid { part: 9 });
     }
     Ok(EntryAnswer::Valid)

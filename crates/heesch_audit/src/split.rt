@@ -90,5 +90,5 @@ pub fn portion_holds<G: Grid, R: Threads + Sync>(
     if !audited.are_parts_due(rt, portion)? {
         return Ok(false);
     }
-    audited.are_proved(rt, written, portion, portions)
+    audited.are_proved(written, portion, portions)
 }

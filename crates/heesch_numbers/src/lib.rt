@@ -15,4 +15,5 @@ mod walks;
 
 pub use common::CommonClauses;
 pub use prefix::Prefix;
+pub use seen::{left_with_all, remains};
 pub use source::CoronaSource;

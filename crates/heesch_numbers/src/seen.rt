@@ -36,8 +36,9 @@ pub(crate) fn left_with(left: Left, values: &[Option<bool>], lit: Lit) -> Left
     }
 }
 
-/// The same with each of these variables. It stops where two are left.
-pub(crate) fn left_with_all(left: Left, values: &[Option<bool>], numbers: &[u32]) -> Left
+/// What is left, where something was left of the literals before, and of these variables. It stops where two are left.
+/// It takes no memory and a constant time for each variable.
+pub fn left_with_all(left: Left, values: &[Option<bool>], numbers: &[u32]) -> Left
     requires { All (λ n. n < length values.now) numbers.now }
     ensures { (seen : List Lit) → IsSeen (held values.now) seen left
         → IsSeen (held values.now) (seen ++ plus_all numbers.now) result }
@@ -56,8 +57,8 @@ pub(crate) fn left_with_all(left: Left, values: &[Option<bool>], numbers: &[u32]
     now
 }
 
-/// Whether something is left.
-pub(crate) fn remains(left: Left) -> bool
+/// Whether something is left. A constant time.
+pub fn remains(left: Left) -> bool
     ensures { (values : Values) (clause : List Lit) → IsLeft values clause left
         → MatchBool result (¬ (left_of values clause ≡ [])) (left_of values clause ≡ []) }
 {

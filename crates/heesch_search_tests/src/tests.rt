@@ -4,5 +4,6 @@ mod encode;
 mod levels;
 mod made;
 mod outer;
+mod tori;
 mod torus;
 mod verdict;

@@ -74,7 +74,10 @@ fn add_variables<G: Grid>(
 }
 
 /// For each pair of the window the numbers of the variables that have it, in rising order.
-pub(crate) fn covering_lists<G: Grid>(
+///
+/// Condition: the variables' cells are reduced, and there are at most 4,608 variables. `NoMemory` says nothing more.
+/// Cost: a step for each pair of the window, and one for each cell of each variable.
+pub fn covering_lists<G: Grid>(
     alloc: Global,
     triple: Triple,
     variables: &[Variable],

@@ -11,11 +11,12 @@ use std::alloc::Global;
 use std::collections::BTreeMap;
 use std::marker::Model;
 
-/// A variable: a residue set, and its isometry.
+/// A variable of the torus formula: a residue set, in cell order, and its isometry, the first within the triple that
+/// gives it.
 #[derive(Drop)]
-pub(crate) struct Variable {
-    pub(crate) residues: Residues,
-    pub(crate) by: Iso,
+pub struct Variable {
+    pub residues: Residues,
+    pub by: Iso,
 }
 
 impl Model for Variable {

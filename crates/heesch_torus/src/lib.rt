@@ -28,5 +28,9 @@ mod variables;
 
 pub use answer::{TorusAnswer, search};
 pub use cover::{CoverAnswer, find_cover};
+pub use covering::covering_lists;
 pub use domains::triples_up_to;
 pub use formula::torus_formula;
+pub use found::Variable;
+pub use residues::Residues;
+pub use variables::variables_of;

@@ -18,7 +18,7 @@ use heesch_shape::CELLS_MAX;
 use heesch_tiling::residue_of;
 
 /// A residue set, in cell order.
-pub(crate) type Residues = ArrayVec<Cell, CELLS_MAX>;
+pub type Residues = ArrayVec<Cell, CELLS_MAX>;
 
 /// The reduced cells of the images of the cells, in the order of the cells.
 fn reduced_image<G: Grid>(cells: &[Cell], triple: Triple, by: Iso) -> Residues

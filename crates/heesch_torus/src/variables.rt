@@ -59,9 +59,13 @@ fn try_turn<G: Grid>(
     Ok(())
 }
 
-/// The residue sets in number order, each with its isometry: the first within the triple that gives
-/// it.
-pub(crate) fn variables_of<G: Grid>(
+/// The variables of the torus formula in number order: the residue sets, each with its isometry, the first within the
+/// triple that gives it.
+///
+/// Condition: the cells are those of a polyform and lie within 100,000 of 0, and the triple has at most 384
+/// translations. `NoMemory` says nothing more. Cost: for each isometry within the triple a reduction for each cell, and
+/// a look-up among the sets found so far.
+pub fn variables_of<G: Grid>(
     alloc: Global,
     cells: &[Cell],
     triple: Triple,

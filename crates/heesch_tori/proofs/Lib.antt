@@ -1,0 +1,5 @@
+pub mod Bits
+pub mod Cells
+pub mod Passed
+pub mod Pairs
+pub mod Clauses

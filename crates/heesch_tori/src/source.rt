@@ -1,0 +1,131 @@
+//! The torus formula as a source of clauses.
+ghost use Rattle.std.specs.Prelude.{◌≡◌, ◌++◌, true, map, length, All, IfOk};
+ghost use Rattle.heesch_cert.specs.Literals.{literals};
+ghost use Rattle.heesch_encode.specs.Literals.{plus_all};
+ghost use Rattle.heesch_grid.specs.declared.Cell.{Cell};
+ghost use Rattle.heesch_grid.specs.Cells.{has, meet};
+ghost use Rattle.heesch_grid.specs.CoronaFormula.{exclusion_clauses};
+ghost use Rattle.heesch_grid.specs.Vectors.{IsWithin};
+ghost use Rattle.heesch_torus.specs.Covering.{AreNumbers};
+ghost use Rattle.heesch_torus.specs.Domain.{HasDomain};
+ghost use Rattle.heesch_torus.specs.Formula.{IsFormulaOf};
+ghost use Rattle.heesch_torus.specs.Variables.{sets_of, AreVariables};
+
+use crate::apart::{are_apart, lists_remain};
+use crate::later::{later_at, later_counts};
+use crate::table::CellTable;
+use heesch_cnf::{ClauseSource, Left, Lit, NewnessSource, left_in};
+use heesch_grid::Grid;
+use heesch_io::{NoMemory, Seq};
+use heesch_lattice::Triple;
+use heesch_numbers::{Prefix, left_with_all};
+use heesch_shape::Shape;
+use heesch_torus::Variable;
+use std::alloc::Global;
+use std::marker::{Model, PhantomData};
+
+/// The torus formula of a shape and a triple, by the numbers of its clauses: first one for each reduced cell, in cell
+/// order, and then one for each two variables that share a cell, by the first and then the second. None stands
+/// anywhere. What is kept are the variables, for each cell the numbers of those that have it, for each variable a bit
+/// for each cell, and how many later ones share a cell with it.
+#[derive(Drop)]
+pub struct TorusSource<G: Grid> {
+    table: CellTable,
+    later: Prefix,
+    grid: PhantomData<G>,
+}
+
+impl<G: Grid> Model for TorusSource<G> {
+    ghost use Rattle.heesch_tori.specs.Toured.{Toured, IsTour, toured};
+
+    ghost Value = { Toured };
+
+    ghost view = { λ s. toured s.table.variables s.table.lists };
+
+    ghost invariant = { λ s. IsTour s.table s.later };
+}
+
+/// The negation of a variable.
+fn minus(var: u32) -> Lit
+    ensures { result ≡ literals.minus var }
+{
+    Lit {
+        var,
+        positive: false,
+    }
+}
+
+impl<G: Grid> TorusSource<G> {
+    /// The source of the torus formula of a shape and a triple.
+    ///
+    /// Condition: the cells lie within 100,000 of 0, and the triple is one of a domain of 1 to 12 tiles. `NoMemory`
+    /// says nothing more. Cost: that of the variables, of which there are at most 4,608, and for each two of them a
+    /// step for each 64 reduced cells.
+    pub fn of(alloc: Global, shape: &Shape<G>, triple: Triple) -> Result<TorusSource<G>, NoMemory>
+        requires near { (c : Cell) → has shape.now c ≡ true → IsWithin 100000 c }
+        requires domain { HasDomain G.geometry (length shape.now) triple }
+        ensures variables { IfOk result (λ s. AreVariables G.geometry shape.now triple s.variables) }
+        ensures formula { IfOk result
+            (λ s. IsFormulaOf G.geometry shape.now triple s.formula.vars s.formula.clauses) }
+        ensures vars { IfOk result (λ s. s.formula.vars ≡ length s.variables) }
+    {
+        let table = CellTable::of(alloc, shape, triple)?;
+        let later = later_counts(alloc, &table)?;
+        Ok(TorusSource {
+            table,
+            later,
+            grid: PhantomData,
+        })
+    }
+
+    /// The variables, in number order. It takes no memory and a constant time.
+    pub fn variables(&self) -> &[Variable]
+        ensures { result.now ≡ self.now.variables }
+    {
+        self.table.variables()
+    }
+
+    /// For each reduced cell, in cell order, the numbers of the variables that have it, in rising order: the clauses
+    /// are those of these lists, and then those of the pairs of variables that share a cell. It takes no memory and a
+    /// constant time.
+    pub fn lists(&self) -> &[Seq<u32>]
+        ensures clauses { self.now.formula.clauses
+            ≡ map plus_all result.now ++ exclusion_clauses literals meet (sets_of self.now.variables) }
+        ensures numbers { All (AreNumbers (length self.now.variables)) result.now }
+    {
+        self.table.lists()
+    }
+}
+
+impl<G: Grid> ClauseSource for TorusSource<G> {
+    ghost listed = { λ s. s.formula };
+
+    fn vars(&self) -> u32 {
+        self.table.count()
+    }
+
+    fn count(&self) -> usize {
+        self.table.lists().len() + self.later.total() as usize
+    }
+
+    fn left(&self, number: u32, values: &[Option<bool>]) -> Left {
+        let lists = self.table.lists();
+        let index = number as usize - 1;
+        if index < lists.len() {
+            return left_with_all(Left::Nothing, values, lists[index].as_slice());
+        }
+        let (at, place) = self.later.place((index - lists.len()) as u32);
+        let first = at as u32 + 1;
+        let second = later_at(&self.table, first, place);
+        left_in(values, &[minus(first), minus(second)])
+    }
+}
+
+impl<G: Grid> NewnessSource for TorusSource<G> {
+    fn is_new(&self, clause: &[Lit], values: &[Option<bool>]) -> bool {
+        if !lists_remain(self.table.lists(), values) {
+            return false;
+        }
+        are_apart(&self.table, clause)
+    }
+}
