@@ -3,12 +3,11 @@ ghost use Rattle.std.specs.Prelude.{◌↔◌, IsTrue, IfOk};
 ghost use Rattle.heesch_audit.specs.Ends.{IsEndOf, LogEnds};
 
 use crate::proof_end::ProofEnd;
-use heesch_cnf::{FlatFormula, NewnessSource};
+use heesch_cnf::NewnessSource;
 use heesch_io::NoMemory;
 use heesch_logs::{ProofLog, is_refuted};
-use heesch_rup::{Steps, is_spent, is_spent_in_turn};
+use heesch_rup::{Steps, is_spent_in_turn};
 use std::alloc::Global;
-use std::thread::Threads;
 
 /// What the log shows, if anything: one with a final line refutes.
 pub(crate) fn end_of(log: &ProofLog<'_>) -> ProofEnd
@@ -21,24 +20,7 @@ pub(crate) fn end_of(log: &ProofLog<'_>) -> ProofEnd
 }
 
 /// Whether the log refutes the formula, or is spent for so many turns over it, as asked.
-pub(crate) fn is_ended<R: Threads + Sync>(
-    rt: &R,
-    alloc: Global,
-    formula: &FlatFormula,
-    log: &ProofLog<'_>,
-    end: ProofEnd,
-    turns: u32,
-) -> Result<bool, NoMemory>
-    ensures { IfOk result (λ yes. IsTrue yes ↔ LogEnds end formula.now.vars formula.now.clauses turns log.now) }
-{
-    match end {
-        ProofEnd::Refuted => is_refuted(alloc, formula, log),
-        ProofEnd::Spent => is_spent(rt, alloc, formula, log, turns),
-    }
-}
-
-/// The same over clauses that need stand in no array, in the caller's thread.
-pub(crate) fn is_ended_in_turn<N: NewnessSource>(
+pub(crate) fn is_ended<N: NewnessSource>(
     alloc: Global,
     formula: &N,
     log: &ProofLog<'_>,

@@ -9,7 +9,7 @@ ghost use Rattle.heesch_audit.specs.Portions.{triples_of, AreProved, AreTriplesA
 ghost use Rattle.heesch_audit.specs.Shapes.{IsCanonicalShape};
 
 use crate::audited::Audited;
-use crate::logs::{end_of, is_ended_in_turn};
+use crate::logs::{end_of, is_ended};
 use heesch_cert::{Evidence, TripleProof, Verdict};
 use heesch_grid::Grid;
 use heesch_io::NoMemory;
@@ -70,7 +70,7 @@ impl<'a, G: Grid> Audited<'a, G> {
             return Ok(false);
         };
         let source = TorusSource::of(self.alloc, self.shape, written.triple)?;
-        is_ended_in_turn(self.alloc, &source, &log, end_of(&log), self.limits.turns)
+        is_ended(self.alloc, &source, &log, end_of(&log), self.limits.turns)
     }
 
     /// Whether the proof of each so many-th of these triples, from the portion's first on, settles it.

@@ -47,7 +47,7 @@ fn change_meeting<G: Grid>(
 
 /// Lists the variables with numbers above `above` and of level at most `most`, rising, whose tile has one of the
 /// cells. They are found by their cells and marked, so those that are found twice stand once.
-pub(crate) fn list_meeting<G: Grid>(
+pub fn list_meeting<G: Grid>(
     numbers: &mut Vec<u32>,
     marks: &mut Marks,
     universe: &Universe<G>,

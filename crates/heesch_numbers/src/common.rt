@@ -177,7 +177,7 @@ impl<G: Grid> CommonClauses<G> {
 
     /// The same as `fits`, where no cell is in the tiles of more than `most` variables. Only where the bound that this
     /// gives is above the room are the literals counted.
-    pub(crate) fn fits_by(&self, alloc: Global, most: u32, room: u32) -> Result<bool, NoMemory>
+    pub fn fits_by(&self, alloc: Global, most: u32, room: u32) -> Result<bool, NoMemory>
         requires { IsHoldersBound self.now.vars most }
         ensures { (around : List Cell → List Cell) → GivesCellsAround G.geometry around
             → IfOk result (λ yes. IsTrue yes ↔ (formula_size (common_of G.geometry around self.now) ≤ room)) }

@@ -18,4 +18,4 @@ returns g c =
     let written = c.args.written.now in
     let is = subst (λ (o : Option Log). MatchOption o (¬ HasNoCut written.proof) (λ l. HasNoCut written.proof × (l ≡ log_of [] written.proof))) c.in-Some.is c.learnt_log.ensures in
     let both = settles g.G.Grid.geometry c.args.self.now.shape.now c.args.self.now.limits.turns written.triple written.proof c.in_ok-source.source.formula c.in_ok-source.ensures.formula c.in-Some.log is.0 is.1 c.end_of.result c.end_of.ensures in
-    IfOk-weaker c.is_ended_in_turn.result _ _ (λ yes h. through h both) c.is_ended_in_turn.ensures
+    IfOk-weaker c.is_ended.result _ _ (λ yes h. through h both) c.is_ended.ensures

@@ -1,0 +1,4 @@
+pub mod LaterLists
+pub mod Merging
+pub mod PairLists
+pub mod SourceMade

@@ -1,0 +1,3 @@
+pub mod Later
+pub mod Pairs
+pub mod Pairwise
