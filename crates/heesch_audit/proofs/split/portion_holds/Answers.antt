@@ -39,7 +39,7 @@ returns-then-not-branch-2 g c =
     refused (λ holds. true≢false (sym (c.in_ok-are_parts_due.ensures.1 (λ first. (holds.beside first).parts)) ∙ fails))
 
 pub are_proved-requires-clause-domains : goal.are_proved-requires-clause-domains
-are_proved-requires-clause-domains g c κs within =
+are_proved-requires-clause-domains g c =
     let geometry = g.G.Grid.geometry in
     let limits = c.args.limits in
     let entry = c.args.entry.now in

@@ -41,7 +41,7 @@ returns-then-not-has_no_cut g c =
     refused (λ h. true≢false (sym (c.has_no_cut.ensures.1 (both.0 h.1).1) ∙ fails))
 
 pub is_ended_by-requires-clause-near : goal.is_ended_by-requires-clause-near
-is_ended_by-requires-clause-near g c κs within = bare_near c.in-Some.ended.end c.in-Some.ended.proof.now c.args.bare.now c.in-Some.ensures c.requires.near
+is_ended_by-requires-clause-near g c = bare_near c.in-Some.ended.end c.in-Some.ended.proof.now c.args.bare.now c.in-Some.ensures c.requires.near
 
 pub returns : goal.returns
 returns g c =

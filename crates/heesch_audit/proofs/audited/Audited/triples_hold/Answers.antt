@@ -14,7 +14,7 @@ returns-then-not-branch g c =
     refused (λ h. true≢false (sym (c.in_ok-are_asked.ensures.1 (asked_of g.G.Grid.geometry c.args.self.now.limits c.args.self.now.shape.now c.args.self.now.entry.now.verdict c.args.self.now.entry.now.evidence h)) ∙ fails))
 
 pub are_proved-requires-clause-domains : goal.are_proved-requires-clause-domains
-are_proved-requires-clause-domains g c κs within =
+are_proved-requires-clause-domains g c =
     let geometry = g.G.Grid.geometry in
     let shape = c.args.self.now.shape.now in
     let limits = c.args.self.now.limits in
