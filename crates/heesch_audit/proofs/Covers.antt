@@ -10,7 +10,7 @@ use Rattle.heesch_grid.proofs.ListFacts.{All-from_members}
 use Rattle.heesch_tiling.specs.Counting.{IsDoubled, IsInRange, IsMissed}
 use Rattle.heesch_tiling.specs.CoverAnswer.{IsCoverAnswer}
 use Rattle.heesch_tiling.specs.declared.check.Cover.TheVariants.{Doubled, Missed}
-use Rattle.heesch_audit.specs.Near.{IsNearIso}
+use Rattle.heesch_logs.specs.Near.{IsNearIso}
 
 pub in_range : (g : Geometry) (places : List Iso) → All (IsIsometry g) places → All IsNearIso places → All (IsInRange g) places
 in_range g places turns near = All-from_members (IsInRange g) places (λ by m. record { turn = All-contains (IsIsometry g) places by turns m; near = All-contains IsNearIso places by near m })

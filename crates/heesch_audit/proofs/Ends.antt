@@ -14,7 +14,8 @@ use Rattle.heesch_audit.specs.declared.proof_end.ProofEnd.{ProofEnd}
 use Rattle.heesch_audit.specs.declared.proof_end.ProofEnd.TheVariants.{Refuted, Spent}
 use Rattle.heesch_audit.specs.Ends.{BareEnds, EndsCoronas}
 use Rattle.heesch_audit.specs.Formulas.{AsksFormula}
-use Rattle.heesch_audit.specs.Near.{IsNearBare, IsNearProof}
+use Rattle.heesch_audit.specs.Near.{IsNearBare}
+use Rattle.heesch_logs.specs.Near.{IsNearProof}
 
 -- a search that no formula is needed for shows nothing
 pub not_asked : (g : Geometry) (limits : Limits) (shape : List Cell) (m : ℕ) (bare : Bare) → (¬ AsksFormula bare) → BareShows g limits shape m bare

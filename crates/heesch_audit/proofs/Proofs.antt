@@ -1,5 +1,5 @@
 -- What the answers on logs say of proofs.
-use Rattle.std.proofs.Common.{◌≡◌, sym, subst, ◌∙◌, ℕ, ◌+◌, ◌-◌, ◌≤◌, List, [], length, arith, inl, inr, All, Result}
+use Rattle.std.proofs.Common.{◌≡◌, sym, subst, ◌∙◌, ℕ, ◌≤◌, List, [], arith, inl, inr, All, Result}
 use Rattle.std.specs.Prelude.{◌↔◌, ◌⊎◌, Option, Some, None, IfOk, Ok, Err}
 use Rattle.heesch_grid.specs.declared.Cell.{Cell}
 use Rattle.heesch_grid.specs.Clauses.{formula_size}
@@ -10,9 +10,7 @@ use Rattle.heesch_grid.specs.Polyform.{IsPolyform}
 use Rattle.heesch_cnf.specs.declared.literal.Lit.{Lit}
 use Rattle.heesch_cnf.specs.declared.log.Log.{Log}
 use Rattle.heesch_cnf.specs.Flat.{Clauses}
-use Rattle.heesch_cnf.specs.Lines.{Refutes, IsSpent, LinesHold, HasFinal, clauses_with}
-use Rattle.heesch_cnf.specs.declared.log.Line.TheVariants.{Given}
-use Rattle.heesch_rup.specs.Answer.{FailsAtLine, FinalFails, IsFirstBad}
+use Rattle.heesch_cnf.specs.Lines.{Refutes, IsSpent}
 use Rattle.heesch_cert.specs.declared.limits.Limits.{Limits}
 use Rattle.heesch_cert.specs.declared.proof.Proof.{Proof}
 use Rattle.heesch_cert.specs.Formulas.{IsCountedFormula}
@@ -24,39 +22,22 @@ use Rattle.heesch_audit.specs.declared.proof_end.ProofEnd.{ProofEnd}
 use Rattle.heesch_audit.specs.declared.proof_end.ProofEnd.TheVariants.{Refuted, Spent}
 use Rattle.heesch_audit.specs.Ends.{EndsCoronas, IsEndOf, LogEnds}
 use Rattle.heesch_audit.specs.Formulas.{IsFormulaAt}
-use Rattle.heesch_audit.specs.Logs.{IsLogOf}
-use Rattle.heesch_audit.proofs.Equal.{through}
+use Rattle.heesch_logs.specs.Admitted.{IsAdmitted, IsLogOf}
+use Rattle.heesch_logs.specs.Near.{IsNearProof}
+use Rattle.heesch_logs.proofs.Admitting.{admitted_where_lawful, lawful_steps}
+use Rattle.heesch_logs.proofs.Equal.{through}
+use Rattle.heesch_logs.proofs.Refuted.{open_not_refuted}
 
 -- ---- logs
 
-final_there : (clauses : List (List Lit)) (last : Option (List ℕ)) → HasFinal clauses last → ¬ (last ≡ None)
-final_there clauses None h e = h
-final_there clauses (Some hints) h e = cc
-
-final_fails : (clauses : List (List Lit)) (last : Option (List ℕ)) → FinalFails clauses last → ¬ HasFinal clauses last
-final_fails clauses None f h = f
-final_fails clauses (Some hints) f h = f h
-
 module _ (vars : ℕ) (clauses : List (List Lit)) (log : Log) where
-  pub open_not_refuted : log.last ≡ None → ¬ Refutes vars clauses log
-  open_not_refuted e r = final_there (clauses_with clauses log.lines) log.last r.final e
-
-  bad_line : (at : ℕ) → IsFirstBad vars clauses log at → LinesHold vars clauses log.lines → (at ≡ length log.lines + 1) × FinalFails (clauses_with clauses log.lines) log.last
-  bad_line at b lines = elim b.bad [ inl f ↦ absurd (fails f) | inr f ↦ f ]
-    where
-      fails : FailsAtLine vars clauses log.lines (at - 1) → ⊥
-      fails f = f.1 (Given []) (lines (at - 1) f.0 (Given []))
-
-  pub bad_not_refuted : (at : ℕ) → IsFirstBad vars clauses log at → ¬ Refutes vars clauses log
-  bad_not_refuted at b r = final_fails (clauses_with clauses log.lines) log.last (bad_line at b r.lines).1 r.final
-
   -- a log with a final line is not spent, and one without refutes nothing
   pub ended_so : (end : ProofEnd) (turns : ℕ) → IsEndOf log end → LogEnds end vars clauses turns log ↔ (Refutes vars clauses log ⊎ IsSpent vars clauses turns log)
   ended_so Refuted turns (hints, last) = ((λ r. inl r), (λ h. elim h [ inl r ↦ r | inr p ↦ absurd (never (sym last ∙ p.unfinished)) ]))
     where
       never : Some hints ≡ None → ⊥
       never e = cc
-  ended_so Spent turns last = ((λ p. inr p), (λ h. elim h [ inl r ↦ absurd (open_not_refuted last r) | inr p ↦ p ]))
+  ended_so Spent turns last = ((λ p. inr p), (λ h. elim h [ inl r ↦ absurd (open_not_refuted vars clauses log last r) | inr p ↦ p ]))
 
 pub if_ok_more : {T E : Type 0} (P Q : T → Type 0) → ((x : T) → P x → Q x) → (r : Result T E) → IfOk r P → IfOk r Q
 if_ok_more P Q f (Ok x) p = f x p
@@ -84,14 +65,18 @@ module _ (limits : Limits) (g : Geometry) (law : IsGrid g) (shape : List Cell) (
       exactly Refuted = refutes_exactly limits.version g law shape form j u.vars f.vars f.clauses at.counted limits.size proof
       exactly Spent = spent_exactly limits.version g law shape form j u.vars f.vars f.clauses at.counted limits.turns limits.size proof
 
-      pub unlawful_not_ended : (end : ProofEnd) → (¬ All (IsLawfulStep g shape u.level u.vars) proof.steps) → ¬ EndsCoronas end g limits shape j proof
-      unlawful_not_ended end fails r = fails (subst (λ k. All (IsLawfulStep g shape k u.vars) proof.steps) (sym at.same_level) ((exactly end).0 r).1)
+      pub unlawful_not_ended : (end : ProofEnd) (k : ℕ) → k ≡ u.level → IsNearProof proof → (¬ IsAdmitted g u k proof) → ¬ EndsCoronas end g limits shape j proof
+      unlawful_not_ended end k same near fails r =
+          let P : List Cell → ℕ → Type 0 = λ cells n. All (IsLawfulStep g cells n u.vars) proof.steps in
+          fails (admitted_where_lawful g u k same proof near (subst (λ cells. P cells u.level) (sym at.same_shape) (subst (P shape) (sym at.same_level) ((exactly end).0 r).1)))
 
-      pub ends_coronas : (log : Log) → IsLogOf g shape u.level u.vars proof log → (end : ProofEnd) → LogEnds end f.vars f.clauses limits.turns log ↔ EndsCoronas end g limits shape j proof
-      ends_coronas log is end = (
-        (λ r. (exactly end).1 (at.fits, subst (λ k. All (IsLawfulStep g shape k u.vars) proof.steps) at.same_level is.0, subst (LogEnds end f.vars f.clauses limits.turns) is.1 r)),
-        (λ r. subst (LogEnds end f.vars f.clauses limits.turns) (sym is.1) ((exactly end).0 r).2),
-      )
+      pub ends_coronas : (log : Log) (k : ℕ) → IsLogOf g u k proof log → (end : ProofEnd) → LogEnds end f.vars f.clauses limits.turns log ↔ EndsCoronas end g limits shape j proof
+      ends_coronas log k is end =
+          let P : List Cell → ℕ → Type 0 = λ cells n. All (IsLawfulStep g cells n u.vars) proof.steps in
+          let lawful : P shape j = subst (P shape) at.same_level (subst (λ cells. P cells u.level) at.same_shape (lawful_steps g u k proof is.0)) in (
+            (λ r. (exactly end).1 (at.fits, lawful, subst (LogEnds end f.vars f.clauses limits.turns) is.1 r)),
+            (λ r. subst (LogEnds end f.vars f.clauses limits.turns) (sym is.1) ((exactly end).0 r).2),
+          )
 
 -- ---- proofs over a torus formula
 

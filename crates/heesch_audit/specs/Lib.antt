@@ -2,7 +2,6 @@ pub mod Near
 pub mod Shapes
 pub mod Spelling
 pub mod Formulas
-pub mod Logs
 pub mod Ends
 pub mod Plains
 pub mod Walls

@@ -1,12 +1,7 @@
 -- Entries whose coordinates lie near 0.
-use Rattle.std.specs.Prelude.{List, Option, Some, None, All, ⊤}
-use Rattle.heesch_grid.specs.declared.isometries.Iso.{Iso}
-use Rattle.heesch_grid.specs.Cells.{cell}
+use Rattle.std.specs.Prelude.{Option, Some, None, All, ⊤}
 use Rattle.heesch_grid.specs.Symmetry.{Member}
 use Rattle.heesch_grid.specs.Vectors.{IsWithin}
-use Rattle.heesch_cert.specs.declared.proof.Step.{Step}
-use Rattle.heesch_cert.specs.declared.proof.Step.TheVariants.{Learn, Cut}
-use Rattle.heesch_cert.specs.declared.proof.Proof.{Proof}
 use Rattle.heesch_cert.specs.declared.entry.Layers.{Layers}
 use Rattle.heesch_cert.specs.declared.entry.Wall.{Wall}
 use Rattle.heesch_cert.specs.declared.entry.Wall.TheVariants.{Absent as NoWall, Refuted as WallRefuted, Spent as WallSpent, Size as WallSize}
@@ -16,33 +11,21 @@ use Rattle.heesch_cert.specs.declared.entry.TripleProof.{TripleProof}
 use Rattle.heesch_cert.specs.declared.entry.Evidence.{Evidence}
 use Rattle.heesch_cert.specs.declared.entry.Evidence.TheVariants.{Cover, Search}
 use Rattle.heesch_cert.specs.declared.entry.Entry.{Entry}
+use Rattle.heesch_logs.specs.Near.{IsNearIso, AreNearLayers, IsNearProof}
 
--- the translation lies within 100,000 of 0; the turn may be any
-abbrev pub IsNearIso : Iso → Type 0
-IsNearIso by = IsWithin 100000 (cell by.da by.db)
-
--- so do the translations of all layers
-abbrev pub AreNearLayers : List (List Iso) → Type 0
-AreNearLayers layers = All (All IsNearIso) layers
-
+-- the translations of the layers lie within 100,000 of 0
 abbrev pub IsNearWider : Option Layers → Type 0
 IsNearWider None = ⊤
 IsNearWider (Some wider) = AreNearLayers wider.layers
 
--- the cells of a cut's hole lie within 100,000 of 0
-abbrev pub IsNearStep : Step → Type 0
-IsNearStep (Learn clause hints) = ⊤
-IsNearStep (Cut cut) = All (IsWithin 100000) cut.hole
-
-abbrev pub IsNearProof : Proof → Type 0
-IsNearProof proof = All IsNearStep proof.steps
-
+-- the cells of the holes of its cuts lie within 100,000 of 0
 abbrev pub IsNearWall : Wall → Type 0
 IsNearWall NoWall = ⊤
 IsNearWall (WallRefuted proof) = IsNearProof proof
 IsNearWall (WallSpent proof) = IsNearProof proof
 IsNearWall WallSize = ⊤
 
+-- so do those of the cuts of the search with holes allowed
 abbrev pub IsNearBare : Bare → Type 0
 IsNearBare (BareRefuted proof) = IsNearProof proof
 IsNearBare (BareSpent proof) = IsNearProof proof

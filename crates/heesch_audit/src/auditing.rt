@@ -29,7 +29,7 @@ pub enum EntryAnswer {
 
 impl<'a, G: Grid> Audited<'a, G> {
     /// The least of the parts 2 to 8 that fails, where the shape is that of the entry.
-    pub(crate) fn failing_part<R: Threads + Sync>(&self, rt: &R) -> Result<Option<u32>, NoMemory>
+    pub(crate) fn failing_part(&self) -> Result<Option<u32>, NoMemory>
         requires shape { IsCanonicalShape G.geometry self.now.shape.now }
         requires same { self.now.shape.now ≡ self.now.entry.now.cells }
         requires canonical { AreCanonical G.geometry self.now.entry.now.cells }
@@ -51,7 +51,7 @@ impl<'a, G: Grid> Audited<'a, G> {
         if !self.free_holds()? {
             return Ok(Some(5));
         }
-        self.failing_search(rt)
+        self.failing_search()
     }
 }
 
@@ -61,12 +61,13 @@ impl<'a, G: Grid> Audited<'a, G> {
 /// of 0. Its turns, numbers, lists and triples may be any. A turn that isn't one of the grid's makes the part fail in
 /// which it stands. The verdict of a valid entry is right.
 ///
-/// Nothing is searched for but the plain tiling of the shape. A proof costs as many steps as its lines and hints have
-/// literals, besides the formula that it is over: that of a level is made once where both searches are of one level,
-/// and let go before the next is made, and its clauses stand in one array. A proof is read where it stands: while it
-/// is checked, its clauses stand once more in one array, and those of its cuts are made.
+/// Nothing is searched for but the plain tiling of the shape, and no formula is made: each clause is computed from its
+/// number where a hint names it. What a formula's clauses are computed from is made once where both searches are of
+/// one level, and let go before that of the next is made. A proof is read where it stands, in the caller's thread:
+/// while it is checked, its clauses stand once more in one array, and those of its cuts are made. A line costs as many
+/// steps as the clauses of its hints have literals, and in a spent proof the question whether it is new.
 pub fn audit<G: Grid, R: Threads + Sync>(
-    rt: &R,
+    _rt: &R,
     alloc: Global,
     entry: &Entry,
     limits: Limits,
@@ -87,10 +88,10 @@ pub fn audit<G: Grid, R: Threads + Sync>(
         entry,
         limits,
     };
-    if let Some(part) = audited.failing_part(rt)? {
+    if let Some(part) = audited.failing_part()? {
         return Ok(EntryAnswer::Invalid { part });
     }
-    if !audited.triples_hold(rt)? {
+    if !audited.triples_hold()? {
         return Ok(EntryAnswer::Invalid { part: 9 });
     }
     Ok(EntryAnswer::Valid)

@@ -1,26 +1,19 @@
 //! Parts 5 and 7, the layers of coronas.
-ghost use Rattle.std.specs.Prelude.{◌≡◌, ◌≤◌, ◌↔◌, true, IsTrue, IfOk, IfSome, length};
+ghost use Rattle.std.specs.Prelude.{◌≤◌, ◌↔◌, true, IsTrue, IfOk, IfSome, length};
 ghost use Rattle.heesch_cert.specs.TrueEntry.{FreeHolds, OpenShows};
 ghost use Rattle.heesch_audit.specs.Bounds.{HasFewLayers};
-ghost use Rattle.heesch_audit.specs.Near.{AreNearLayers, IsNearEvidence, IsNearWider};
+ghost use Rattle.heesch_audit.specs.Near.{IsNearEvidence, IsNearWider};
 ghost use Rattle.heesch_audit.specs.Shapes.{IsCanonicalShape};
 ghost use Rattle.heesch_audit.specs.Spelling.{SpellCoronas};
+ghost use Rattle.heesch_logs.specs.Near.{AreNearLayers};
 
 use crate::audited::Audited;
-use crate::spelling::are_spelled;
 use heesch_cert::{Evidence, Layers};
-use heesch_corona::{CoronaAnswer, check_coronas};
 use heesch_grid::Grid;
 use heesch_io::NoMemory;
+use heesch_logs::{are_coronas, are_spelled};
 use heesch_shape::Shape;
 use std::alloc::Global;
-
-/// Whether nothing is amiss.
-fn is_holding(answer: &CoronaAnswer) -> bool
-    ensures { IsTrue result ↔ (answer.now ≡ CoronaAnswer.Holds) }
-{
-    matches!(answer, CoronaAnswer::Holds)
-}
 
 /// Whether the layers spell coronas, hole-free ones where `hole_free`.
 fn spell_coronas<G: Grid>(
@@ -37,8 +30,7 @@ fn spell_coronas<G: Grid>(
     if !are_spelled(shape, layers.layers.as_slice()) {
         return Ok(false);
     }
-    let answer = check_coronas(alloc, shape, layers, hole_free)?;
-    Ok(is_holding(&answer))
+    are_coronas(alloc, shape, layers, hole_free)
 }
 
 /// Part 7: whether the wider layers, where there are any, are coronas, holes allowed, so spelled.

@@ -5,8 +5,9 @@ ghost use Rattle.heesch_grid.specs.Tiling.{IsPeriodicCover};
 ghost use Rattle.heesch_grid.specs.Symmetry.{AreClasses};
 ghost use Rattle.heesch_cert.specs.TrueEntry.{CoverHolds, ClassesHold};
 ghost use Rattle.heesch_audit.specs.Bounds.{HasFewPlaces};
-ghost use Rattle.heesch_audit.specs.Near.{IsNearIso, IsNearEvidence};
+ghost use Rattle.heesch_audit.specs.Near.{IsNearEvidence};
 ghost use Rattle.heesch_audit.specs.Shapes.{IsCanonicalShape};
+ghost use Rattle.heesch_logs.specs.Near.{IsNearIso};
 
 use crate::audited::Audited;
 use heesch_cert::{Classes, Evidence, Member, Tiling, Verdict};

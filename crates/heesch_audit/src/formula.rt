@@ -5,18 +5,18 @@ ghost use Rattle.heesch_cert.specs.Proofs.{IsTooLarge};
 ghost use Rattle.heesch_cert.specs.TrueEntry.{WallShows};
 ghost use Rattle.heesch_audit.specs.Ends.{EndsCoronas};
 ghost use Rattle.heesch_audit.specs.Formulas.{IsLevelFormula};
-ghost use Rattle.heesch_audit.specs.Near.{IsNearProof, IsNearWall};
+ghost use Rattle.heesch_audit.specs.Near.{IsNearWall};
 ghost use Rattle.heesch_audit.specs.Shapes.{IsCanonicalShape};
+ghost use Rattle.heesch_logs.specs.Near.{IsNearProof};
 
 use crate::corona_formula::CoronaFormula;
-use crate::logs::lawful_log;
 use crate::proof_end::ProofEnd;
 use heesch_cert::{Limits, Proof, Wall};
 use heesch_grid::Grid;
 use heesch_io::NoMemory;
+use heesch_logs::admitted_log;
 use heesch_shape::Shape;
 use std::alloc::Global;
-use std::thread::Threads;
 
 /// The corona formula of a level, where it has no more literals than the limits allow.
 #[derive(Drop)]
@@ -77,9 +77,8 @@ impl<F> LevelFormula<F> {
     }
 
     /// Whether the proof refutes the formula, or is spent over it for the limit on turns, and its cuts are lawful.
-    pub(crate) fn is_ended_by<G: Grid, R: Threads + Sync>(
+    pub(crate) fn is_ended_by<G: Grid>(
         &self,
-        rt: &R,
         alloc: Global,
         shape: &Shape<G>,
         end: ProofEnd,
@@ -96,16 +95,16 @@ impl<F> LevelFormula<F> {
         let Some(formula) = &self.formula else {
             return Ok(false);
         };
-        let Some(log) = lawful_log(alloc, shape, formula.variables(), proof)? else {
+        let universe = formula.variables();
+        let Some(log) = admitted_log(alloc, shape, universe, universe.level(), proof)? else {
             return Ok(false);
         };
-        formula.is_ended(rt, alloc, &log, end, self.limits.turns)
+        formula.is_ended(alloc, &log, end, self.limits.turns)
     }
 
     /// Whether the search for one corona more, which is over the formula, ended as is written.
-    pub(crate) fn shows_wall<G: Grid, R: Threads + Sync>(
+    pub(crate) fn shows_wall<G: Grid>(
         &self,
-        rt: &R,
         alloc: Global,
         shape: &Shape<G>,
         wall: &Wall,
@@ -120,8 +119,8 @@ impl<F> LevelFormula<F> {
     {
         match wall {
             Wall::Absent => Ok(true),
-            Wall::Refuted { proof } => self.is_ended_by(rt, alloc, shape, ProofEnd::Refuted, proof),
-            Wall::Spent { proof } => self.is_ended_by(rt, alloc, shape, ProofEnd::Spent, proof),
+            Wall::Refuted { proof } => self.is_ended_by(alloc, shape, ProofEnd::Refuted, proof),
+            Wall::Spent { proof } => self.is_ended_by(alloc, shape, ProofEnd::Spent, proof),
             Wall::Size => Ok(self.is_too_large(shape)),
         }
     }

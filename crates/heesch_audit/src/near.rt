@@ -1,63 +1,19 @@
 //! Whether the coordinates of an entry lie near 0.
 ghost use Rattle.std.specs.Prelude.{◌↔◌, All, IsTrue};
-ghost use Rattle.heesch_grid.specs.Cells.{cell};
 ghost use Rattle.heesch_grid.specs.Symmetry.{Member as InClass};
-ghost use Rattle.heesch_grid.specs.Vectors.{IsWithin};
 ghost use Rattle.heesch_cert.specs.declared.entry.TripleProof.{TripleProof as Written};
-ghost use Rattle.heesch_audit.specs.Near.{IsNearIso, AreNearLayers, IsNearWider, IsNearStep, IsNearProof, IsNearWall};
-ghost use Rattle.heesch_audit.specs.Near.{IsNearBare, IsNearEvidence, IsNearEntry};
+ghost use Rattle.heesch_audit.specs.Near.{IsNearWider, IsNearWall, IsNearBare, IsNearEvidence, IsNearEntry};
+ghost use Rattle.heesch_logs.specs.Near.{IsNearIso, IsNearProof};
 
-use heesch_cert::{Bare, Entry, Evidence, Isos, Layers, Member, Proof, Step, TripleProof, Wall};
-use heesch_grid::{Cell, Iso};
+use heesch_cert::{Bare, Entry, Evidence, Layers, Member, TripleProof, Wall};
+use heesch_logs::{are_near_cells, are_near_isos, are_near_layers, is_near_iso, is_near_proof};
 
-/// How far from 0 coordinates may lie.
-const REACH: i32 = 100_000;
-
-/// Whether both numbers lie within 100,000 of 0.
-fn is_near_pair(a: i32, b: i32) -> bool
-    ensures { IsTrue result ↔ IsWithin 100000 (cell a b) }
-{
-    -REACH <= a && a <= REACH && -REACH <= b && b <= REACH
-}
-
-fn are_near_cells(cells: &[Cell]) -> bool
-    ensures { IsTrue result ↔ All (IsWithin 100000) cells.now }
-{
-    for c in cells {
-        if !is_near_pair(c.a, c.b) {
-            return false;
-        }
-    }
-    true
-}
-
-fn are_near_isos(isos: &[Iso]) -> bool
-    ensures { IsTrue result ↔ All IsNearIso isos.now }
-{
-    for by in isos {
-        if !is_near_pair(by.da, by.db) {
-            return false;
-        }
-    }
-    true
-}
-
+/// Whether the translations of the symmetries lie within 100,000 of 0.
 fn are_near_members(members: &[Member]) -> bool
     ensures { IsTrue result ↔ All (λ (member : InClass). IsNearIso member.by) members.now }
 {
     for member in members {
-        if !is_near_pair(member.by.da, member.by.db) {
-            return false;
-        }
-    }
-    true
-}
-
-fn are_near_layers(layers: &[Isos]) -> bool
-    ensures { IsTrue result ↔ AreNearLayers layers.now }
-{
-    for layer in layers {
-        if !are_near_isos(layer.as_slice()) {
+        if !is_near_iso(member.by) {
             return false;
         }
     }
@@ -71,26 +27,6 @@ fn is_near_wider(wider: &Option<Layers>) -> bool
         None => true,
         Some(layers) => are_near_layers(layers.layers.as_slice()),
     }
-}
-
-fn is_near_step(step: &Step) -> bool
-    ensures { IsTrue result ↔ IsNearStep step.now }
-{
-    match step {
-        Step::Learn { .. } => true,
-        Step::Cut { cut } => are_near_cells(cut.hole.as_slice()),
-    }
-}
-
-fn is_near_proof(proof: &Proof) -> bool
-    ensures { IsTrue result ↔ IsNearProof proof.now }
-{
-    for step in proof.steps.as_slice() {
-        if !is_near_step(step) {
-            return false;
-        }
-    }
-    true
 }
 
 fn is_near_wall(wall: &Wall) -> bool

@@ -25,7 +25,7 @@ pub fn most_portions(entry: &Entry) -> usize
 impl<'a, G: Grid> Audited<'a, G> {
     /// Whether the parts 2 to 8 of the entry hold, where this is the first portion and the shape that of the entry; no
     /// other portion asks for them.
-    fn are_parts_due<R: Threads + Sync>(&self, rt: &R, portion: u32) -> Result<bool, NoMemory>
+    fn are_parts_due(&self, portion: u32) -> Result<bool, NoMemory>
         requires shape { IsCanonicalShape G.geometry self.now.shape.now }
         requires same { self.now.shape.now ≡ self.now.entry.now.cells }
         requires canonical { AreCanonical G.geometry self.now.entry.now.cells }
@@ -37,7 +37,7 @@ impl<'a, G: Grid> Audited<'a, G> {
         if portion > 0 {
             return Ok(true);
         }
-        let failing = self.failing_part(rt)?;
+        let failing = self.failing_part()?;
         Ok(failing.is_none())
     }
 }
@@ -59,7 +59,7 @@ fn is_bare(portion: u32, triples: usize) -> bool
 /// has a triple the shape and the list of the triples that are asked for are made anew; where others are written, no
 /// proof is read.
 pub fn portion_holds<G: Grid, R: Threads + Sync>(
-    rt: &R,
+    _rt: &R,
     alloc: Global,
     entry: &Entry,
     limits: Limits,
@@ -87,8 +87,8 @@ pub fn portion_holds<G: Grid, R: Threads + Sync>(
     if !audited.are_asked()? {
         return Ok(false);
     }
-    if !audited.are_parts_due(rt, portion)? {
+    if !audited.are_parts_due(portion)? {
         return Ok(false);
     }
-    audited.are_proved(rt, written, portion, portions)
+    audited.are_proved(written, portion, portions)
 }

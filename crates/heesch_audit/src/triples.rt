@@ -9,13 +9,14 @@ ghost use Rattle.heesch_audit.specs.Portions.{triples_of, AreProved, AreTriplesA
 ghost use Rattle.heesch_audit.specs.Shapes.{IsCanonicalShape};
 
 use crate::audited::Audited;
-use crate::logs::{end_of, is_ended, learnt_log};
+use crate::logs::{end_of, is_ended};
 use heesch_cert::{Evidence, TripleProof, Verdict};
 use heesch_grid::Grid;
 use heesch_io::NoMemory;
 use heesch_lattice::Triple;
-use heesch_torus::{torus_formula, triples_up_to};
-use std::thread::Threads;
+use heesch_logs::learnt_log;
+use heesch_tori::TorusSource;
+use heesch_torus::triples_up_to;
 
 /// Whether the verdict leaves open whether the shape tiles.
 fn is_undecided(verdict: Verdict) -> bool
@@ -58,7 +59,7 @@ pub(crate) fn triples_of(evidence: &Evidence) -> &[TripleProof]
 impl<'a, G: Grid> Audited<'a, G> {
     /// Whether the proof has no cut, and refutes the torus formula of its triple or is spent for the limit on turns
     /// over it.
-    fn is_settled<R: Threads + Sync>(&self, rt: &R, written: &TripleProof) -> Result<bool, NoMemory>
+    fn is_settled(&self, written: &TripleProof) -> Result<bool, NoMemory>
         requires shape { IsCanonicalShape G.geometry self.now.shape.now }
         requires domain { HasDomain G.geometry (length self.now.shape.now) written.now.triple }
         ensures { IfOk result
@@ -68,21 +69,13 @@ impl<'a, G: Grid> Audited<'a, G> {
         let Some(log) = learnt_log(self.alloc, &written.proof) else {
             return Ok(false);
         };
-        let formula = torus_formula(self.alloc, self.shape, written.triple)?;
-        is_ended(
-            rt,
-            self.alloc,
-            &formula,
-            &log,
-            end_of(&log),
-            self.limits.turns,
-        )
+        let source = TorusSource::of(self.alloc, self.shape, written.triple)?;
+        is_ended(self.alloc, &source, &log, end_of(&log), self.limits.turns)
     }
 
     /// Whether the proof of each so many-th of these triples, from the portion's first on, settles it.
-    pub(crate) fn are_proved<R: Threads + Sync>(
+    pub(crate) fn are_proved(
         &self,
-        rt: &R,
         written: &[TripleProof],
         portion: u32,
         portions: u32,
@@ -97,7 +90,7 @@ impl<'a, G: Grid> Audited<'a, G> {
     {
         let mut at = portion as usize;
         while at < written.len() {
-            if !self.is_settled(rt, &written[at])? {
+            if !self.is_settled(&written[at])? {
                 return Ok(false);
             }
             at += portions as usize;
@@ -130,7 +123,7 @@ impl<'a, G: Grid> Audited<'a, G> {
     }
 
     /// Whether the triples are those that are asked for, each settled.
-    pub(crate) fn triples_hold<R: Threads + Sync>(&self, rt: &R) -> Result<bool, NoMemory>
+    pub(crate) fn triples_hold(&self) -> Result<bool, NoMemory>
         requires shape { IsCanonicalShape G.geometry self.now.shape.now }
         requires limits { AreLimits self.now.limits }
         ensures { IfOk result
@@ -141,6 +134,6 @@ impl<'a, G: Grid> Audited<'a, G> {
             return Ok(false);
         }
         let written = triples_of(&self.entry.evidence);
-        self.are_proved(rt, written, 0, 1)
+        self.are_proved(written, 0, 1)
     }
 }

@@ -1,7 +1,6 @@
 //! Parts 6 to 8, the ends of the searches for coronas.
 ghost use Rattle.std.specs.Prelude.{◌≡◌, ◌≤◌, ◌↔◌, IsTrue, IfOk, IfSome, MatchOption, length};
 ghost use Rattle.heesch_cert.specs.Limits.{AreLimits};
-ghost use Rattle.heesch_cert.specs.Proofs.{IsTooLarge};
 ghost use Rattle.heesch_cert.specs.TrueEntry.{FormFits, SameWhereNoCut, BareShows};
 ghost use Rattle.heesch_audit.specs.Formulas.{IsLevelFormula, AsksFormula};
 ghost use Rattle.heesch_audit.specs.Near.{IsNearEvidence, IsNearBare};
@@ -12,17 +11,16 @@ use crate::audited::Audited;
 use crate::corona_formula::CoronaFormula;
 use crate::coronas::is_open;
 use crate::formula::{LevelFormula, level_formula};
-use crate::logs::has_no_cut;
 use crate::proof_end::ended_of;
 use heesch_cert::{Bare, Evidence, Wall};
 use heesch_cnf::Version;
-use heesch_encode::FlatEncoded;
 use heesch_grid::Grid;
 use heesch_io::NoMemory;
+use heesch_logs::has_no_cut;
 use heesch_numbers::CoronaSource;
+use heesch_pairwise::PairwiseSource;
 use heesch_shape::Shape;
 use std::alloc::Global;
-use std::thread::Threads;
 
 /// Whether both hold or neither.
 fn agree(one: bool, other: bool) -> bool
@@ -61,8 +59,7 @@ fn asks_formula(bare: &Bare) -> bool
 
 /// Whether the search with holes allowed ended at level m as is written, its proofs have no cut, and it is the same as
 /// that with holes forbidden exactly where a refutation has no cut. The formula of another level, or of m, is at hand.
-fn bare_holds<G: Grid, F: CoronaFormula<G>, R: Threads + Sync>(
-    rt: &R,
+fn bare_holds<G: Grid, F: CoronaFormula<G>>(
     alloc: Global,
     shape: &Shape<G>,
     at_hand: LevelFormula<F>,
@@ -93,15 +90,12 @@ fn bare_holds<G: Grid, F: CoronaFormula<G>, R: Threads + Sync>(
     if !has_no_cut(ended.proof) {
         return Ok(false);
     }
-    formula.is_ended_by(rt, alloc, shape, ended.end, ended.proof)
+    formula.is_ended_by(alloc, shape, ended.end, ended.proof)
 }
 
 impl<'a, G: Grid> Audited<'a, G> {
     /// The first of the parts 6 to 8 that fails, as `failing_search` says, over the formulas of this version.
-    fn failing_over<F: CoronaFormula<G>, R: Threads + Sync>(
-        &self,
-        rt: &R,
-    ) -> Result<Option<u32>, NoMemory>
+    fn failing_over<F: CoronaFormula<G>>(&self) -> Result<Option<u32>, NoMemory>
         requires shape { IsCanonicalShape G.geometry self.now.shape.now }
         requires limits { AreLimits self.now.limits }
         requires version { F.version ≡ self.now.limits.version }
@@ -126,13 +120,13 @@ impl<'a, G: Grid> Audited<'a, G> {
         let (alloc, shape, verdict) = (self.alloc, self.shape, self.entry.verdict);
         let level = verdict.first_number() + 1;
         let formula: LevelFormula<F> = level_formula(alloc, shape, self.limits, level, None)?;
-        if !formula.shows_wall(rt, alloc, shape, wall)? {
+        if !formula.shows_wall(alloc, shape, wall)? {
             return Ok(Some(6));
         }
         if !is_open(alloc, shape, wider)? {
             return Ok(Some(7));
         }
-        if !bare_holds(rt, alloc, shape, formula, verdict.last_number(), wall, bare)? {
+        if !bare_holds(alloc, shape, formula, verdict.last_number(), wall, bare)? {
             return Ok(Some(8));
         }
         Ok(None)
@@ -140,7 +134,7 @@ impl<'a, G: Grid> Audited<'a, G> {
 
     /// The first of the parts 6 to 8 that fails, the form being right: the wall, the open coronas, the search behind
     /// the wall. The formula of the wall serves for the search behind it, where they are of one level.
-    pub(crate) fn failing_search<R: Threads + Sync>(&self, rt: &R) -> Result<Option<u32>, NoMemory>
+    pub(crate) fn failing_search(&self) -> Result<Option<u32>, NoMemory>
         requires shape { IsCanonicalShape G.geometry self.now.shape.now }
         requires limits { AreLimits self.now.limits }
         requires form { FormFits G.geometry self.now.limits self.now.shape.now
@@ -150,8 +144,8 @@ impl<'a, G: Grid> Audited<'a, G> {
             self.now.entry.now.verdict self.now.entry.now.evidence) }
     {
         match self.limits.version {
-            Version::One => self.failing_over::<FlatEncoded<G>, R>(rt),
-            Version::Two => self.failing_over::<CoronaSource<G>, R>(rt),
+            Version::One => self.failing_over::<PairwiseSource<G>>(),
+            Version::Two => self.failing_over::<CoronaSource<G>>(),
         }
     }
 }

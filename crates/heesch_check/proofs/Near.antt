@@ -22,7 +22,8 @@ use Rattle.heesch_cert.specs.TrueEntry.{last_number}
 use Rattle.heesch_text.specs.Catalogue.{step_line, last_line, proof_lines, layer_lines, wall_lines, bare_lines, wider_lines, wider_count, triple_lines, tile_lines, evidence_lines, entry_lines}
 use Rattle.heesch_line.specs.Forms.{IsLine, IsPlace}
 use Rattle.heesch_grammar.specs.Entries.{HoldsEvidence, HoldsItsLines}
-use Rattle.heesch_audit.specs.Near.{IsNearIso, AreNearLayers, IsNearWider, IsNearStep, IsNearProof, IsNearWall, IsNearBare, IsNearEvidence, IsNearEntry}
+use Rattle.heesch_audit.specs.Near.{IsNearWider, IsNearWall, IsNearBare, IsNearEvidence, IsNearEntry}
+use Rattle.heesch_logs.specs.Near.{IsNearIso, AreNearLayers, IsNearStep, IsNearProof}
 
 abbrev Fit : List Line → Type 0
 Fit ls = AllByRecursion IsLine ls

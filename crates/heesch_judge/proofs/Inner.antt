@@ -18,9 +18,10 @@ use Rattle.heesch_cert.specs.declared.entry.Layers.{Layers}
 use Rattle.heesch_corona.specs.Answer.{AreAsked}
 use Rattle.heesch_corona.specs.Tiles.{AreTilesOf, IsLayerOf}
 use Rattle.heesch_levels.specs.UpTo.{SpellsUpTo}
-use Rattle.heesch_judge.specs.Spelling.{AreNearLayers, IsNearShape, IsSpelledAfter}
-use Rattle.heesch_judge.proofs.Equal.{granted, refused}
-use Rattle.heesch_judge.proofs.Spelled.{all_spelled, spelled_all, tiles_of}
+use Rattle.heesch_logs.specs.Near.{AreNearLayers}
+use Rattle.heesch_logs.specs.Spelling.{IsNearShape, IsSpelledAfter}
+use Rattle.heesch_logs.proofs.Equal.{granted, refused}
+use Rattle.heesch_logs.proofs.Spelled.{all_spelled, spelled_all, tiles_of}
 
 -- what holds of all holds of the first
 pub first_all : {X : Type 0} (P : X → Type 0) (xs : List X) (n : ℕ) → All P xs → All P (take n xs)

@@ -40,16 +40,13 @@ use Rattle.heesch_levels.specs.UpTo.{HasCutsUpTo, IsAnswerUpTo, IsSpentUpTo, IsS
 use Rattle.heesch_levels.proofs.LevelFacts.{has_cut}
 use Rattle.heesch_levels.proofs.UpToFacts.{level_answer_of, spells_level}
 use Rattle.heesch_numbers.specs.Sourced.{Sourced}
-use Rattle.heesch_judge.specs.Admitted.{IsAdmitted, IsAdmittedStep, IsLogOf}
+use Rattle.heesch_logs.specs.Admitted.{IsAdmitted, IsAdmittedStep, IsLogOf}
 use Rattle.heesch_judge.specs.Closed.{IsSpentOpen, RefutesAnew}
 use Rattle.heesch_judge.specs.Judged.{IsJudgedLevel, IsJudgedWall, IsRefutation, IsSourceOf, IsSpentProof}
-use Rattle.heesch_judge.proofs.Equal.{refused}
+use Rattle.heesch_logs.proofs.Admitting.{lawful_steps}
+use Rattle.heesch_logs.proofs.Equal.{refused}
 
 -- ---- admitted steps
-
-lawful_step : (g : Geometry) (u : Levels) (k : ℕ) (step : Step) → IsAdmittedStep g u k step → IsLawfulStep g u.shape u.level u.vars step
-lawful_step g u k (Learn clause hints) a = tt
-lawful_step g u k (Cut cut) a = a.lawful
 
 step_up_to : (g : Geometry) (u : Levels) (k : ℕ) (step : Step) → IsAdmittedStep g u k step → IsStepUpTo k step
 step_up_to g u k (Learn clause hints) a = tt
@@ -57,7 +54,7 @@ step_up_to g u k (Cut cut) a = a.up_to
 
 module _ (g : Geometry) (shape : List Cell) (s : Sourced) (is : IsSourceOf g shape s) (k : ℕ) (proof : Proof) where
   lawful : IsAdmitted g s.universe k proof → All (IsLawfulStep g shape s.universe.level s.universe.vars) proof.steps
-  lawful a = subst (λ cells. All (IsLawfulStep g cells s.universe.level s.universe.vars) proof.steps) is.shape_is (All-weaker (IsAdmittedStep g s.universe k) (IsLawfulStep g s.universe.shape s.universe.level s.universe.vars) (lawful_step g s.universe k) proof.steps a)
+  lawful a = subst (λ cells. All (IsLawfulStep g cells s.universe.level s.universe.vars) proof.steps) is.shape_is (lawful_steps g s.universe k proof a)
 
   cuts : IsAdmitted g s.universe k proof → HasCutsUpTo k proof
   cuts a = All-weaker (IsAdmittedStep g s.universe k) (IsStepUpTo k) (step_up_to g s.universe k) proof.steps a

@@ -1,9 +1,6 @@
-pub mod Equal
-pub mod LogLines
 pub mod Settled
 pub mod Propagating
 pub mod Ends
 pub mod FirstEmpty
-pub mod Spelled
 pub mod Inner
 pub mod Judging

@@ -14,7 +14,7 @@ use Rattle.heesch_cnf.specs.Lines.{refuting}
 use Rattle.heesch_cnf.proofs.Lists.{Contains-here}
 use Rattle.heesch_trail.specs.Fixpoint.{IsFixpoint, IsSettled}
 use Rattle.heesch_judge.specs.Propagation.{EndsOpen, Extends, Forces, HasConflict, HasConflictOver, IsPass, IsPropagated, PassesOver, open_count}
-use Rattle.heesch_judge.proofs.Equal.{granted, refused}
+use Rattle.heesch_logs.proofs.Equal.{granted, refused}
 use Rattle.heesch_judge.proofs.Settled.{left_there, one_true, settled_more, unsettled}
 
 -- ---- one clause

@@ -18,8 +18,8 @@ use Rattle.heesch_cnf.proofs.Lists.{Contains-cases, Contains-filter, Contains-he
 use Rattle.heesch_cnf.proofs.Rising.{Rises, Rises-filter, Rises-from_adjacent}
 use Rattle.heesch_trail.specs.Fixpoint.{IsFixpoint, IsSettled}
 use Rattle.heesch_judge.specs.Propagation.{Extends}
-use Rattle.heesch_judge.proofs.Equal.{granted, refused}
-use Rattle.heesch_judge.proofs.LogLines.{each_more}
+use Rattle.heesch_logs.proofs.Equal.{granted, refused}
+use Rattle.heesch_logs.proofs.LogLines.{each_more}
 
 -- what a test lets through is there, and passes it
 filtered : {X : Type 0} (p : X → Bool) (xs : List X) (x : X) → Contains (filter p xs) x → Contains xs x × (p x ≡ true)

@@ -16,9 +16,9 @@ use Rattle.heesch_levels.specs.declared.answer.WallAnswer.TheVariants.{Coronas a
 use Rattle.heesch_levels.specs.Answer.{NamesEmptyClause}
 use Rattle.heesch_levels.specs.UpTo.{SpellsUpTo}
 use Rattle.heesch_numbers.specs.Sourced.{Sourced}
-use Rattle.heesch_judge.specs.Admitted.{IsAdmitted}
+use Rattle.heesch_logs.specs.Admitted.{IsAdmitted}
 use Rattle.heesch_judge.specs.Closed.{IsSpentOpen, RefutesAnew}
-use Rattle.heesch_judge.specs.Spelling.{AreNearLayers}
+use Rattle.heesch_logs.specs.Near.{AreNearLayers}
 
 -- the source is that of the second corona formula of the shape, at the level of its universe
 pub record IsSourceOf (g : Geometry) (shape : List Cell) (s : Sourced) : Type 0 where

@@ -12,13 +12,13 @@ ghost use Rattle.heesch_judge.specs.Judged.{IsRefutationAtOnce};
 
 use crate::coronas::spells_up_to;
 use crate::empty::first_empty;
-use crate::logs::has_no_cut;
 use crate::refuted::refutes_up_to;
 use crate::spent::is_spent_up_to;
 use heesch_cert::{Layers, Proof};
 use heesch_cnf::NewnessSource;
 use heesch_grid::Grid;
 use heesch_io::NoMemory;
+use heesch_logs::has_no_cut;
 use heesch_levels::{LevelAnswer, WallAnswer};
 use heesch_numbers::CoronaSource;
 use heesch_shape::Shape;

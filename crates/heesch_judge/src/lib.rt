@@ -6,22 +6,16 @@
 #![tactic(auto)]
 
 mod answers;
-mod closed;
 mod coronas;
 mod empty;
-mod logs;
-mod near;
-mod proof_log;
 mod propagation;
 mod refuted;
-mod spelling;
 mod spent;
 
 pub use answers::{is_level_answer, is_wall_answer};
-pub use closed::is_closed;
 pub use coronas::spells_up_to;
 pub use empty::first_empty;
-pub use logs::has_no_cut;
+pub use heesch_logs::has_no_cut;
 pub use propagation::{ends_open, propagated};
 pub use refuted::refutes_up_to;
 pub use spent::is_spent_up_to;

@@ -6,12 +6,11 @@ ghost use Rattle.heesch_levels.specs.UpTo.{RefutesUpTo};
 ghost use Rattle.heesch_judge.specs.Closed.{RefutesAnew};
 ghost use Rattle.heesch_judge.specs.Judged.{IsRefutation, IsSourceOf};
 
-use crate::logs::admitted_log;
-use crate::proof_log::ProofLog;
 use heesch_cert::Proof;
 use heesch_cnf::NewnessSource;
 use heesch_grid::Grid;
 use heesch_io::NoMemory;
+use heesch_logs::{ProofLog, admitted_log};
 use heesch_numbers::CoronaSource;
 use heesch_rup::{LogAnswer, all_new_in_turn, check_steps_in_turn};
 use heesch_shape::Shape;

@@ -6,13 +6,12 @@ ghost use Rattle.heesch_levels.specs.UpTo.{IsSpentUpTo};
 ghost use Rattle.heesch_judge.specs.Closed.{IsSpentOpen};
 ghost use Rattle.heesch_judge.specs.Judged.{IsSourceOf, IsSpentProof};
 
-use crate::logs::admitted_log;
-use crate::proof_log::ProofLog;
 use crate::propagation::ends_open;
 use heesch_cert::Proof;
 use heesch_cnf::NewnessSource;
 use heesch_grid::Grid;
 use heesch_io::NoMemory;
+use heesch_logs::{ProofLog, admitted_log};
 use heesch_numbers::CoronaSource;
 use heesch_rup::is_spent_in_turn;
 use heesch_shape::Shape;

@@ -34,7 +34,8 @@ use Rattle.heesch_written.specs.Near.{IsNearPlace, IsNearLayer}
 use Rattle.heesch_written.proofs.Shapes.{shapes_are_near}
 use Rattle.heesch_written.proofs.Coronas.{coronas_are_near}
 use Rattle.heesch_written.proofs.Holes.{holes_are_near}
-use Rattle.heesch_audit.specs.Near.{IsNearIso, AreNearLayers, IsNearStep, IsNearProof, IsNearEntry}
+use Rattle.heesch_audit.specs.Near.{IsNearEntry}
+use Rattle.heesch_logs.specs.Near.{IsNearIso, AreNearLayers, IsNearStep, IsNearProof}
 use Rattle.heesch_audit.specs.Shapes.{AreCanonical}
 use Rattle.heesch_audit.proofs.Bounded.{search_form}
 use Rattle.heesch_audit.specs.declared.proof_end.ProofEnd.{ProofEnd}

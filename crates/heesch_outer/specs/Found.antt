@@ -20,7 +20,7 @@ use Rattle.heesch_cert.specs.TrueEntry.{HasNoPlain, Spells}
 use Rattle.heesch_audit.specs.declared.proof_end.ProofEnd.{ProofEnd}
 use Rattle.heesch_audit.specs.declared.proof_end.ProofEnd.TheVariants.{Refuted as EndRefuted, Spent as EndSpent}
 use Rattle.heesch_audit.specs.Shapes.{AreCanonical}
-use Rattle.heesch_audit.specs.Near.{AreNearLayers, IsNearProof}
+use Rattle.heesch_logs.specs.Near.{AreNearLayers, IsNearProof}
 use Rattle.heesch_outer.specs.declared.answer.OuterAnswer.{OuterAnswer}
 use Rattle.heesch_outer.specs.declared.answer.OuterAnswer.TheVariants.{More, Same, Spent}
 

@@ -1,10 +1,10 @@
 //! The check of an answer.
 ghost use Rattle.std.specs.Prelude.{◌≡◌, ◌↔◌, ◌+◌, length, IfOk, IsTrue};
-ghost use Rattle.heesch_audit.specs.Near.{IsNearProof};
 ghost use Rattle.heesch_cert.specs.Limits.{AreLimits};
 ghost use Rattle.heesch_cert.specs.Proofs.{RefutesCoronas};
 ghost use Rattle.heesch_cert.specs.TrueEntry.{IsTrueEntry};
 ghost use Rattle.heesch_levels.specs.UpTo.{HasCutsUpTo};
+ghost use Rattle.heesch_logs.specs.Near.{IsNearProof};
 ghost use Rattle.heesch_outer.specs.Answer.{IsOuterAnswer, IsSearched};
 ghost use Rattle.heesch_outer.specs.Found.{IsFound, IsNearAnswer};
 ghost use Rattle.heesch_outer.specs.Proofs.{EndsOuter};

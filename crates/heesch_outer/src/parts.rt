@@ -1,10 +1,11 @@
 //! The parts of a true entry that answers are checked by.
 ghost use Rattle.std.specs.Prelude.{◌≡◌, ◌↔◌, ◌+◌, ◌≤◌, ◌<◌, ℕ, true, false, length, IfOk, IsTrue};
-ghost use Rattle.heesch_audit.specs.Near.{AreNearLayers, IsNearEntry};
+ghost use Rattle.heesch_audit.specs.Near.{IsNearEntry};
 ghost use Rattle.heesch_audit.specs.Spelling.{SpellCoronas};
 ghost use Rattle.heesch_cert.specs.Limits.{AreLimits};
 ghost use Rattle.heesch_cert.specs.Parts.{PartHolds};
 ghost use Rattle.heesch_cert.specs.Proofs.{RefutesCoronas};
+ghost use Rattle.heesch_logs.specs.Near.{AreNearLayers};
 ghost use Rattle.heesch_outer.specs.Answer.{SpellsOuterCoronas};
 ghost use Rattle.heesch_outer.specs.Found.{IsFound, ended_entry, free_entry, open_entry, search_entry, with_levels};
 

@@ -6,7 +6,7 @@ use Rattle.heesch_cnf.specs.declared.log.Log.{Log}
 use Rattle.heesch_cnf.specs.Lines.{clauses_with}
 use Rattle.heesch_cnf.specs.Literals.{held}
 use Rattle.heesch_judge.specs.Propagation.{HasConflict, IsPropagated}
-use Rattle.heesch_judge.proofs.Equal.{granted, refused}
+use Rattle.heesch_logs.proofs.Equal.{granted, refused}
 use Rattle.heesch_periods.specs.Judged.{IsLeftOpen}
 
 -- propagation gives values, or it has a conflict and the clauses aren't open

@@ -172,10 +172,10 @@ fn cover_of<G: Grid>(
 /// choices of tiles of this turn and later ones that have no cell twice with it.
 /// Condition: the cells lie within 100,000 of 0, and the triple is one of a domain of 1 to 12 tiles.
 ///
-/// Cost: a reduction for each cell of an image within the triple, of which there are at most 4,608;
-/// for each turn a sort of those of its turn and later ones that are apart from the fixed tile, and
-/// the nodes of the exact cover, each a pass over its candidates. Where there is a cover, once more
-/// the variables of the torus formula.
+/// Cost: two reductions for each cell of the torus and one for each cell of each turn; a look-up for
+/// each cell of each further translation; for each turn a sort of the tiles of its turn and later ones
+/// that are apart from the fixed tile, and the nodes of the exact cover, each a pass over its
+/// candidates. Where there is a cover, once more the variables of the torus formula.
 pub fn find_cover<G: Grid>(
     alloc: Global,
     shape: &Shape<G>,

@@ -1,5 +1,5 @@
 use Rattle.std.proofs.Common.{◌∙◌, sym}
-use Rattle.heesch_audit.proofs.Equal.{refused}
+use Rattle.heesch_logs.proofs.Equal.{refused}
 use Rattle.heesch_audit.proofs.OneClasses.{one_classes, same_classes}
 use Rattle.heesch_audit.proofs.cover.are_classes.Goals as goal
 

@@ -1,7 +1,7 @@
 use Rattle.std.proofs.Common.{subst}
 use Rattle.heesch_tiling.specs.CoverAnswer.{IsCoverAnswer}
 use Rattle.heesch_audit.proofs.Covers.{doubled_not_exact, missed_not_exact}
-use Rattle.heesch_audit.proofs.Equal.{refused}
+use Rattle.heesch_logs.proofs.Equal.{refused}
 use Rattle.heesch_audit.proofs.cover.is_cover.Goals as goal
 
 pub returns-in-Doubled : goal.returns-in-Doubled

@@ -1,5 +1,5 @@
 use Rattle.heesch_tiling.specs.PlainAnswer.{answered}
-use Rattle.heesch_audit.proofs.Equal.{through}
+use Rattle.heesch_logs.proofs.Equal.{through}
 use Rattle.heesch_audit.proofs.Plain.{by_half_turn, by_translation, none_admitted}
 use Rattle.heesch_audit.proofs.form.is_of_kind.Goals as goal
 

@@ -1,6 +1,6 @@
 use Rattle.std.proofs.Common.{◌≡◌, sym, ◌∙◌, true≢false}
 use Rattle.heesch_audit.proofs.Canonical.{are_canonical, canonical_shape, made_itself, no_fault}
-use Rattle.heesch_audit.proofs.Equal.{all_has, cells_equal}
+use Rattle.heesch_logs.proofs.Equal.{all_has, cells_equal}
 use Rattle.heesch_audit.proofs.shaped.canonical_shape.Goals as goal
 
 pub of-requires : goal.of-requires

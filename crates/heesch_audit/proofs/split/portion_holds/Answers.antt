@@ -4,7 +4,7 @@ use Rattle.heesch_grid.specs.declared.Cell.{Cell}
 use Rattle.heesch_cert.specs.declared.entry.TripleProof.{TripleProof}
 use Rattle.heesch_audit.specs.Portions.{AreProved, AreTriplesAsked, PortionHolds}
 use Rattle.heesch_audit.specs.Shapes.{AreCanonical}
-use Rattle.heesch_audit.proofs.Equal.{granted, refused}
+use Rattle.heesch_logs.proofs.Equal.{granted, refused}
 use Rattle.heesch_audit.proofs.Portions.{Domain, asked_domains, bare_portion, portion_from, portion_proved, unless_bare}
 use Rattle.heesch_audit.proofs.Proofs.{if_ok_more}
 use Rattle.heesch_audit.proofs.split.portion_holds.Goals as goal
@@ -39,7 +39,7 @@ returns-then-not-branch-2 g c =
     refused (λ holds. true≢false (sym (c.in_ok-are_parts_due.ensures.1 (λ first. (holds.beside first).parts)) ∙ fails))
 
 pub are_proved-requires-clause-domains : goal.are_proved-requires-clause-domains
-are_proved-requires-clause-domains g c κs within =
+are_proved-requires-clause-domains g c =
     let geometry = g.G.Grid.geometry in
     let limits = c.args.limits in
     let entry = c.args.entry.now in

@@ -7,7 +7,7 @@ use Rattle.heesch_cert.specs.Proofs.{IsTooLarge}
 use Rattle.heesch_cert.specs.TrueEntry.{BareShows}
 use Rattle.heesch_audit.specs.Ends.{EndsCoronas}
 use Rattle.heesch_audit.proofs.Ends.{bare_answered, bare_by, bare_near, not_asked}
-use Rattle.heesch_audit.proofs.Equal.{granted, refused, through}
+use Rattle.heesch_logs.proofs.Equal.{granted, refused, through}
 use Rattle.heesch_audit.proofs.walls.bare_holds.Goals as goal
 
 pub returns-then-not-fits_same : goal.returns-then-not-fits_same
@@ -41,7 +41,7 @@ returns-then-not-has_no_cut g c =
     refused (λ h. true≢false (sym (c.has_no_cut.ensures.1 (both.0 h.1).1) ∙ fails))
 
 pub is_ended_by-requires-clause-near : goal.is_ended_by-requires-clause-near
-is_ended_by-requires-clause-near g c κs within = bare_near c.in-Some.ended.end c.in-Some.ended.proof.now c.args.bare.now c.in-Some.ensures c.requires.near
+is_ended_by-requires-clause-near g c = bare_near c.in-Some.ended.end c.in-Some.ended.proof.now c.args.bare.now c.in-Some.ensures c.requires.near
 
 pub returns : goal.returns
 returns g c =

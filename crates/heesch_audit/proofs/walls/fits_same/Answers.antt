@@ -2,7 +2,7 @@ use Rattle.std.proofs.Common.{sym, subst}
 use Rattle.std.specs.Prelude.{◌↔◌, IsTrue}
 use Rattle.heesch_cert.specs.declared.entry.Wall.{Wall}
 use Rattle.heesch_cert.specs.TrueEntry.{SameWhereNoCut}
-use Rattle.heesch_audit.proofs.Equal.{agreeing, through}
+use Rattle.heesch_logs.proofs.Equal.{agreeing, through}
 use Rattle.heesch_audit.proofs.walls.fits_same.Goals as goal
 
 pub returns-in-Refuted : goal.returns-in-Refuted

@@ -2,7 +2,7 @@ use Rattle.std.proofs.Common.{◌≡◌, ◌∙◌, Bool, ap, subst}
 use Rattle.std.specs.Prelude.{◌↔◌, IsTrue, IfOk}
 use Rattle.heesch_levels.specs.UpTo.{SpellsUpTo}
 use Rattle.heesch_place.specs.Universes.{Levels}
-use Rattle.heesch_judge.specs.Spelling.{AreNearLayers}
+use Rattle.heesch_logs.specs.Near.{AreNearLayers}
 use Rattle.heesch_judge.proofs.answers.are_layers.Goals as goal
 
 pub returns : goal.returns

@@ -1,6 +1,6 @@
 use Rattle.std.proofs.Common.{◌≡◌, ◌∙◌, true, false, rules, sym, true≢false}
 use Rattle.std.proofs.lemmas.Result.{IfOk-weaker}
-use Rattle.heesch_judge.proofs.Equal.{refused}
+use Rattle.heesch_logs.proofs.Equal.{refused}
 use Rattle.heesch_judge.proofs.answers.is_refutation.Goals as goal
 
 pub returns-then-not-named : goal.returns-then-not-named

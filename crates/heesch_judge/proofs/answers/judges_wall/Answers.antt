@@ -3,7 +3,7 @@ use Rattle.std.specs.Prelude.{◌↔◌, IsTrue, IfOk}
 use Rattle.std.proofs.lemmas.Result.{IfOk-weaker}
 use Rattle.heesch_levels.specs.declared.answer.WallAnswer.{WallAnswer}
 use Rattle.heesch_judge.specs.Judged.{IsJudgedWall}
-use Rattle.heesch_judge.proofs.Equal.{refused}
+use Rattle.heesch_logs.proofs.Equal.{refused}
 use Rattle.heesch_judge.proofs.answers.judges_wall.Goals as goal
 
 pub returns-in-Coronas : goal.returns-in-Coronas

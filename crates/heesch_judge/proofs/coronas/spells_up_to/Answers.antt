@@ -2,9 +2,10 @@ use Rattle.std.proofs.Common.{◌≡◌, ◌∙◌, List, All, ap, true, false, 
 use Rattle.std.specs.Prelude.{None}
 use Rattle.std.proofs.lemmas.Result.{IfOk-weaker}
 use Rattle.heesch_grid.specs.declared.isometries.Iso.{Iso}
-use Rattle.heesch_judge.specs.Spelling.{AreNearLayers, IsSpelledAfter}
+use Rattle.heesch_logs.specs.Near.{AreNearLayers}
+use Rattle.heesch_logs.specs.Spelling.{IsSpelledAfter}
 use Rattle.heesch_judge.proofs.Inner.{near_shape, spelled_up_to, unspelled}
-use Rattle.heesch_judge.proofs.Spelled.{layers_in_range}
+use Rattle.heesch_logs.proofs.Spelled.{layers_in_range}
 use Rattle.heesch_judge.proofs.coronas.spells_up_to.Goals as goal
 
 pub are_spelled-requires-clause-shape : goal.are_spelled-requires-clause-shape

@@ -2,7 +2,7 @@ use Rattle.std.proofs.Common.{Option, subst, true≢false, sym}
 use Rattle.std.specs.Prelude.{MatchOption}
 use Rattle.std.proofs.lemmas.Result.{IfOk-weaker}
 use Rattle.heesch_cnf.specs.declared.log.Log.{Log}
-use Rattle.heesch_judge.specs.Admitted.{IsAdmitted, IsLogOf}
+use Rattle.heesch_logs.specs.Admitted.{IsAdmitted, IsLogOf}
 use Rattle.heesch_judge.proofs.Judging.{no_spent_proof, spent_told, spent_up_to}
 use Rattle.heesch_judge.proofs.spent.is_spent_up_to.Goals as goal
 

@@ -3,7 +3,7 @@ use Rattle.std.proofs.Math.Nat.{add-mod_right, mod-eq_of_lt}
 use Rattle.std.proofs.lemmas.Option.{slice_get_read, slice_get_within}
 use Rattle.heesch_cert.specs.declared.entry.TripleProof.{TripleProof}
 use Rattle.heesch_cert.specs.Proofs.{SettlesTriple}
-use Rattle.heesch_audit.proofs.Equal.{granted, refused}
+use Rattle.heesch_logs.proofs.Equal.{granted, refused}
 use Rattle.heesch_audit.proofs.Steps.{each_step, none_before}
 use Rattle.heesch_audit.proofs.audited.Audited.are_proved.Goals as goal
 

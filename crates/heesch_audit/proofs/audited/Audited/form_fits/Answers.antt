@@ -3,7 +3,7 @@ use Rattle.std.specs.Prelude.{◌↔◌, IsTrue}
 use Rattle.heesch_cert.specs.declared.entry.Evidence.{Evidence}
 use Rattle.heesch_cert.specs.TrueEntry.{FormFits}
 use Rattle.heesch_audit.proofs.Bounded.{search_form}
-use Rattle.heesch_audit.proofs.Equal.{back, through}
+use Rattle.heesch_logs.proofs.Equal.{back, through}
 use Rattle.heesch_audit.proofs.audited.Audited.form_fits.Goals as goal
 
 pub returns-in-Cover : goal.returns-in-Cover

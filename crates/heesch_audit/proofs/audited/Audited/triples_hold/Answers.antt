@@ -3,7 +3,7 @@ use Rattle.std.specs.Prelude.{◌↔◌, IsTrue}
 use Rattle.heesch_cert.specs.declared.entry.TripleProof.{TripleProof}
 use Rattle.heesch_cert.specs.TrueEntry.{TriplesHold}
 use Rattle.heesch_audit.specs.Portions.{AreProved}
-use Rattle.heesch_audit.proofs.Equal.{refused}
+use Rattle.heesch_logs.proofs.Equal.{refused}
 use Rattle.heesch_audit.proofs.Portions.{Domain, all_proved, asked_domains, asked_of, one_portion}
 use Rattle.heesch_audit.proofs.Proofs.{if_ok_more}
 use Rattle.heesch_audit.proofs.audited.Audited.triples_hold.Goals as goal
@@ -14,7 +14,7 @@ returns-then-not-branch g c =
     refused (λ h. true≢false (sym (c.in_ok-are_asked.ensures.1 (asked_of g.G.Grid.geometry c.args.self.now.limits c.args.self.now.shape.now c.args.self.now.entry.now.verdict c.args.self.now.entry.now.evidence h)) ∙ fails))
 
 pub are_proved-requires-clause-domains : goal.are_proved-requires-clause-domains
-are_proved-requires-clause-domains g c κs within =
+are_proved-requires-clause-domains g c =
     let geometry = g.G.Grid.geometry in
     let shape = c.args.self.now.shape.now in
     let limits = c.args.self.now.limits in

@@ -1,6 +1,6 @@
 use Rattle.std.proofs.Common.{rules}
 use Rattle.heesch_audit.specs.Formulas.{IsFormulaAt}
-use Rattle.heesch_audit.proofs.Equal.{refused}
+use Rattle.heesch_logs.proofs.Equal.{refused}
 use Rattle.heesch_audit.proofs.Proofs.{not_too_large}
 use Rattle.heesch_audit.proofs.formula.LevelFormula.is_too_large.Goals as goal
 

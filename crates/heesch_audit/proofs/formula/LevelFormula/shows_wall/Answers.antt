@@ -2,7 +2,7 @@ use Rattle.std.proofs.Common.{Bool, sym, subst}
 use Rattle.std.specs.Prelude.{◌↔◌, IfOk, IsTrue}
 use Rattle.heesch_cert.specs.declared.entry.Wall.{Wall}
 use Rattle.heesch_cert.specs.TrueEntry.{WallShows}
-use Rattle.heesch_audit.proofs.Equal.{granted}
+use Rattle.heesch_logs.proofs.Equal.{granted}
 use Rattle.heesch_audit.proofs.formula.LevelFormula.shows_wall.Goals as goal
 
 pub returns-in-Absent : goal.returns-in-Absent

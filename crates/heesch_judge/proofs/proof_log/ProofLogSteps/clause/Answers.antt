@@ -1,5 +1,0 @@
-use Rattle.heesch_judge.proofs.LogLines.{step_at}
-use Rattle.heesch_judge.proofs.proof_log.ProofLogSteps.clause.Goals as goal
-
-pub clause_at-requires : goal.clause_at-requires
-clause_at-requires c = step_at c.self.inside.proof.now c.self.inside.given c.args.self.now c.self.view_is c.as_slice.result.now c.args.index c.as_slice.ensures c.requires

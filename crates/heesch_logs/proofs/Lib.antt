@@ -1,0 +1,5 @@
+pub mod Equal
+pub mod LogLines
+pub mod Spelled
+pub mod Refuted
+pub mod Admitting
