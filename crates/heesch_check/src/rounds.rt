@@ -113,7 +113,7 @@ fn joined(alloc: Global, answers: &[bool], portions: usize) -> Result<Vec<bool>,
 ///
 /// One ticket of the pool is one portion of an entry, and the gate is told its number. The portions are numbered from
 /// `from` on, one entry after the other, each entry in as many. Where no entry has the proofs of two triples, an entry
-/// is one portion, and its number is the entry's. A long log is split among more threads than the workers.
+/// is one portion, and its number is the entry's.
 pub(crate) fn audits<G: Grid + Send + Sync, R: Threads + Sync + Copy, H: Gate + Sync>(
     crew: &Crew<'_, R, H>,
     items: &[Item],
