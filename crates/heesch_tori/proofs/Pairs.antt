@@ -21,8 +21,8 @@ use Rattle.heesch_numbers.proofs.Counting.{found, all_counted}
 use Rattle.heesch_torus.specs.Formula.{pair_clause}
 use Rattle.heesch_torus.proofs.Excluding.{pairs_with, pair_of}
 use Rattle.heesch_torus.proofs.Numbering.{map_agree}
-use Rattle.heesch_tori.specs.Later.{later_of, later_counts, variable_at, MeetsOneOf}
-use Rattle.heesch_tori.proofs.Passed.{Entry, no_entry, entry_is, entry_last}
+use Rattle.heesch_tori.specs.Later.{all_later, later_of, later_counts, later_numbers, variable_at, MeetsOneOf}
+use Rattle.heesch_tori.proofs.Passed.{Entry, no_entry, number_of, entry_is, entry_last}
 
 module _ (sets : List (List Cell)) where
   abbrev entries : List Entry
@@ -41,6 +41,35 @@ module _ (sets : List (List Cell)) where
   pub pairs_counted : sum (later_counts sets) ≡ length (exclusion_clauses literals meet sets)
   pairs_counted = ap sum counts_are ∙ all_counted (pairs_with sets) (enumerate_from 1 sets)
 
+  counts_numbers : later_counts sets ≡ map (λ u. length (later_numbers sets u)) (enumerate_from 1 sets)
+  counts_numbers = map_agree (λ u. length (later_of sets u)) (λ u. length (later_numbers sets u)) (enumerate_from 1 sets) (λ u m. sym (length-map (later_of sets u) number_of))
+
+  -- there are as many later variables
+  pub later_counted : sum (later_counts sets) ≡ length (all_later sets)
+  later_counted = ap sum counts_numbers ∙ all_counted (later_numbers sets) (enumerate_from 1 sets)
+
+  entry_range : (x : Entry) → Contains (enumerate_from 1 sets) x → (1 ≤ x.0) × (x.0 ≤ length sets) × (set_of sets x.0 ≡ x.1)
+  entry_range x (k, l, e) =
+      let long = length-enumerate_from 1 sets in
+      let less : k < length sets = omega arith in
+      let is : x ≡ (1 + k, get_or sets k x.1) = sym e ∙ get_or-enumerate_from 1 sets k x less in
+      let number : x.0 ≡ 1 + k = ap (λ (y : Entry). y.0) is in
+      let place : x.0 - 1 ≡ k = omega arith in
+      (omega arith, omega arith, ap (λ j. get_or sets j []) place ∙ get_or_default sets k [] x.1 less ∙ sym (ap (λ (y : Entry). y.1) is))
+
+  -- a later variable comes later, is one of the variables, and is what its number says
+  pub record IsLaterOne (u : ℕ) (w : Entry) : Type 0 where
+    pub later : u < w.0
+    pub last : w.0 ≤ length sets
+    pub is : w ≡ variable_at sets w.0
+
+  later_one : (u : ℕ) (w : Entry) → Contains (later_of sets (variable_at sets u)) w → IsLaterOne u w
+  later_one u w m =
+      let f = filter_member (λ (v : Entry). nat_lt u v.0 && meet (set_of sets u) v.1) (enumerate_from 1 sets) w m in
+      let parts = and_parts (nat_lt u w.0) (meet (set_of sets u) w.1) f.1 in
+      let r = entry_range w f.0 in
+      record { later = ltb-true u w.0 parts.0; last = r.1; is = λ k. (w.0, sym r.2 k) }
+
   module _ (place part rest : ℕ) (falls : FallsIn (later_counts sets) place part rest) where
     falls_so : (part < length (enumerate_from 1 sets)) × (rest < length (pairs_with sets (get_or (enumerate_from 1 sets) part no_entry))) × (get_or (flat_map (pairs_with sets) (enumerate_from 1 sets)) place [] ≡ get_or (pairs_with sets (get_or (enumerate_from 1 sets) part no_entry)) rest [])
     falls_so = found (pairs_with sets) (enumerate_from 1 sets) place part rest no_entry [] (subst (λ ns. FallsIn ns place part rest) counts_are falls)
@@ -55,6 +84,29 @@ module _ (sets : List (List Cell)) where
         let same = ap (λ u. length (later_of sets u)) (entry_is sets part first_within) in
         omega arith
 
+    abbrev found_there : Entry
+    found_there = get_or (later_of sets (variable_at sets (part + 1))) rest no_entry
+
+    there : IsLaterOne (part + 1) found_there
+    there = later_one (part + 1) found_there (Contains-get_or (later_of sets (variable_at sets (part + 1))) rest no_entry place_within)
+
+    -- its number is the one that stands at the place
+    pub number_there : get_or (all_later sets) place 0 ≡ (get_or (later_of sets (variable_at sets (part + 1))) rest no_entry).0
+    number_there =
+        let so = found (later_numbers sets) (enumerate_from 1 sets) place part rest no_entry 0 (subst (λ ns. FallsIn ns place part rest) counts_numbers falls) in
+        so.2
+        ∙ ap (λ u. get_or (later_numbers sets u) rest 0) (entry_is sets part first_within)
+        ∙ get_or-map number_of (later_of sets (variable_at sets (part + 1))) rest no_entry 0 place_within
+
+    pub number_later : part + 1 < get_or (all_later sets) place 0
+    number_later = let e = number_there in let l = there.later in omega (arith, e, l)
+
+    pub number_last : get_or (all_later sets) place 0 ≤ length sets
+    number_last = let e = number_there in let l = there.last in omega (arith, e, l)
+
+    pub number_at : get_or (later_of sets (variable_at sets (part + 1))) rest no_entry ≡ variable_at sets (get_or (all_later sets) place 0)
+    number_at = there.is ∙ ap (variable_at sets) (sym number_there)
+
     -- the clause of a place is of the first variable and of the later one at its place
     pub pair_at : (v : ℕ) → part + 1 < v → v ≤ length sets → get_or (later_of sets (variable_at sets (part + 1))) rest no_entry ≡ variable_at sets v → get_or (exclusion_clauses literals meet sets) place [] ≡ pair_clause (part + 1) v
     pair_at v later last is =
@@ -65,15 +117,6 @@ module _ (sets : List (List Cell)) where
         ∙ pair_of (part + 1) v sets (omega arith) later (omega arith)
 
   -- ---- which clauses they are
-
-  entry_range : (x : Entry) → Contains (enumerate_from 1 sets) x → (1 ≤ x.0) × (x.0 ≤ length sets) × (set_of sets x.0 ≡ x.1)
-  entry_range x (k, l, e) =
-      let long = length-enumerate_from 1 sets in
-      let less : k < length sets = omega arith in
-      let is : x ≡ (1 + k, get_or sets k x.1) = sym e ∙ get_or-enumerate_from 1 sets k x less in
-      let number : x.0 ≡ 1 + k = ap (λ (y : Entry). y.0) is in
-      let place : x.0 - 1 ≡ k = omega arith in
-      (omega arith, omega arith, ap (λ j. get_or sets j []) place ∙ get_or_default sets k [] x.1 less ∙ sym (ap (λ (y : Entry). y.1) is))
 
   entry_there : (v : ℕ) → 1 ≤ v → v ≤ length sets → Contains (enumerate_from 1 sets) (variable_at sets v)
   entry_there v low high =

@@ -1,5 +1,5 @@
 -- The pairs of variables that share a cell, by the first of the two.
-use Rattle.std.specs.Prelude.{◌≡◌, ℕ, ◌<◌, ◌&&◌, true, false, nat_lt, List, map, filter, length, Contains}
+use Rattle.std.specs.Prelude.{◌≡◌, ℕ, ◌<◌, ◌&&◌, true, false, nat_lt, List, map, filter, length, flat_map, Contains}
 use Rattle.std.specs.List.{enumerate_from}
 use Rattle.heesch_grid.specs.declared.Cell.{Cell}
 use Rattle.heesch_grid.specs.Cells.{meet, set_of}
@@ -12,6 +12,14 @@ later_of sets u = filter (λ (v : ℕ × List Cell). nat_lt u.0 v.0 && meet u.1 
 -- the variable of a number, with it
 abbrev pub variable_at : List (List Cell) → ℕ → ℕ × List Cell
 variable_at sets n = (n, set_of sets n)
+
+-- their numbers
+abbrev pub later_numbers : List (List Cell) → ℕ × List Cell → List ℕ
+later_numbers sets u = map (λ (v : ℕ × List Cell). v.0) (later_of sets u)
+
+-- those of each variable, one variable after another
+abbrev pub all_later : List (List Cell) → List ℕ
+all_later sets = flat_map (later_numbers sets) (enumerate_from 1 sets)
 
 -- how many such variables each has
 abbrev pub later_counts : List (List Cell) → List ℕ

@@ -8,7 +8,7 @@ use Rattle.heesch_grid.specs.CoronaFormula.{exclusion_clauses}
 use Rattle.heesch_cert.specs.Literals.{literals}
 use Rattle.heesch_encode.specs.Literals.{plus_all}
 use Rattle.heesch_torus.specs.Variables.{TorusVariable, sets_of}
-use Rattle.heesch_tori.specs.Later.{later_counts}
+use Rattle.heesch_tori.specs.Later.{all_later, later_counts}
 use Rattle.heesch_tori.specs.Shared.{Tabled}
 
 -- of each cell one of the variables that have it, which stand in a list, and of each two sets that share a cell not both
@@ -24,7 +24,8 @@ pub record Toured : Type 0 where
 abbrev pub toured : List TorusVariable → List (List ℕ) → Toured
 toured variables lists = record { variables = variables; formula = record { vars = length variables; clauses = tour_clauses (sets_of variables) lists } }
 
--- the counts are those of the pairs of the table's variables, of which there are at most so many
-pub record IsTour (table : Tabled) (later : List ℕ) : Type 0 where
-  pub counts : later ≡ later_counts (sets_of table.variables)
-  pub few : sum later ≤ 4608 * 4608
+-- the counts and the numbers are those of the pairs of the table's variables, of which there are at most so many
+pub record IsTour (table : Tabled) (counts numbers : List ℕ) : Type 0 where
+  pub counts_are : counts ≡ later_counts (sets_of table.variables)
+  pub numbers_are : numbers ≡ all_later (sets_of table.variables)
+  pub few : sum counts ≤ 4608 * 4608

@@ -1,6 +1,6 @@
 //! The pairs of variables that share a cell, by the first of the two.
-ghost use Rattle.std.specs.Prelude.{◌≡◌, ◌<◌, ◌≤◌, ◌*◌, [], length, slice_index_or, sum, IfOk};
-ghost use Rattle.heesch_tori.specs.Later.{later_of, later_counts, variable_at};
+ghost use Rattle.std.specs.Prelude.{◌≡◌, ◌≤◌, ◌*◌, ◌++◌, length, sum, IfOk, OnOk};
+ghost use Rattle.heesch_tori.specs.Later.{all_later, later_counts, later_numbers, variable_at};
 ghost use Rattle.heesch_tori.specs.Shared.{IsVariable, tabled_sets};
 
 use crate::table::CellTable;
@@ -8,54 +8,40 @@ use heesch_io::NoMemory;
 use heesch_numbers::Prefix;
 use std::alloc::Global;
 
-/// How many later variables share a cell with this one.
-fn count_later(table: &CellTable, first: u32) -> u32
+/// For each variable in turn the later ones that share a cell with it: how many they are, and their numbers.
+#[derive(Drop)]
+pub(crate) struct LaterVariables {
+    pub counts: Prefix,
+    pub numbers: Vec<u32>,
+}
+
+/// The numbers of the later variables that share a cell with this one stand last.
+fn add_later(table: &CellTable, first: u32, numbers: &mut Vec<u32>) -> Result<(), NoMemory>
     requires { IsVariable (length table.now.variables) first }
-    ensures count { result ≡ length (later_of (tabled_sets table.now) (variable_at (tabled_sets table.now) first)) }
-    ensures few { result ≤ 4608 }
+    ensures { OnOk result (numbers.new.items
+        ≡ numbers.old.items ++ later_numbers (tabled_sets table.now) (variable_at (tabled_sets table.now) first)) }
 {
     let last = table.count();
-    let mut count = 0;
     for other in first + 1..last + 1 {
         if table.meets(first, other) {
-            count += 1;
+            numbers.push(other)?;
         }
     }
-    count
+    Ok(())
 }
 
-/// How many each variable has. A step for each two variables and each 64 cells.
-pub(crate) fn later_counts(alloc: Global, table: &CellTable) -> Result<Prefix, NoMemory>
-    ensures counts { IfOk result (λ counts. counts ≡ later_counts (tabled_sets table.now)) }
-    ensures few { IfOk result (λ counts. sum counts ≤ 4608 * 4608) }
+/// Those of the variables of a table. A step for each two variables and each 64 cells.
+pub(crate) fn later_variables(alloc: Global, table: &CellTable) -> Result<LaterVariables, NoMemory>
+    ensures counts { IfOk result (λ later. later.counts ≡ later_counts (tabled_sets table.now)) }
+    ensures numbers { IfOk result (λ later. later.numbers.items ≡ all_later (tabled_sets table.now)) }
+    ensures few { IfOk result (λ later. sum later.counts ≤ 4608 * 4608) }
 {
     let mut counts = Prefix::new(alloc);
+    let mut numbers = Vec::new(alloc);
     for i in 0..table.count() {
-        counts.push(count_later(table, i + 1))?;
+        let before = numbers.len();
+        add_later(table, i + 1, &mut numbers)?;
+        counts.push((numbers.len() - before) as u32)?;
     }
-    Ok(counts)
-}
-
-/// The number of the later variable at this place, from 0, among those that share a cell with this one. It looks at
-/// each up to it.
-pub(crate) fn later_at(table: &CellTable, first: u32, place: u32) -> u32
-    requires first { IsVariable (length table.now.variables) first }
-    requires place { place
-        < length (later_of (tabled_sets table.now) (variable_at (tabled_sets table.now) first)) }
-    ensures variable { IsVariable (length table.now.variables) result }
-    ensures later { first < result }
-    ensures at { slice_index_or (later_of (tabled_sets table.now) (variable_at (tabled_sets table.now) first)) place
-        (0, []) ≡ variable_at (tabled_sets table.now) result }
-{
-    let last = table.count();
-    let mut passed = 0;
-    for second in first + 1..last + 1 {
-        if table.meets(first, second) {
-            if passed == place {
-                return second;
-            }
-            passed += 1;
-        }
-    }
-    unreachable!()
+    Ok(LaterVariables { counts, numbers })
 }

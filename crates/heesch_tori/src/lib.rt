@@ -1,7 +1,7 @@
-//! The clauses of a torus formula by their numbers: each is computed where it is asked for, and no pair is kept.
+//! The clauses of a torus formula by their numbers: each is computed where it is asked for.
 //!
 //! Of each variable a row of bits tells which cells it has. So whether two variables share a cell takes an `and` for
-//! each 64 cells. The clauses of a variable with later ones are numbered by how many later ones share a cell with each.
+//! each 64 cells. For each variable the numbers of the later ones that share a cell with it are kept, a word a pair.
 #![tactic(auto)]
 
 mod apart;

@@ -12,13 +12,13 @@ ghost use Rattle.heesch_torus.specs.Formula.{IsFormulaOf};
 ghost use Rattle.heesch_torus.specs.Variables.{sets_of, AreVariables};
 
 use crate::apart::{are_apart, lists_remain};
-use crate::later::{later_at, later_counts};
+use crate::later::{LaterVariables, later_variables};
 use crate::table::CellTable;
 use heesch_cnf::{ClauseSource, Left, Lit, NewnessSource, left_in};
 use heesch_grid::Grid;
 use heesch_io::{NoMemory, Seq};
 use heesch_lattice::Triple;
-use heesch_numbers::{Prefix, left_with_all};
+use heesch_numbers::left_with_all;
 use heesch_shape::Shape;
 use heesch_torus::Variable;
 use std::alloc::Global;
@@ -26,12 +26,12 @@ use std::marker::{Model, PhantomData};
 
 /// The torus formula of a shape and a triple, by the numbers of its clauses: first one for each reduced cell, in cell
 /// order, and then one for each two variables that share a cell, by the first and then the second. None stands
-/// anywhere. What is kept are the variables, for each cell the numbers of those that have it, for each variable a bit
-/// for each cell, and how many later ones share a cell with it.
+/// anywhere. What is kept are the variables, for each cell the numbers of those that have it, and for each variable a
+/// bit for each cell and the numbers of the later ones that share a cell with it.
 #[derive(Drop)]
 pub struct TorusSource<G: Grid> {
     table: CellTable,
-    later: Prefix,
+    later: LaterVariables,
     grid: PhantomData<G>,
 }
 
@@ -42,7 +42,7 @@ impl<G: Grid> Model for TorusSource<G> {
 
     ghost view = { λ s. toured s.table.variables s.table.lists };
 
-    ghost invariant = { λ s. IsTour s.table s.later };
+    ghost invariant = { λ s. IsTour s.table s.later.counts s.later.numbers.items };
 }
 
 /// The negation of a variable.
@@ -70,7 +70,7 @@ impl<G: Grid> TorusSource<G> {
         ensures vars { IfOk result (λ s. s.formula.vars ≡ length s.variables) }
     {
         let table = CellTable::of(alloc, shape, triple)?;
-        let later = later_counts(alloc, &table)?;
+        let later = later_variables(alloc, &table)?;
         Ok(TorusSource {
             table,
             later,
@@ -105,7 +105,7 @@ impl<G: Grid> ClauseSource for TorusSource<G> {
     }
 
     fn count(&self) -> usize {
-        self.table.lists().len() + self.later.total() as usize
+        self.table.lists().len() + self.later.counts.total() as usize
     }
 
     fn left(&self, number: u32, values: &[Option<bool>]) -> Left {
@@ -114,9 +114,10 @@ impl<G: Grid> ClauseSource for TorusSource<G> {
         if index < lists.len() {
             return left_with_all(Left::Nothing, values, lists[index].as_slice());
         }
-        let (at, place) = self.later.place((index - lists.len()) as u32);
+        let place = index - lists.len();
+        let (at, _rest) = self.later.counts.place(place as u32);
         let first = at as u32 + 1;
-        let second = later_at(&self.table, first, place);
+        let second = self.later.numbers[place];
         left_in(values, &[minus(first), minus(second)])
     }
 }

@@ -7,7 +7,7 @@ use Rattle.heesch_tori.proofs.source.TorusSourceClauseSource.count.Goals as goal
 pub returns-clause-count : goal.returns-clause-count
 returns-clause-count g c =
     let table = c.self.inside.table in
-    let whole = tour_length (sets_of c.self.inside.table.variables) c.self.inside.table.lists c.self.inside.later c.self.invariant.counts in
+    let whole = tour_length (sets_of c.self.inside.table.variables) c.self.inside.table.lists c.self.inside.later.counts c.self.invariant.counts_are in
     let seen = ap (λ (s : Toured). length s.formula.clauses) c.self.view_is in
     let lists = ap length c.lists.ensures.lists in
     omega arith

@@ -1,8 +1,10 @@
 use Rattle.std.proofs.Common.{◌≡◌, ◌+◌, ◌-◌, ◌<◌, ◌≤◌, [], ◌∷◌, List, ℕ, get_or, length, sym, ap, subst, ◌∙◌, arith}
-use Rattle.std.specs.Prelude.{nat_lt}
-use Rattle.std.proofs.lemmas.List.{get_or_default}
+use Rattle.std.specs.Prelude.{nat_lt, sum}
+use Rattle.std.proofs.lemmas.List.{get_or_default, get_or_read}
+use Rattle.std.proofs.lemmas.List.Elements.{All-get_or}
 use Rattle.heesch_cnf.specs.declared.literal.Lit.{Lit}
-use Rattle.heesch_cnf.specs.Left.{IsLeft}
+use Rattle.heesch_cnf.specs.Clauses.{AreClauses, IsClause}
+use Rattle.heesch_cnf.specs.Left.{FitsIn, IsLeft}
 use Rattle.heesch_cnf.specs.Lines.{numbered}
 use Rattle.heesch_cnf.specs.Literals.{held}
 use Rattle.heesch_encode.specs.Literals.{plus_all}
@@ -11,10 +13,13 @@ use Rattle.heesch_numbers.specs.Counts.{FallsIn}
 use Rattle.heesch_numbers.proofs.Seeing.{seen_none}
 use Rattle.heesch_torus.specs.Formula.{pair_clause}
 use Rattle.heesch_torus.specs.Variables.{sets_of}
+use Rattle.heesch_tori.specs.Later.{all_later}
 use Rattle.heesch_tori.specs.Toured.{Toured, tour_clauses}
-use Rattle.heesch_tori.proofs.Clauses.{sets_many, list_left, tour_length, cell_numbered, pair_numbered}
-use Rattle.heesch_tori.proofs.Pairs.{first_within, place_within, pair_at}
+use Rattle.heesch_tori.proofs.Clauses.{sets_many, list_left, tour_length, tour_form_of, cell_numbered, pair_numbered}
+use Rattle.heesch_tori.proofs.Pairs.{first_within, later_counted, number_at, number_last, number_later, pair_at}
+use Rattle.heesch_tori.proofs.source.TorusSourceClauseSource.left.Given as given
 use Rattle.heesch_tori.proofs.source.TorusSourceClauseSource.left.Goals as goal
+use Rattle.heesch_tori.proofs.source.TorusSourceClauseSource.left.Goals.{After-minus-2}
 
 pub returns-then-index-lists : goal.returns-then-index-lists
 returns-then-index-lists g c =
@@ -34,7 +39,7 @@ returns-then-index-lists g c =
 
 pub place-at-requires : goal.place-at-requires
 place-at-requires g c =
-    let whole = tour_length (sets_of c.self.inside.table.variables) c.self.inside.table.lists c.self.inside.later c.self.invariant.counts in
+    let whole = tour_length (sets_of c.self.inside.table.variables) c.self.inside.table.lists c.self.inside.later.counts c.self.invariant.counts_are in
     let seen = ap (λ (s : Toured). length s.formula.clauses) c.self.view_is in
     let few = ap length c.lists-lists.ensures.lists in
     let some = c.requires.number.0 in
@@ -45,7 +50,7 @@ place-at-requires g c =
 pub overflow_cast-first : goal.overflow_cast-first
 overflow_cast-first g c =
     let sets = sets_of c.self.inside.table.variables in
-    let falls = subst (λ (ns : List ℕ). FallsIn ns (c.args.number - 1 - length c.lists-lists.result.now) c.place-at.result.0 c.place-at.result.1) c.self.invariant.counts c.place-at.ensures in
+    let falls = subst (λ (ns : List ℕ). FallsIn ns (c.args.number - 1 - length c.lists-lists.result.now) c.place-at.result.0 c.place-at.result.1) c.self.invariant.counts_are c.place-at.ensures in
     let less = first_within sets (c.args.number - 1 - length c.lists-lists.result.now) c.place-at.result.0 c.place-at.result.1 falls in
     let many = sets_many c.self.inside.table.variables in
     let most = c.lists-lists.ensures.most in
@@ -54,39 +59,61 @@ overflow_cast-first g c =
 pub overflow_add-first : goal.overflow_add-first
 overflow_add-first g c =
     let sets = sets_of c.self.inside.table.variables in
-    let falls = subst (λ (ns : List ℕ). FallsIn ns (c.args.number - 1 - length c.lists-lists.result.now) c.place-at.result.0 c.place-at.result.1) c.self.invariant.counts c.place-at.ensures in
+    let falls = subst (λ (ns : List ℕ). FallsIn ns (c.args.number - 1 - length c.lists-lists.result.now) c.place-at.result.0 c.place-at.result.1) c.self.invariant.counts_are c.place-at.ensures in
     let less = first_within sets (c.args.number - 1 - length c.lists-lists.result.now) c.place-at.result.0 c.place-at.result.1 falls in
     let many = sets_many c.self.inside.table.variables in
     let most = c.lists-lists.ensures.most in
     omega arith
 
-pub later_at-second-requires-clause-first : goal.later_at-second-requires-clause-first
-later_at-second-requires-clause-first g c =
+pub index-second-requires : goal.index-second-requires
+index-second-requires g c =
     let sets = sets_of c.self.inside.table.variables in
-    let falls = subst (λ (ns : List ℕ). FallsIn ns (c.args.number - 1 - length c.lists-lists.result.now) c.place-at.result.0 c.place-at.result.1) c.self.invariant.counts c.place-at.ensures in
-    let less = first_within sets (c.args.number - 1 - length c.lists-lists.result.now) c.place-at.result.0 c.place-at.result.1 falls in
-    let many = sets_many c.self.inside.table.variables in
-    (omega arith, omega arith)
+    let whole = tour_length (sets_of c.self.inside.table.variables) c.self.inside.table.lists c.self.inside.later.counts c.self.invariant.counts_are in
+    let seen = ap (λ (s : Toured). length s.formula.clauses) c.self.view_is in
+    let few = ap length c.lists-lists.ensures.lists in
+    let some = c.requires.number.0 in
+    let high = c.requires.number.1 in
+    let low = c.if-index-lists.false in
+    let counted = later_counted sets in
+    let counts = ap sum c.self.invariant.counts_are in
+    let numbers = ap length c.self.invariant.numbers_are in
+    let long = c.self.inside.later.numbers.ok in
+    omega arith
 
-pub later_at-second-requires-clause-place : goal.later_at-second-requires-clause-place
-later_at-second-requires-clause-place g c =
-    let sets = sets_of c.self.inside.table.variables in
-    let falls = subst (λ (ns : List ℕ). FallsIn ns (c.args.number - 1 - length c.lists-lists.result.now) c.place-at.result.0 c.place-at.result.1) c.self.invariant.counts c.place-at.ensures in
-    place_within sets (c.args.number - 1 - length c.lists-lists.result.now) c.place-at.result.0 c.place-at.result.1 falls
-
-pub returns : goal.returns
-returns g c =
+-- the clause, as it is written
+written : (g : given.Over) (c : After-minus-2 g) → c.minus.result ∷ c.minus-2.result ∷ [] ≡ numbered c.args.self.now.formula.clauses c.args.number
+written g c =
     let sets = sets_of c.self.inside.table.variables in
     let lists = c.self.inside.table.lists in
     let place : ℕ = c.args.number - 1 - length c.lists-lists.result.now in
-    let falls = subst (λ (ns : List ℕ). FallsIn ns (c.args.number - 1 - length c.lists-lists.result.now) c.place-at.result.0 c.place-at.result.1) c.self.invariant.counts c.place-at.ensures in
-    let many = sets_many c.self.inside.table.variables in
-    let high = c.later_at-second.ensures.variable.1 in
+    let falls = subst (λ (ns : List ℕ). FallsIn ns (c.args.number - 1 - length c.lists-lists.result.now) c.place-at.result.0 c.place-at.result.1) c.self.invariant.counts_are c.place-at.ensures in
     let few = ap length c.lists-lists.ensures.lists in
     let low = c.if-index-lists.false in
-    let last : c.later_at-second.result ≤ length (sets_of c.self.inside.table.variables) = omega arith in
-    let pair = pair_at sets place c.place-at.result.0 c.place-at.result.1 falls c.later_at-second.result c.later_at-second.ensures.later last c.later_at-second.ensures.at in
-    let at : numbered (tour_clauses (sets_of c.self.inside.table.variables) c.self.inside.table.lists) c.args.number ≡ pair_clause (c.place-at.result.0 + 1) c.later_at-second.result =
-    pair_numbered sets lists c.args.number place c.requires.number.0 (omega arith) (omega arith) ∙ pair in
-    let made : c.minus.result ∷ c.minus-2.result ∷ [] ≡ pair_clause (c.place-at.result.0 + 1) c.later_at-second.result = λ i. c.minus.ensures i ∷ c.minus-2.ensures i ∷ [] in
-    subst (λ (e : List Lit). IsLeft (held c.args.values.now) e c.left_in.result) (made ∙ sym at ∙ ap (λ (s : Toured). numbered s.formula.clauses c.args.number) c.self.view_is) c.left_in.ensures
+    let whole = tour_length (sets_of c.self.inside.table.variables) c.self.inside.table.lists c.self.inside.later.counts c.self.invariant.counts_are in
+    let seen = ap (λ (s : Toured). length s.formula.clauses) c.self.view_is in
+    let high = c.requires.number.1 in
+    let some = c.requires.number.0 in
+    let counted = later_counted sets in
+    let counts = ap sum c.self.invariant.counts_are in
+    let numbers = ap length c.self.invariant.numbers_are in
+    let less : c.args.number - 1 - length c.lists-lists.result.now < length c.self.inside.later.numbers.items = omega arith in
+    let second : c.index-second.result.now ≡ get_or (all_later (sets_of c.self.inside.table.variables)) (c.args.number - 1 - length c.lists-lists.result.now) 0 =
+    get_or_read c.self.inside.later.numbers.items place c.index-second.result.now less c.index-second.ensures 0 ∙ ap (λ (ns : List ℕ). get_or ns (c.args.number - 1 - length c.lists-lists.result.now) 0) c.self.invariant.numbers_are in
+    let pair = pair_at sets place c.place-at.result.0 c.place-at.result.1 falls (get_or (all_later sets) place 0) (number_later sets place c.place-at.result.0 c.place-at.result.1 falls) (number_last sets place c.place-at.result.0 c.place-at.result.1 falls) (number_at sets place c.place-at.result.0 c.place-at.result.1 falls) in
+    let at : numbered (tour_clauses (sets_of c.self.inside.table.variables) c.self.inside.table.lists) c.args.number ≡ pair_clause (c.place-at.result.0 + 1) c.index-second.result.now =
+    pair_numbered sets lists c.args.number place c.requires.number.0 (omega arith) (omega arith) ∙ pair ∙ ap (pair_clause (c.place-at.result.0 + 1)) (sym second) in
+    let made : c.minus.result ∷ c.minus-2.result ∷ [] ≡ pair_clause (c.place-at.result.0 + 1) c.index-second.result.now = λ i. c.minus.ensures i ∷ c.minus-2.ensures i ∷ [] in
+    made ∙ sym at ∙ ap (λ (s : Toured). numbered s.formula.clauses c.args.number) c.self.view_is
+
+pub left_in-requires : goal.left_in-requires
+left_in-requires g c =
+    let clauses = c.args.self.now.formula.clauses in
+    let form : AreClauses c.args.self.now.formula.vars c.args.self.now.formula.clauses = subst (λ (s : Toured). AreClauses s.formula.vars s.formula.clauses) c.self.view_is (tour_form_of c.self.inside.table.variables c.self.inside.table.lists c.lists-lists.ensures.numbers) in
+    let some = c.requires.number.0 in
+    let high = c.requires.number.1 in
+    let one : IsClause c.args.self.now.formula.vars (numbered c.args.self.now.formula.clauses c.args.number) = All-get_or (IsClause c.args.self.now.formula.vars) clauses (c.args.number - 1) [] (omega arith) form in
+    let fits : FitsIn c.args.values.now (numbered c.args.self.now.formula.clauses c.args.number) = λ k d l. let last = (one.in_range k d l).1 in let room = c.requires.room in omega arith in
+    subst (FitsIn c.args.values.now) (sym (written g (goal.at.left_in-requires g c).After-minus-2)) fits
+
+pub returns : goal.returns
+returns g c = subst (λ (e : List Lit). IsLeft (held c.args.values.now) e c.left_in.result) (written g (goal.at.returns g c).After-minus-2) c.left_in.ensures
