@@ -69,7 +69,7 @@ class Plan:
 
 def made(request, heesch):
     """A new plan by the words of a call. It counts the shapes, and where no number of shares is given it times some."""
-    first = ladder.parse(request.first, ladder.DEFAULT) if request.first else ladder.first_limits(request.grid)
+    first = _first(request) or ladder.first_limits(request.grid)
     passes = (ladder.default_passes(request.grid, request.size, first) if request.passes is None
               else ladder.parse_passes(request.passes, first))
     shapes = _count(request, heesch)
@@ -78,6 +78,11 @@ def made(request, heesch):
         raise commands.Fault(f'{request.grid} {request.size} has 1 to {min(MOST_SHARES, shapes)} shares')
     return Plan(request.grid, request.size, shapes, shares, first, tuple(passes), request.most or MOST_BYTES,
                 request.outer, program.sum_of(heesch), request.commit or program.commit_of(heesch))
+
+
+def _first(request):
+    """The first limits that a call asks for; what its words don't name is that of the grid. None where it has none."""
+    return ladder.parse(request.first, ladder.first_limits(request.grid)) if request.first else None
 
 
 def _count(request, heesch):
@@ -120,7 +125,7 @@ def loaded(path):
 
 def check_agrees(plan, request, heesch, folder):
     """Refuses the words of a call, or a program, that aren't those with which the folder was begun."""
-    first = ladder.parse(request.first, ladder.DEFAULT) if request.first else plan.first
+    first = _first(request) or plan.first
     passes = plan.passes if request.passes is None else tuple(ladder.parse_passes(request.passes, first))
     for name, asked, begun in (
             ('the size', f'{request.grid} {request.size}', plan.name), ('--first', first, plan.first),
