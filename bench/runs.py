@@ -1,5 +1,6 @@
 #!/usr/bin/env python3
 """Fills the tables of README.md, docs/TABLES.md and docs/RUNS.md from folders that tools/run made: `runs.py FOLDER..`.
+Of small sizes it copies the catalogues into catalogues/, and of four it makes the pages of docs/atlas/.
 
 A table stands behind a line `<!-- bench/runs.py NAME -->`, or `<!-- bench/runs.py NAME from GRID N, GRID N -->` where
 it has the sizes from N on alone. Its rows are those of the folders, in the order of grids and sizes. Every figure
@@ -13,12 +14,15 @@ import functools
 import os
 import pathlib
 import re
+import shutil
 import subprocess
 import sys
 
 MOST = 2_000_000_000  # the bytes of evidence that tools/run keeps by default
 LEAST_LISTED = 2  # the least Heesch number whose shapes are listed
 GRIDS = ('square', 'hex', 'iamond', 'kite')
+SMALL = {'square': 7, 'hex': 6, 'iamond': 8, 'kite': 4}  # sizes up to which catalogues/ has the catalogue
+PAGES = ('square 8', 'hex 6', 'iamond 9', 'kite 6')  # sizes of which docs/atlas has a page
 TOP = pathlib.Path(__file__).resolve().parent.parent
 
 
@@ -257,6 +261,17 @@ def filled(text, runs):
     return '\n'.join(lines + [''] * is_old)
 
 
+def publish(runs, top):
+    """Copies the small catalogues, and makes the pages."""
+    for run in runs:
+        catalogue, name = run.folder / 'catalogue.txt', run.name.replace(' ', '-')
+        if run.size <= SMALL[run.grid]:
+            shutil.copyfile(catalogue, top / 'catalogues' / f'{name}.txt')
+        if run.name in PAGES:
+            with open(top / 'docs' / 'atlas' / f'{name}.html', 'wb') as page:
+                subprocess.run([TOP / 'tools' / 'atlas', catalogue], stdout=page, check=True)
+
+
 if __name__ == '__main__':
     if len(sys.argv) < 2:
         sys.exit(__doc__)
@@ -266,3 +281,4 @@ if __name__ == '__main__':
     for name in ('README.md', 'docs/TABLES.md', 'docs/RUNS.md'):
         path = TOP / name
         path.write_text(filled(path.read_text(encoding='utf-8'), made), encoding='utf-8')
+    publish(made, TOP)
