@@ -1,6 +1,6 @@
 #!/usr/bin/env bash
 # Runs the examples of the documents and compares what they print with what stands there: `readme.sh PROGRAM [DOCUMENT]..`,
-# by default README.md, docs/USAGE.md and docs/READING.md. An example is an indented block with lines `$ COMMAND`; its
+# by default README.md, docs/USAGE.md, docs/READING.md and docs/TABLES.md. An example is an indented block with lines `$ COMMAND`; its
 # commands run in their order, all of a document in one new folder that has tools/, with PROGRAM as `heesch`. A block
 # without such lines that writes a file docs/NAME.svg is run too, and the picture is compared with that of docs/.
 # Prints each command that differs, and how many are as they stand; ends with 1 where one differs.
@@ -78,7 +78,7 @@ run_document() { # NAME
   [ ! -s "$work/block" ] || run_block
 }
 
-[ $# -gt 0 ] || set -- README.md docs/USAGE.md docs/READING.md
+[ $# -gt 0 ] || set -- README.md docs/USAGE.md docs/READING.md docs/TABLES.md
 for document in "$@"; do run_document "$document"; done
 echo "$same as they stand, differ $differ"
 [ "$differ" -eq 0 ]

@@ -1,23 +1,28 @@
 #!/usr/bin/env python3
 """Fills the tables of README.md, docs/TABLES.md and docs/RUNS.md from folders that tools/run made: `runs.py FOLDER..`.
+Of small sizes it copies the catalogues into catalogues/, and of four it makes the pages of docs/atlas/.
 
 A table stands behind a line `<!-- bench/runs.py NAME -->`, or `<!-- bench/runs.py NAME from GRID N, GRID N -->` where
 it has the sizes from N on alone. Its rows are those of the folders, in the order of grids and sizes. Every figure
-stands in a folder (tally.csv, README.md), or is printed by `heesch table` or `tools/select` over its catalogue, or is
-a published one of docs/TABLES.md. HEESCH names the program. Runs of different programs are refused, since a table is
-of one.
+stands in a folder (tally.csv, undecided.csv, README.md), or is printed by `heesch table` over its catalogue, or is a
+published one of docs/TABLES.md. HEESCH names the program. Runs of different programs are refused, since a table is of
+one.
 """
+import collections
 import csv
 import functools
 import os
 import pathlib
 import re
+import shutil
 import subprocess
 import sys
 
 MOST = 2_000_000_000  # the bytes of evidence that tools/run keeps by default
-LEAST_LISTED, MOST_LISTED = 2, 12  # the least Heesch number whose shapes are listed, and of a size the most shapes
+LEAST_LISTED = 2  # the least Heesch number whose shapes are listed
 GRIDS = ('square', 'hex', 'iamond', 'kite')
+SMALL = {'square': 7, 'hex': 6, 'iamond': 8, 'kite': 4}  # sizes up to which catalogues/ has the catalogue
+PAGES = ('square 8', 'hex 6', 'iamond 9', 'kite 6')  # sizes of which docs/atlas has a page
 TOP = pathlib.Path(__file__).resolve().parent.parent
 
 
@@ -27,13 +32,22 @@ class Run:
     def __init__(self, folder):
         self.folder = pathlib.Path(folder)
         self.readme = (self.folder / 'README.md').read_text(encoding='ascii')
-        with open(self.folder / 'tally.csv', encoding='ascii', newline='') as file:
-            self.tallies = list(csv.DictReader(file))
+        self.tallies = self.read('tally.csv')
         self.tally = self.tallies[0]
         self.given = [tally for tally in self.tallies if tally['file'].startswith('given')]
+        self.open = self.read('undecided.csv')
         self.program = re.search('sha256\\s+`([0-9a-f]{64})`', self.readme)[1]
+        self.commit = (re.search('of the commit `([^`]+)`', self.readme) or ['', ''])[1]
         self.grid, self.size = self.tally['grid'], int(self.tally['size'])
         self.name = f'{self.grid} {self.size}'
+
+    def read(self, name):
+        """The rows of a table of the folder; none where the run made none."""
+        path = self.folder / name
+        if not path.exists():
+            return []
+        with open(path, encoding='ascii', newline='') as file:
+            return list(csv.DictReader(file))
 
     def key(self):
         return GRIDS.index(self.grid), self.size
@@ -42,22 +56,38 @@ class Run:
         """What the catalogue counts, and beside it the entries of given shapes that only later passes decide."""
         return sum(int(tally[column] or 0) for tally in [self.tally, *self.given])
 
-    def numbers(self, word, tally=None):
-        """The counts by number, as `0: 1, 1: 2`, of the columns `WORD_H`."""
+    def counts(self, word, tally=None):
+        """The counts by number, of the columns `WORD_H`."""
         columns = [column for column in self.tally if re.fullmatch(f'{word}_[0-9]+', column)]
         counts = {column.split('_')[1]: int(tally[column] or 0) if tally else self.count(column) for column in columns}
-        return in_words(counts)
+        return {number: count for number, count in sorted(counts.items()) if count}
 
-    def undecided(self):
-        """How many shapes no pass decides."""
-        counts = [int(self.tally[f'undecided_{word}']) for word in ('levels', 'holes', 'turns', 'size')]
-        return sum(counts) - sum(int(tally['shapes']) for tally in self.given)
+    def left(self):
+        """How many shapes no pass decides, by the word behind `undecided`."""
+        words = collections.Counter(shape['verdict'].split()[1] for shape in self.open)
+        return ', '.join(f'{word}: {count}' for word, count in sorted(words.items())) or '0'
+
+    def left_without_hole(self):
+        """How many shapes without a hole no pass decides."""
+        words = [column for column in self.tally if column.startswith('undecided_')]
+        decided = sum(self.tally_of_decided(tally) for tally in self.given)
+        return sum(int(self.tally[word]) for word in words) - decided
+
+    def tally_of_decided(self, tally):
+        """How many shapes without a hole a tally has that are decided."""
+        kinds = sum(int(tally[kind]) for kind in ('translation', 'halfturn', 'periodic'))
+        return kinds + sum(self.counts('heesch', tally).values())
 
     def limits(self):
         return [without_defaults(row['Limits']) for row in self.rows('Stage') if 'Limits' in row]
 
+    def kept_limits(self):
+        """The limits of the catalogue, as its header has them."""
+        with open(self.folder / 'catalogue.txt', encoding='ascii') as text:
+            return without_defaults(' '.join(text.readline().split()[4:]))
+
     def rows(self, heading):
-        """The rows of the README's table that has this first heading, each as its cells by heading."""
+        """The rows of each of the README's tables that has this first heading, each as its cells by heading."""
         lines = iter(self.readme.splitlines())
         for line in lines:
             heads = cells(line)
@@ -78,6 +108,19 @@ class Run:
         most = int(most[1] or most[2])
         return f'tools/run {self.name}' + f' --most {most}' * (most != MOST) + ' --outer' * bool(self.outer())
 
+    def times(self):
+        """What the program took, then its `check` alone, and then the tools: processor seconds, and MB at most."""
+        rows = [row for row in self.rows('Stage') if row.get('Processor seconds')]
+        parts = {'program': [], 'check': [], 'tools': []}
+        for row in rows:
+            stage = row['Stage']
+            parts['tools' if stage in ('merge', 'tally') else 'program'].append(row)
+            if stage.startswith('check of'):
+                parts['check'].append(row)
+        return [word for part in parts.values() for word in (
+            f'{sum(float(row["Processor seconds"]) for row in part):.1f}' if part else '',
+            max((int(row['Peak MB of one']) for row in part), default=''))]
+
     @functools.cached_property
     def with_holed(self):
         """The Heesch numbers of all shapes, as `heesch table` counts them."""
@@ -88,16 +131,6 @@ class Run:
             for number, count in re.findall('^heesch ([0-9]+) ([0-9]+)$', done.stdout.decode(), re.MULTILINE):
                 counts[number] = counts.get(number, 0) + int(count)
         return in_words(counts)
-
-    def largest(self):
-        """The largest Heesch number of a shape without a hole, and the cells of the shapes that have it."""
-        columns = [column for column in self.tally if re.fullmatch('heesch_[0-9]+', column)]
-        number = max((int(column.split('_')[1]) for column in columns if self.count(column)), default=0)
-        shapes = []
-        for tally in [self.tally, *self.given]:
-            words = [TOP / 'tools/select', self.folder / tally['file'], '--heesch', str(number), '--simply-connected']
-            shapes += subprocess.run(words, capture_output=True, check=True).stdout.decode().splitlines()
-        return number, shapes
 
 
 def in_words(counts):
@@ -118,27 +151,40 @@ def table(head, rows):
 
 
 def published():
-    """The published figures by size of squares, of docs/TABLES.md: holed, don't tile, and by Heesch number."""
-    figures = {}
+    """The published figures by size, of docs/TABLES.md: holed, don't tile, and by Heesch number."""
+    figures, is_there = {}, False
     for line in (TOP / 'docs/TABLES.md').read_text(encoding='utf-8').splitlines():
+        is_there = line == '## Published figures' if line.startswith('## ') else is_there
         row = cells(line)
-        if row and re.fullmatch('[0-9]+ cells', row[0]):
-            figures[int(row[0].split()[0])] = row[1:]
+        if is_there and row and re.fullmatch('[a-z]+ [0-9]+', row[0]):
+            figures[row[0]] = row[1:]
     return figures
+
+
+def agreement(run, figures):
+    """Whether the counts of a run are the published ones, in words; where shapes are left, whether they can be."""
+    holed, nontilers, *numbers = figures
+    ours, left = run.counts('heesch'), run.left_without_hole()
+    told = {str(number): int(count) for number, count in enumerate(numbers) if count not in ('', '0')}
+    more = int(nontilers) - sum(ours.values()) if nontilers else 0
+    is_same = (holed in ('', run.tally['holed'])) and 0 <= more <= left and (left > 0 or told in ({}, ours))
+    if not is_same:
+        return '**no**'
+    return f'yes, where {more} of the {left} undecided do not tile' if left else 'yes'
 
 
 def with_published(runs):
     known = published()
     rows = []
     for run in runs:
-        tally = run.tally
-        figures = known.get(run.size, []) if run.grid == 'square' else []
-        numbers = ', '.join(f'{number}: {count}' for number, count in enumerate(figures[2:]) if count not in ('', '0'))
+        tally, figures = run.tally, known.get(run.name, [])
+        numbers = {str(number): int(count) for number, count in enumerate(figures[2:]) if count not in ('', '0')}
         rows.append([f'`{run.name}`', tally['shapes'], tally['holed'], run.count('translation'), run.count('halfturn'),
-                     run.count('periodic'), run.numbers('heesch'), run.with_holed, run.undecided(),
-                     figures[1] if figures else '', numbers])
+                     run.count('periodic'), in_words(run.counts('heesch')), run.with_holed, len(run.open),
+                     figures[1] if figures else '', in_words(numbers) if numbers else '',
+                     agreement(run, figures) if any(figures) else ''])
     return table(['Size', 'Shapes', 'Holed', 'Tile by translations', 'By half-turns', 'Otherwise', 'Heesch numbers',
-                  'With holed shapes', 'Undecided', "Myers: don't tile", 'Kaplan: Heesch numbers'], rows)
+                  'With holed shapes', 'Undecided', "Myers: don't tile", 'Kaplan: Heesch numbers', 'Ours agree'], rows)
 
 
 def verdicts(runs):
@@ -146,51 +192,54 @@ def verdicts(runs):
     for run in runs:
         tally, outer = run.tally, run.outer()
         rows.append([f'`{run.name}`', tally['shapes'], tally['holed'], run.count('translation'), run.count('halfturn'),
-                     run.count('periodic'), run.count('one_class'), run.numbers('heesch'), run.with_holed,
-                     run.numbers('outer', outer) if outer else '', run.undecided(), run.limits()[-1],
+                     run.count('periodic'), run.count('one_class'), in_words(run.counts('heesch')), run.with_holed,
+                     in_words(run.counts('outer', outer)) if outer else '', run.left(), run.limits()[-1],
                      sum(int(given['shapes']) for given in run.given)])
     return table(['Size', 'Shapes', 'Holed', 'Translation', 'Half-turn', 'Periodic', 'Written with one class',
-                  'Heesch numbers', 'With holed shapes', 'Outer numbers', 'Undecided', 'Last limits', 'In given.txt'],
-                 rows)
+                  'Heesch numbers', 'With holed shapes', 'Outer numbers', 'Undecided by', 'Last limits',
+                  'In given.txt'], rows)
 
 
 def left_open(runs):
     rows = []
     for run in runs:
-        rows += [[f'`{run.name}`', row['Number'], f'`{row["Cells"]}`', f'`{row["Verdict"]}`', run.limits()[-1]]
-                 for row in run.rows('Number')]
-    return table(['Size', 'Number', 'Cells', 'Verdict', 'Limits'], rows)
+        rows += [[f'`{run.name}`', shape['number'], f'`{shape["cells"]}`', f'`{shape["verdict"]}`', shape['coronas'],
+                  shape['heesch'], shape['open'], shape['refuted_domains'], shape['refuted_lattices'],
+                  shape['spent_lattices'], run.kept_limits()] for shape in run.open]
+    return table(['Size', 'Number', 'Cells', 'Verdict', 'Coronas', 'Heesch number', 'Coronas with holes',
+                  'Refuted: numbers of tiles', 'Lattices refuted', 'Lattices spent', 'Limits'], rows)
 
 
 def largest(runs):
     rows = []
     for run in runs:
-        number, shapes = run.largest()
-        if number >= LEAST_LISTED:
-            rows += [[f'`{run.name}`', number, f'`{cells}`'] for cells in shapes[:MOST_LISTED]]
-            if len(shapes) > MOST_LISTED:
-                rows.append([f'`{run.name}`', number, f'{len(shapes) - MOST_LISTED} more'])
+        for row in run.rows('Heesch number'):
+            if int(row['Heesch number']) >= LEAST_LISTED:
+                is_shape = not row['Cells'].endswith('more')
+                rows.append([f'`{run.name}`', row['Heesch number'], f'`{row["Cells"]}`' if is_shape else row['Cells']])
     return table(['Size', 'Heesch number', 'Cells'], rows)
+
+
+def program_of(runs):
+    return table(['Commit', 'sha256'], [[f'`{run.commit}`', f'`{run.program}`'] for run in runs[:1]])
 
 
 def stages(runs):
     rows = []
     for run in runs:
-        times = [row for row in run.rows('Stage') if row.get('Processor seconds')]
-        took = [f'`{run.command()}`', '; '.join(run.limits()),
-                f'{sum(float(row["Processor seconds"]) for row in times):.1f}',
-                max(int(row['Peak MB of one']) for row in times)]
+        took = [f'`{run.command()}`', '; '.join(run.limits()), *run.times()]
         for file in run.rows('File'):
             is_empty = int(file['Bytes']) <= len('end 0\n')
             if file['File'].split('.')[0].split('-')[0] in ('catalogue', 'given', 'outer') and not is_empty:
                 said = f'`{file["heesch check"]}`' if file['heesch check'] else ''
                 rows.append([*took, file['File'], file['Bytes'], f'`{file["sha256"]}`', said])
                 took = [''] * len(took)
-    return table(['Command', 'Limits of the shares and of each pass', 'Processor seconds', 'Peak MB of one process',
-                  'File', 'Bytes', 'sha256', '`heesch check`'], rows)
+    return table(['Command', 'Limits of the shares and of each pass', 'Processor seconds', 'MB', '`check`: seconds',
+                  'MB', 'Tools: seconds', 'MB', 'File', 'Bytes', 'sha256', '`heesch check`'], rows)
 
 
-TABLES = {'published': with_published, 'verdicts': verdicts, 'open': left_open, 'largest': largest, 'runs': stages}
+TABLES = {'published': with_published, 'verdicts': verdicts, 'open': left_open, 'largest': largest, 'runs': stages,
+          'program': program_of}
 MARK = re.compile('<!-- bench/runs.py ([a-z]+)(?: from ([a-z0-9, ]+))? -->')
 
 
@@ -212,12 +261,24 @@ def filled(text, runs):
     return '\n'.join(lines + [''] * is_old)
 
 
+def publish(runs, top):
+    """Copies the small catalogues, and makes the pages."""
+    for run in runs:
+        catalogue, name = run.folder / 'catalogue.txt', run.name.replace(' ', '-')
+        if run.size <= SMALL[run.grid]:
+            shutil.copyfile(catalogue, top / 'catalogues' / f'{name}.txt')
+        if run.name in PAGES:
+            with open(top / 'docs' / 'atlas' / f'{name}.html', 'wb') as page:
+                subprocess.run([TOP / 'tools' / 'atlas', catalogue], stdout=page, check=True)
+
+
 if __name__ == '__main__':
     if len(sys.argv) < 2:
         sys.exit(__doc__)
     made = sorted(map(Run, sys.argv[1:]), key=Run.key)
-    if len({run.program for run in made}) > 1:
+    if len({(run.program, run.commit) for run in made}) > 1:
         sys.exit('the runs are of several programs, and a table is of one')
     for name in ('README.md', 'docs/TABLES.md', 'docs/RUNS.md'):
         path = TOP / name
         path.write_text(filled(path.read_text(encoding='utf-8'), made), encoding='utf-8')
+    publish(made, TOP)

@@ -38,6 +38,16 @@ def sum_of(path):
     return total.hexdigest()
 
 
+def commit_of(path):
+    """The commit of the repository in which a file stands; nothing where it stands in none."""
+    try:
+        told = subprocess.run(['git', '-C', os.path.dirname(path), 'describe', '--always', '--abbrev=12', '--dirty'],
+                              capture_output=True, check=False)
+    except OSError:
+        return ''
+    return told.stdout.decode().strip() if told.returncode == 0 else ''
+
+
 def ending(status):
     """How a process ended, in words."""
     if status < 0:

@@ -132,6 +132,12 @@ class Tile(NamedTuple):
     by: tuple
 
 
+class Triple(NamedTuple):
+    """A `triple` line: the numbers P, Q, S of its lattice, and whether a proof refutes it."""
+    lattice: tuple
+    is_refuted: bool
+
+
 class Outer(NamedTuple):
     """What an outer text says of the outer number: `word` is 'tiles', 'undecided', 'spent' or 'number'.
 
@@ -151,7 +157,7 @@ class Entry:
 
     def __init__(self, text, number, line, offset, cells, verdict):
         self.number, self.line, self.offset, self.cells, self.verdict = number, line, offset, cells, verdict
-        self.lattice, self.tiles, self.coronas, self.open = None, [], [], []
+        self.lattice, self.tiles, self.coronas, self.open, self.triples = None, [], [], [], []
         self.wall = self.bare = self.outer = None
         self._text, self._is_read, self._layers, self._heesch = text, False, [], None
 
@@ -160,7 +166,7 @@ class Entry:
         return self._text.lines_of(self)
 
     def read(self):
-        """Reads the lines behind the verdict, keeps all but proofs and triples, and answers the entry."""
+        """Reads the lines behind the verdict, keeps all but proofs, and answers the entry."""
         if not self._is_read:
             self._is_read = True
             for line in self.evidence():
@@ -178,6 +184,8 @@ class Entry:
             self._layers.append([_numbers(place.split(',')) for place in words[1:]])
         elif word in ('coronas', 'open'):
             self._layers = getattr(self, word)
+        elif word == 'triple':
+            self.triples.append(Triple(_numbers(words[1:4]), words[4] == 'refuted'))
         elif word in ('wall', 'bare'):
             setattr(self, word, (int(words[1]), words[2]))
         elif word == 'hc':

@@ -10,6 +10,7 @@
 | `progress` | the line that tells how far it is |
 | `joins` | parts put together |
 | `stages` | shares, passes, merge, check, tables: each makes what isn't there yet |
+| `notable` | the shapes that are listed one by one |
 | `report` | the README and the sums |
 | `cluster` | scripts for Slurm, commands for GNU parallel |
 """

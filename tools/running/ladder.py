@@ -4,6 +4,7 @@ import math
 from polyforms import commands, grids, texts
 
 DEFAULT = texts.Limits(turns=20_000, levels=3, domain=4, size=60_000_000)  # of the program
+FIRST = {'kite': DEFAULT._replace(domain=6)}  # of 5 or 7 kites no smaller domain exists
 RUNGS = ((6, 4), (8, 4), (12, 5))  # domain and levels of the passes by default, where such domains exist
 
 
@@ -32,6 +33,11 @@ def parse_passes(passes, first):
             raise commands.Fault(f'the pass `{words}` has to raise limits, and to lower none, of `{before}`')
         ladder.append(limits)
     return ladder
+
+
+def first_limits(grid):
+    """The first limits of a grid, where none are given."""
+    return FIRST.get(grid, DEFAULT)
 
 
 def default_passes(grid, size, first):

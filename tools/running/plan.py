@@ -21,8 +21,8 @@ MOST_BYTES = 2_000_000_000
 @dataclasses.dataclass(frozen=True)
 class Plan:
     """The size, its number of shapes, the number of shares, the limits of the first classification and of the passes
-    over what it leaves, the most bytes of the evidence of undecided shapes, whether outer numbers are wanted, and the
-    sum of the program."""
+    over what it leaves, the most bytes of the evidence of undecided shapes, whether outer numbers are wanted, the sum
+    of the program, and its commit, or nothing where that isn't known."""
     grid: str
     size: int
     shapes: int
@@ -32,6 +32,7 @@ class Plan:
     most: int
     outer: bool
     program: str
+    commit: str = ''
 
     @property
     def command(self):
@@ -68,7 +69,7 @@ class Plan:
 
 def made(request, heesch):
     """A new plan by the words of a call. It counts the shapes, and where no number of shares is given it times some."""
-    first = ladder.parse(request.first, ladder.DEFAULT) if request.first else ladder.DEFAULT
+    first = _first(request) or ladder.first_limits(request.grid)
     passes = (ladder.default_passes(request.grid, request.size, first) if request.passes is None
               else ladder.parse_passes(request.passes, first))
     shapes = _count(request, heesch)
@@ -76,7 +77,12 @@ def made(request, heesch):
     if not 1 <= shares <= min(MOST_SHARES, shapes):
         raise commands.Fault(f'{request.grid} {request.size} has 1 to {min(MOST_SHARES, shapes)} shares')
     return Plan(request.grid, request.size, shapes, shares, first, tuple(passes), request.most or MOST_BYTES,
-                request.outer, program.sum_of(heesch))
+                request.outer, program.sum_of(heesch), request.commit or program.commit_of(heesch))
+
+
+def _first(request):
+    """The first limits that a call asks for; what its words don't name is that of the grid. None where it has none."""
+    return ladder.parse(request.first, ladder.first_limits(request.grid)) if request.first else None
 
 
 def _count(request, heesch):
@@ -119,13 +125,14 @@ def loaded(path):
 
 def check_agrees(plan, request, heesch, folder):
     """Refuses the words of a call, or a program, that aren't those with which the folder was begun."""
-    first = ladder.parse(request.first, ladder.DEFAULT) if request.first else plan.first
+    first = _first(request) or plan.first
     passes = plan.passes if request.passes is None else tuple(ladder.parse_passes(request.passes, first))
     for name, asked, begun in (
             ('the size', f'{request.grid} {request.size}', plan.name), ('--first', first, plan.first),
             ('--shares', request.shares or plan.shares, plan.shares), ('--most', request.most or plan.most, plan.most),
             ('--passes', [str(limits) for limits in passes], [str(limits) for limits in plan.passes]),
             ('--outer', request.outer or plan.outer, plan.outer),
+            ('--commit', request.commit or plan.commit, plan.commit),
             ('the program with the sha256', program.sum_of(heesch), plan.program)):
         if asked != begun:
             raise commands.Fault(f'{folder} was begun with {name} {begun}, and not {asked}')

@@ -2,37 +2,45 @@
 import csv
 import os
 import shutil
-import subprocess
 import sys
 import time
 
-from polyforms import program, texts
+from polyforms import program
 from polyforms.whole import WholeFile, write_whole
 
+from . import joins
+from .notable import Notable, table_text
 from .progress import duration
-from .stages import CATALOGUE, OUTER, tool
+from .stages import CATALOGUE, GIVEN, OUTER, tool
 
-README, SUMS, UNDECIDED, TALLY, CITATION = 'README.md', 'SHA256SUMS', 'undecided.txt', 'tally.csv', 'CITATION.cff'
-LISTED = 200  # undecided shapes that the README lists one by one
+README, SUMS, TALLY, CITATION = 'README.md', 'SHA256SUMS', 'tally.csv', 'CITATION.cff'
+UNDECIDED, KNOWN = 'undecided.txt', 'undecided.csv'
+LISTED, MOST_LARGEST = 200, 12  # shapes that the README lists one by one: undecided ones, those of the largest number
+CONTENTS = {
+    CATALOGUE: 'the catalogue', GIVEN: 'entries that only passes decide whose evidence is not kept in the catalogue',
+    OUTER: 'the outer numbers', UNDECIDED: 'the cells of what no pass decides', KNOWN: 'what is known of these',
+    TALLY: 'the counts', 'tally.tex': 'the counts, for LaTeX', CITATION: 'how to cite the program', SUMS: 'the sums'}
 
 
 class Report:
     """What is written of a run once its catalogue stands."""
 
     def __init__(self, run):
-        self._folder, self._plan, self._heesch = run.folder, run.plan, run.heesch
+        self._run, self._folder, self._plan = run, run.folder, run.plan
         self._texts = run.catalogues() + ([OUTER] if run.plan.outer else [])
         self._merged = self._folder.recorded('merge')
         self._passes = [self._folder.recorded(f'pass-{number}') for number in range(1, self._merged['passes'] + 1)]
-        self._left = []
+        with open(self._folder.left(self._merged['passes']), encoding='ascii') as file:
+            self._notable = Notable(set(file.read().splitlines()))
+        self._left = self._notable.open
 
     def write(self):
         """Writes the tables, the sums and the README."""
+        for name in self._run.catalogues():
+            self._notable.look(self._folder.file(name))
         self._write_undecided()
         for name, form in ((TALLY, '--csv'), ('tally.tex', '--latex')):
-            words = [sys.executable, tool('export'), '--tally', '--grid', self._plan.grid, form, *self._texts]
-            with WholeFile(self._folder.file(name)) as file:
-                program.pour(words, None, file.write, self._folder.path)
+            self._run.timed('tally', self._write_tally, name, form)
         shutil.copyfile(os.path.join(program.repository(), CITATION), self._folder.file(CITATION))
         summed = [name for name in self._folder.made() if name not in (README, SUMS)]
         sums = {name: program.sum_of(self._folder.file(name)) for name in summed}
@@ -40,27 +48,28 @@ class Report:
         sums[SUMS] = program.sum_of(self._folder.file(SUMS))
         write_whole(self._folder.file(README), self._readme(sums))
 
+    def _write_tally(self, name, form):
+        """Writes a table of the counts; answers what that took."""
+        words = [sys.executable, tool('export'), '--tally', '--grid', self._plan.grid, form, *self._texts]
+        with WholeFile(self._folder.file(name)) as file:
+            return program.pour(words, None, file.write, self._folder.path)
+
     def _write_undecided(self):
-        """Lists the shapes that no pass decides, by their numbers in the catalogue and their verdicts."""
-        with open(self._folder.left(self._merged['passes']), encoding='ascii') as file:
-            left = set(file.read().splitlines())
-        if not left:
-            return
-        with texts.opened(self._folder.file(CATALOGUE)) as text:
-            for entry in text:
-                cells = texts.cells_text(entry.cells)
-                if cells in left:
-                    self._left.append((entry.number, str(entry.verdict)[len('verdict '):], cells))
-        write_whole(self._folder.file(UNDECIDED), ''.join(f'{cells}\n' for _, _, cells in self._left))
+        """Lists the shapes that no pass decides, with what the catalogue says of each."""
+        if self._left:
+            write_whole(self._folder.file(UNDECIDED), ''.join(f'{shape.cells}\n' for shape in self._left))
+            write_whole(self._folder.file(KNOWN), table_text(self._left))
 
     # ---- the README
 
     def _readme(self, sums):
         parts = [f'# The catalogue of {self._plan.name}', self._about(),
                  '## Counts', self._counts(),
+                 '## Largest Heesch number', self._largest(),
                  '## Undecided', self._undecided(),
                  '## How it was made', self._making(), self._passes_table(), self._times_table(),
-                 '## Files', self._files_table(sums),
+                 '## Files', self._files_table(sums), f'To check them: `sha256sum -c {SUMS}`, and of each catalogue '
+                 f'`heesch check < {CATALOGUE}`.',
                  '## To cite', f'{CITATION} has how to cite the program and the two publications. Cite this folder by '
                  f'the sha256 of {CATALOGUE}.',
                  '## Licence', 'The owner of this folder states a licence here.']
@@ -90,22 +99,38 @@ class Report:
         return (f' {OUTER} has the outer numbers of the shapes with a Heesch number, by `heesch outer` under '
                 f'`{limits}`.')
 
+    def _largest(self):
+        if self._notable.heesch is None:
+            return 'No shape without a hole has a known Heesch number.'
+        shapes = self._notable.largest
+        rows = [[self._notable.heesch, f'`{cells}`'] for cells in shapes[:MOST_LARGEST]]
+        if len(shapes) > MOST_LARGEST:
+            rows.append([self._notable.heesch, f'{len(shapes) - MOST_LARGEST} more'])
+        return ('Of the shapes without a hole that are known not to tile, these have the largest.\n\n'
+                + _table(['Heesch number', 'Cells'], rows))
+
     def _undecided(self):
         if not self._left:
             return 'None.'
         limits = self._plan.limits(self._merged['passes'])
         words = (f'Undecided under `{limits}`: {len(self._left)}. The cells stand in {UNDECIDED}, as `heesch classify` '
-                 'reads given shapes. The verdicts are those of the catalogue.')
+                 f'reads given shapes. {KNOWN} has what the catalogue says of each: the coronas without holes that are '
+                 'written, the Heesch number where a proof shows it, the coronas with holes, the numbers of tiles in a '
+                 'period for which each lattice is refuted, and how many lattices are refuted, and how many searches '
+                 f'were spent. The evidence is that under `{self._plan.limits(self._merged["last"])}`.')
         if failed := sum(facts['failed'] for facts in self._passes):
             words += f' Shapes of passes that were left, since a process failed twice on them: {failed}.'
-        rows = [[number, f'`{verdict}`', f'`{cells}`'] for number, verdict, cells in self._left[:LISTED]]
+        rows = [[shape.number, f'`{shape.verdict}`', f'`{shape.cells}`'] for shape in self._left[:LISTED]]
         return f'{words}\n\n' + _table(['Number', 'Verdict', 'Cells'], rows)
 
     def _making(self):
         return (f'By `{self._plan.command}`, which goes on where it was ended, with the program of the sha256 '
-                f'`{self._plan.program}`{_commit_of(os.path.dirname(self._heesch))}, on a machine with '
+                f'`{self._plan.program}`{self._of_commit()}, on a machine with '
                 f'{os.cpu_count()} processors. The texts are the same in any number of shares, and by any number of '
                 'processes.')
+
+    def _of_commit(self):
+        return f' of the commit `{self._plan.commit}`' if self._plan.commit else ''
 
     def _passes_table(self):
         """The limits of the first classification and of each pass, what each decided, and its evidence."""
@@ -136,9 +161,14 @@ class Report:
 
     def _files_table(self, sums):
         checked = self._folder.recorded('check')
-        rows = [[name, os.path.getsize(self._folder.file(name)), f'`{total}`',
+        rows = [[name, _contents(name), os.path.getsize(self._folder.file(name)), f'`{total}`',
                  f'`{checked[name]}`' if name in checked else ''] for name, total in sums.items()]
-        return _table(['File', 'Bytes', 'sha256', '`heesch check`'], rows)
+        return _table(['File', 'Has', 'Bytes', 'sha256', '`heesch check`'], rows)
+
+
+def _contents(name):
+    """What a file of the folder has, in words."""
+    return CONTENTS.get(GIVEN if joins.is_numbered(name, GIVEN) else name, '')
 
 
 def _table(head, rows):
@@ -149,13 +179,3 @@ def _table(head, rows):
 
 def _clock(seconds):
     return time.strftime('%Y-%m-%d %H:%M:%S', time.gmtime(seconds))
-
-
-def _commit_of(folder):
-    """The commit of the repository in which a program stands, in words; nothing where it stands in none."""
-    try:
-        told = subprocess.run(['git', '-C', folder, 'describe', '--always', '--abbrev=12', '--dirty'],
-                              capture_output=True, check=False)
-    except OSError:
-        return ''
-    return f' (its repository is at the commit {told.stdout.decode().strip()})' if told.returncode == 0 else ''

@@ -73,7 +73,7 @@ class Run:
             self._make_shares('shares', self.missing_shares(), self.plan.shapes)
             numbers = range(1, self.plan.shares + 1)
             self._join_lists(map(self.folder.left_of_share, numbers), 0)
-            self._timed('join', joins.join_shares, self.heesch, list(map(self.folder.share, numbers)), target)
+            self.timed('join', joins.join_shares, self.heesch, list(map(self.folder.share, numbers)), target)
         self.folder.remove('shares')
 
     # ---- passes
@@ -140,7 +140,7 @@ class Run:
         """Makes one text of the parts, without undecided shapes where their evidence isn't kept; answers the facts."""
         files = {kind: [self._pass_paths(number, part)[kind] for part in sizes] for kind in PART_FILES}
         kept = [] if evidence.is_over else [path for path in files['undecided'] if os.path.exists(path)]
-        self._timed(f'join of pass {number}', joins.join_given, files['decided'] + kept, self.folder.pass_text(number))
+        self.timed(f'join of pass {number}', joins.join_given, files['decided'] + kept, self.folder.pass_text(number))
         left = self._join_lists(files['left'], number)
         shapes = sum(sizes.values())
         facts = {'shapes': shapes, 'decided': shapes - left, 'evidence': None if evidence.is_over else evidence.bytes,
@@ -167,7 +167,7 @@ class Run:
         merged = self.folder.work(MERGED)
         if not os.path.exists(merged):
             found = [self.folder.pass_text(number) for number in range(1, last + 1)]
-            self._timed('merge', self._merge_texts, found, merged)
+            self.timed('merge', self._merge_texts, found, merged)
         later = [self.folder.pass_text(number) for number in range(last + 1, len(passes) + 1)]
         decided = sum(facts['decided'] for facts in passes[last:])
         if decided:
@@ -186,7 +186,7 @@ class Run:
         """Has `heesch check` judge what was made, and only then gives it its name."""
         given = [name for name in sorted(os.listdir(self.folder.work())) if joins.is_numbered(name, GIVEN)]
         for name, target in [*((name, name) for name in given), (MERGED, CATALOGUE)]:
-            self._timed(f'check of {target}', self._check_text, name, target)
+            self.timed(f'check of {target}', self._check_text, name, target)
 
     def _check_text(self, name, target):
         """Has it judge a text of `work`, which then gets its name in the folder."""
@@ -215,7 +215,7 @@ class Run:
         done = shapes - sum(sizes[task.number] for task in tasks)
         self._refuse_failed('parts of the outer numbers', self._work('outer numbers', tasks, done, shapes))
         paths = [self.folder.part('outer', part, 'txt') for part in sizes]
-        self._timed('join of the outer numbers', joins.join_outer, paths, self.folder.file(OUTER))
+        self.timed('join of the outer numbers', joins.join_outer, paths, self.folder.file(OUTER))
         self.folder.remove('outer')
 
     def _outer_task(self, part, sizes, words):
@@ -251,7 +251,7 @@ class Run:
             raise commands.Fault(f'{len(failed)} of the {stage} failed twice, the first of them {task.name}: {fault}; '
                                  f'what is done is kept{further}')
 
-    def _timed(self, stage, body, *arguments):
+    def timed(self, stage, body, *arguments):
         """Calls a body, which may answer what a process took, and notes its time."""
         begun = time.time()
         cost = body(*arguments) or {}

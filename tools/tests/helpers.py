@@ -17,7 +17,7 @@ import unittest
 from unittest import mock
 
 TOOLS = pathlib.Path(__file__).resolve().parent.parent
-DATA = TOOLS / 'tests' / 'data'
+DATA, CATALOGUES = TOOLS / 'tests' / 'data', TOOLS.parent / 'catalogues'
 PROGRAM = os.environ.get('HEESCH')
 REFUSED = 2
 SECONDS = 300  # after which a call has failed, on a busy machine too
@@ -34,13 +34,13 @@ def needs_outside(*names):
 
 
 def data(name):
-    """The path of a catalogue that stands here, as a word."""
-    return str(DATA / name)
+    """The path of a text that stands here, or else of one in `catalogues`, as a word."""
+    return str(next(path for path in (DATA / name, CATALOGUES / name) if path.exists()))
 
 
 def read(name):
-    """The text of a catalogue that stands here."""
-    return (DATA / name).read_text(encoding='ascii')
+    """The text of such a file."""
+    return pathlib.Path(data(name)).read_text(encoding='ascii')
 
 
 def called(name, *words):

@@ -1,4 +1,4 @@
-"""The catalogues that stand here are what the program makes, and it takes them for valid; where it is at hand."""
+"""The texts that stand here, and those of `catalogues`, are what the program makes; it takes them for valid."""
 import subprocess
 import unittest
 
@@ -13,14 +13,17 @@ VALID = {'square-7.txt': 108, 'hex-6.txt': 82, 'iamond-7.txt': 24, 'kite-4.txt':
 class Data(helpers.ToolTest):
     def test_the_program_makes_them(self):
         subprocess.run([helpers.DATA / 'make', helpers.PROGRAM, self.folder], check=True, timeout=helpers.SECONDS)
-        standing = sorted(path.name for path in helpers.DATA.glob('*.txt'))
-        self.assertEqual(sorted(path.name for path in self.folder.iterdir()), standing)
-        for name in standing:
-            self.assertEqual((self.folder / name).read_text() == helpers.read(name), True, name)
+        made = {path.name: path.read_text() for path in self.folder.iterdir()}
+        self.assertLessEqual({path.name for path in helpers.DATA.glob('*.txt')}, made.keys())
+        for name, text in made.items():
+            self.assertTrue(text == helpers.read(name), name)
 
     def test_they_are_valid(self):
         for name, count in VALID.items():
             self.assertEqual((name, helpers.program('check', text=helpers.read(name))), (name, f'valid {count}\n'))
+        for path in helpers.CATALOGUES.glob('*.txt'):
+            with self.subTest(path=path):
+                self.assertRegex(helpers.program('check', text=path.read_text()), '^valid ')
         shares = helpers.read('kite-4-share-1.txt') + helpers.read('kite-4-share-2.txt')
         self.assertEqual(helpers.program('join', text=shares), helpers.read('kite-4.txt'))
 

@@ -13,9 +13,10 @@ from unittest import mock
 
 from helpers import PROGRAM, SECONDS, TOOLS, ToolTest, data, needs_program, program, read, tool
 
-from polyforms import commands, texts
+from polyforms import commands, grids, texts
 from polyforms.whole import WholeFile
 from running import cluster, joins, ladder
+from running.notable import Notable, known, table_text
 from running.parts import Evidence, NotWhole, PassText, ShareText
 from running.progress import Progress, duration
 
@@ -42,6 +43,14 @@ class Ladders(unittest.TestCase):
                 ('kite', 9, [(6, 4), (8, 4), (12, 5)])):
             passes = ladder.default_passes(grid, size, ladder.DEFAULT)
             self.assertEqual([(limits.domain, limits.levels) for limits in passes], wanted, (grid, size))
+
+    def test_first_limits(self):
+        """A pass of the first limits has a domain that exists, for each size of kites too."""
+        for grid, most in texts.MOST_CELLS[2].items():
+            first = ladder.first_limits(grid)
+            self.assertEqual(first, ladder.DEFAULT._replace(domain=6 if grid == 'kite' else 4))
+            for size in range(1, most + 1):
+                self.assertGreater(ladder.greatest_domain(grid, size, first.domain), 0)
 
     def test_domains(self):
         for grid, size, most, wanted in (('kite', 7, 5, 0), ('kite', 5, 11, 6), ('kite', 8, 8, 6), ('iamond', 9, 7, 6),
@@ -172,6 +181,68 @@ class Joins(ToolTest):
             joins.join_shares(PROGRAM, SHARES[::-1], str(self.folder / 'joined'))
 
 
+    @needs_program
+    def test_both_ways(self):
+        """`heesch join`, and a line at a time where the shares are large, give the same bytes, which are valid."""
+        shares = [self.written(f'share-{number}', program('share', 'square', 7, number, 3)) for number in (1, 2, 3)]
+        texts_of = {}
+        for name, most in (('whole', joins.MOST_JOINED), ('lines', 0)):
+            joins.join_shares(PROGRAM, shares, str(self.folder / name), most=most)
+            texts_of[name] = (self.folder / name).read_text()
+        self.assertEqual(texts_of['whole'], texts_of['lines'])
+        self.assertEqual(program('check', text=texts_of['lines']), 'valid 108\n')
+
+
+class Listed(ToolTest):
+    """The shapes that are listed one by one."""
+
+    def known_of(self, name):
+        """What is known of the one shape of a catalogue that stands here."""
+        with texts.opened(data(name)) as text:
+            return [known(entry.read(), grids.named(text.grid)) for entry in text][0]
+
+    def test_known(self):
+        holes = self.known_of('undecided-holes.txt')
+        self.assertEqual(holes[2:], ('undecided holes 0', 0, 0, 1, '', 0, 0))
+        turns = self.known_of('undecided-turns.txt')
+        self.assertEqual((turns.verdict, turns.coronas, turns.heesch), ('undecided turns 0 free 1', 0, None))
+        self.assertEqual(turns.refuted_lattices + turns.spent_lattices, read('undecided-turns.txt').count('\ntriple '))
+        size = self.known_of('undecided-size.txt')
+        self.assertEqual((size.verdict, size.coronas, size.heesch), ('undecided size 0 bare 2', 0, 0))
+
+    def test_domains_refuted(self):
+        """A domain is refuted where each of its lattices is."""
+        wanted = 'kite given turns 9 levels 1 domain 6 size 9\nshape 1,1 -1,2\nverdict undecided levels 1\ncoronas 1\n'
+        triples = ''.join(f'triple {p} {q} {s} refuted\nempty 1\n' for p, q in ((1, 1), (1, 2), (2, 1))
+                          for s in range(p))
+        for old, domains, spent in (('', '3,6', 0), ('triple 2 1 1 refuted\nempty 1\n', '3', 1)):
+            spoilt = triples.replace(old, old.replace('refuted\nempty 1', 'spent\nspent')) if old else triples
+            path = self.written('text', f'heesch 2 {wanted}layer 0,1,0\n{spoilt}end 1\n')
+            with texts.opened(path) as text:
+                text.grid = None
+                shape = [known(entry.read(), grids.named('kite')) for entry in text][0]
+            self.assertEqual((shape.refuted_domains, shape.refuted_lattices, shape.spent_lattices),
+                             (domains, 4 - spent, spent))
+
+    def test_notable(self):
+        left = self.done('select', data('kite-4.txt'), '--undecided').splitlines()
+        notable = Notable(set(left[:2]))
+        notable.look(data('kite-4.txt'))
+        self.assertEqual([shape.cells for shape in notable.open], left[:2])
+        self.assertEqual((notable.heesch, notable.largest),
+                         (1, self.done('select', data('kite-4.txt'), '--heesch', 1).splitlines()))
+        notable.look(data('kite-4-second.txt'))
+        self.assertEqual(len(notable.open), 2)
+        table = table_text(notable.open).splitlines()
+        self.assertTrue(table[0].startswith('number,cells,verdict,coronas,heesch,'))
+        self.assertEqual(len(table), 3)
+
+    def test_holed_shapes_are_not_the_largest(self):
+        notable = Notable(set())
+        notable.look(data('square-7.txt'))
+        self.assertEqual((notable.heesch, len(notable.largest)), (1, 2))
+
+
 class Words(ToolTest):
     """What is refused, and small texts."""
 
@@ -254,7 +325,7 @@ class Runs(ToolTest):
         return subprocess.Popen(command, stdout=subprocess.DEVNULL, stderr=subprocess.DEVNULL)
 
     def test_whole(self):
-        files = self.assert_made('whole', 'kite', 4, '--outer')
+        files = self.assert_made('whole', 'kite', 4, '--outer', '--first', 'domain 4', '--commit', 'abc123')
         self.assertEqual(files['catalogue.txt'], self.merged_kites())
         nontilers = ''.join(self.done('select', data('kite-4.txt'), '--heesch', number) for number in (0, 1))
         outer = program('outer', 'kite', 'given', '--domain', 1, '--levels', 4, text=nontilers)
@@ -262,7 +333,8 @@ class Runs(ToolTest):
         self.assertEqual(program('check', text=files['catalogue.txt'].decode()), 'valid 10\n')
         self.assertNotIn('undecided.txt', files)
         readme = (self.folder / 'whole' / 'README.md').read_text()
-        for part in ('`valid 10`', '## Undecided\n\nNone.', '| pass 1 |', 'The owner of this folder states a licence'):
+        for part in ('`valid 10`', '## Undecided\n\nNone.', '| pass 1 |', 'The owner of this folder states a licence',
+                     ' of the commit `abc123`, on a machine', '| catalogue.txt | the catalogue |'):
             self.assertIn(part, readme)
         told = subprocess.run(['sha256sum', '--quiet', '-c', 'SHA256SUMS'], cwd=self.folder / 'whole', check=False)
         self.assertEqual(told.returncode, 0)
@@ -280,6 +352,7 @@ class Runs(ToolTest):
         self.assertEqual(files['catalogue.txt'].decode(), first)
         left = self.left_of(whole)
         self.assertEqual(files['undecided.txt'].decode(), left)
+        self.assertEqual(len(files['undecided.csv'].splitlines()), 1 + len(left.splitlines()))
         decided = len(self.left_of(first).splitlines()) - len(left.splitlines())
         self.assertEqual(program('check', text=files['given.txt'].decode()), f'valid {decided}\n')
         self.assertTrue(files['given.txt'].startswith(b'heesch 2 iamond given turns 20000 levels 1 domain 2 '))
@@ -337,7 +410,7 @@ class Runs(ToolTest):
         """Its shape is left undecided where that is asked for, and then there is no evidence of the last limits."""
         left = self.done('select', data('kite-4.txt'), '--undecided').splitlines()
         always = self.stub('readlink /proc/$$/fd/0 | grep -q /pass-1/0002.cells', 'exit 6')
-        words = ['kite', 4, '--passes', 'domain 6']
+        words = ['kite', 4, '--first', 'domain 4', '--passes', 'domain 6']
         self.assert_refused_at_end(self.run_tool('f', *words, heesch=always), '1 of the parts of pass 1 failed twice, ')
         files = self.assert_made('f', *words, '--leave', heesch=always)
         self.assertEqual(files['catalogue.txt'], entries('kite-4.txt'))
