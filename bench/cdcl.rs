@@ -2,44 +2,8 @@
 //! follows from its other literals; decisions on the most constrained cell; watched literals, with another literal in
 //! each entry.
 
-use std::fmt;
-use std::ops::{Not, Range};
-
-/// Twice the variable, and one more where negative.
-#[derive(Clone, Copy, PartialEq, Eq, PartialOrd, Ord)]
-pub struct Lit(u32);
-
-impl Lit {
-    pub fn positive(var: u32) -> Lit {
-        Lit(2 * var)
-    }
-
-    pub fn negative(var: u32) -> Lit {
-        Lit(2 * var + 1)
-    }
-
-    pub fn var(self) -> u32 {
-        self.0 / 2
-    }
-
-    pub fn is_positive(self) -> bool {
-        self.0 % 2 == 0
-    }
-}
-
-impl Not for Lit {
-    type Output = Lit;
-
-    fn not(self) -> Lit {
-        Lit(self.0 ^ 1)
-    }
-}
-
-impl fmt::Display for Lit {
-    fn fmt(&self, f: &mut fmt::Formatter) -> fmt::Result {
-        write!(f, "{}{}", if self.is_positive() { "" } else { "-" }, self.var())
-    }
-}
+use crate::literals::Lit;
+use std::ops::Range;
 
 /// Clauses over the variables 1 to `vars`, one after the other in one array, numbered from 1.
 pub struct Formula {
@@ -233,7 +197,7 @@ impl Solver {
     }
 
     pub fn is_true(&self, var: u32) -> bool {
-        self.values[Lit::positive(var).0 as usize] > 0
+        self.values[Lit::positive(var).index()] > 0
     }
 
     /// Whether the log has as many lines as there are turns.
@@ -249,7 +213,7 @@ impl Solver {
     }
 
     fn value(&self, lit: Lit) -> i8 {
-        self.values[lit.0 as usize]
+        self.values[lit.index()]
     }
 
     fn fact(&self, lit: Lit) -> Fact {
@@ -257,8 +221,8 @@ impl Solver {
     }
 
     fn assign(&mut self, lit: Lit, reason: u32) {
-        self.values[lit.0 as usize] = 1;
-        self.values[(!lit).0 as usize] = -1;
+        self.values[lit.index()] = 1;
+        self.values[(!lit).index()] = -1;
         self.facts[lit.var() as usize] = Fact { level: self.starts.len() as u32, reason };
         self.made.push(lit);
     }
@@ -277,8 +241,8 @@ impl Solver {
         if level < self.starts.len() {
             let start = self.starts[level];
             for lit in self.made.drain(start..) {
-                self.values[lit.0 as usize] = 0;
-                self.values[(!lit).0 as usize] = 0;
+                self.values[lit.index()] = 0;
+                self.values[(!lit).index()] = 0;
             }
             self.starts.truncate(level);
             self.head = start;
@@ -317,9 +281,9 @@ impl Solver {
         while self.head < self.made.len() {
             let lit = !self.made[self.head];
             self.head += 1;
-            let mut list = std::mem::take(&mut self.watches[lit.0 as usize]);
+            let mut list = std::mem::take(&mut self.watches[lit.index()]);
             let conflict = self.visit(lit, &mut list);
-            self.watches[lit.0 as usize] = list;
+            self.watches[lit.index()] = list;
             if conflict.is_some() {
                 return conflict;
             }
@@ -366,15 +330,15 @@ impl Solver {
             clause.swap(0, 1);
         }
         let first = clause[0];
-        if self.values[first.0 as usize] > 0 {
+        if self.values[first.index()] > 0 {
             return Some(first);
         }
         let values = &self.values;
-        let Some(at) = clause[2..].iter().position(|third| values[third.0 as usize] >= 0) else {
+        let Some(at) = clause[2..].iter().position(|third| values[third.index()] >= 0) else {
             return Some(first);
         };
         clause.swap(1, at + 2);
-        self.watches[clause[1].0 as usize].push(Watch { clause: watch.clause, other: first });
+        self.watches[clause[1].index()].push(Watch { clause: watch.clause, other: first });
         None
     }
 
@@ -550,8 +514,8 @@ impl Solver {
 fn watch(lists: &mut [Vec<Watch>], clause: &[Lit], number: u32) {
     if let [one, two, ..] = *clause {
         let clause = if clause.len() == 2 { number | OF_TWO } else { number };
-        lists[one.0 as usize].push(Watch { clause, other: two });
-        lists[two.0 as usize].push(Watch { clause, other: one });
+        lists[one.index()].push(Watch { clause, other: two });
+        lists[two.index()].push(Watch { clause, other: one });
     }
 }
 
@@ -560,8 +524,8 @@ fn watch_lists(formula: &Formula) -> Vec<Vec<Watch>> {
     let mut counts = vec![0; 2 * formula.vars as usize + 2];
     for number in 1..=formula.count() {
         if let [one, two, ..] = *formula.clause(number) {
-            counts[one.0 as usize] += 1;
-            counts[two.0 as usize] += 1;
+            counts[one.index()] += 1;
+            counts[two.index()] += 1;
         }
     }
     let mut lists: Vec<Vec<Watch>> = counts.into_iter().map(Vec::with_capacity).collect();

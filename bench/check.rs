@@ -5,15 +5,17 @@
 mod cdcl;
 #[allow(dead_code)]
 mod coronas;
-#[allow(dead_code)]
 mod covers;
 mod entries;
 mod grids;
 mod lattices;
+#[allow(dead_code)]
+mod literals;
 mod logs;
 mod numbers;
 mod patches;
 mod placed;
+#[allow(dead_code)]
 mod raster;
 mod shapes;
 mod tori;

@@ -1,26 +1,46 @@
-//! The catalogue of a size, as a plain Rust program writes it by the methods of `heesch classify`: `classify GRID N`,
-//! with the limits of that by default. Plain tilings come first, then covers by masks, then coronas level by level.
-#[allow(dead_code)]
-mod cdcl;
-mod coronas;
+//! The catalogue of a size, as a plain Rust program writes it by the methods of `heesch classify`: `classify GRID N`, by
+//! the second corona formula and with the limits by default. Plain tilings come first, then covers by masks, then
+//! coronas level by level. No formula is made.
 mod covers;
 mod grids;
+mod holes;
 mod lattices;
+mod lazy;
+mod learning;
+mod lists;
+mod literals;
+mod masks;
+mod owners;
+mod periods;
+mod proofs;
+#[allow(dead_code)]
+mod raster;
 #[allow(dead_code)]
 mod shapes;
+mod store;
+mod tables;
+mod texts;
+mod trail;
+mod universe;
+mod wants;
 
-use cdcl::{Formula, Found, Line, Solver};
-use coronas::{Cut, Universe, Window};
 use covers::Cover;
 use grids::{Grid, Isometry};
 use lattices::Triple;
+use lazy::{Found, Search};
+use owners::CoronaNumbers;
+use periods::{Period, Planned};
+use proofs::Log;
 use shapes::{Plain, Shape};
-use std::fmt::{self, Display, Write};
+use std::fmt::{self, Display};
+use std::io::{self, Write};
+use tables::LEVELS;
+use texts::{push_cells, push_layer};
+use universe::Universe;
 
 const TURNS: usize = 20_000;
-const LEVELS: usize = 3;
 const DOMAIN: usize = 4;
-const SIZE: usize = 60_000_000;
+const SIZE: u64 = 60_000_000;
 
 impl Display for Isometry {
     fn fmt(&self, f: &mut fmt::Formatter) -> fmt::Result {
@@ -37,236 +57,206 @@ impl Display for Triple {
 /// The verdict line and the lines of the evidence.
 struct Entry {
     verdict: String,
-    evidence: String,
+    evidence: Vec<u8>,
 }
 
 /// What is made once for a grid and a size.
 struct Classifier {
     grid: &'static Grid,
     size: usize,
-    window: Window,
-    triples: Vec<Triple>,
+    plan: Vec<Planned>,
 }
 
-/// A search for coronas of one level: the solver, and the cuts that it was given.
-struct Search<'u, 'w> {
-    universe: &'u Universe<'w>,
-    solver: Solver,
-    cuts: Vec<Cut>,
+/// The answer of a search at one level.
+enum Answer {
+    Coronas(Vec<Vec<Isometry>>),
+    None(Log),
+    TooLarge,
 }
 
-impl Search<'_, '_> {
-    fn run(&mut self, hole_free: bool) -> Found {
-        loop {
-            let found = self.solver.next();
-            if found != Found::Model || !hole_free {
-                return found;
-            }
-            let Some(cut) = self.universe.cut_for(|var| self.solver.is_true(var)) else {
-                return Found::Model;
-            };
-            if self.solver.is_spent() {
-                return Found::Spent;
-            }
-            self.solver.give(cut.clause.clone());
-            self.cuts.push(cut);
+/// The coronas of the universe's level, hole-free where asked for.
+fn coronas(universe: &Universe, hole_free: bool) -> Answer {
+    if !owners::fits(&universe.table, SIZE) {
+        return Answer::TooLarge;
+    }
+    let mut search = Search::new(&universe.table, TURNS);
+    let mut cuts = Vec::new();
+    while search.next() == Found::Model {
+        let chosen = search.chosen();
+        let cut = if hole_free { holes::cut_for(universe, &chosen) } else { None };
+        let Some(cut) = cut else {
+            return Answer::Coronas(universe.layers(&chosen));
+        };
+        if search.is_spent() {
+            break;
         }
+        search.give(cut.clause.clone());
+        cuts.push(cut);
     }
+    let (store, last) = search.into_log();
+    Answer::None(Log { store, last, cuts })
+}
 
-    fn layers(&self) -> Vec<Vec<Isometry>> {
-        self.universe.layers(|var| self.solver.is_true(var))
-    }
+fn write_proof(text: &mut Vec<u8>, head: &str, universe: &Universe, log: &Log) {
+    writeln!(text, "{head} {}", log.ending()).unwrap();
+    log.write(&mut CoronaNumbers::new(&universe.table), text);
+}
+
+fn write_layers(text: &mut Vec<u8>, head: &str, layers: &[Vec<Isometry>]) {
+    writeln!(text, "{head} {}", layers.len()).unwrap();
+    layers.iter().for_each(|layer| push_layer(text, layer));
 }
 
 impl Classifier {
     fn new(grid: &'static Grid, size: usize) -> Classifier {
-        let triples = covers::triples_up_to_turns(grid, size, DOMAIN);
-        Classifier { grid, size, window: Window::new(grid, size, LEVELS), triples }
+        Classifier { grid, size, plan: periods::plan(grid, covers::domain_triples(grid, size, DOMAIN)) }
     }
 
-    fn entry(&self, shape: &Shape) -> Entry {
+    /// The first cover by 2 tiles or more.
+    fn cover(&self, images: &[(Shape, Isometry)]) -> Option<Cover> {
+        let firsts = self.plan.iter().enumerate().filter(|(at, planned)| *at == planned.first);
+        firsts.map(|(_, planned)| &planned.torus).find_map(|torus| {
+            let Triple { p, q, .. } = torus.triple;
+            let count = (p * q) as usize * self.grid.per / self.size;
+            Some(Cover { triple: torus.triple, tiles: torus.cover(images, count)? })
+        })
+    }
+
+    fn write_entry(&self, shape: &Shape, out: &mut impl Write) -> io::Result<()> {
+        let mut text = b"shape".to_vec();
+        push_cells(&mut text, shape.cells());
+        writeln!(text)?;
         let still = Isometry { turn: 0, da: 0, db: 0 };
-        match shapes::plain(self.grid, shape.cells()) {
-            Some(Plain::Translation { triple }) => {
-                return self.tiled("translation", shape, Cover { triple, tiles: vec![still] });
-            }
+        let images = shape.images(self.grid);
+        let (kind, cover) = match shapes::plain(self.grid, shape.cells()) {
+            Some(Plain::Translation { triple }) => ("translation", Some(Cover { triple, tiles: vec![still] })),
             Some(Plain::HalfTurn { triple, da, db }) => {
                 let turned = Isometry { turn: self.grid.half_turn, da, db };
-                return self.tiled("halfturn", shape, Cover { triple, tiles: vec![still, turned] });
+                ("halfturn", Some(Cover { triple, tiles: vec![still, turned] }))
             }
-            None => {}
+            None => ("periodic", self.cover(&images)),
+        };
+        if let Some(cover) = cover {
+            self.write_tiling(&mut text, kind, shape, &cover);
+            return out.write_all(&text);
         }
-        let images = shape.images(self.grid);
-        if let Some(cover) = covers::first_cover(self.grid, &self.triples, &images) {
-            return self.tiled("periodic", shape, cover);
+        let Entry { verdict, evidence } = surrounded(&mut Universe::new(self.grid, shape, &images));
+        writeln!(text, "verdict {verdict}")?;
+        out.write_all(&text)?;
+        out.write_all(&evidence)?;
+        if verdict.starts_with("undecided") {
+            self.write_periods(&images, out)?;
         }
-        let mut universe = Universe::new(&self.window, shape, &images);
-        let mut entry = self.surrounded(&mut universe);
-        if entry.verdict.starts_with("undecided") {
-            for triple in covers::domain_triples(self.grid, self.size, DOMAIN) {
-                self.refute_covers(&mut entry.evidence, triple, &images);
-            }
-        }
-        entry
+        Ok(())
     }
 
-    fn tiled(&self, kind: &str, shape: &Shape, cover: Cover) -> Entry {
-        let members = covers::members(self.grid, shape, &cover);
+    fn write_tiling(&self, text: &mut Vec<u8>, kind: &str, shape: &Shape, cover: &Cover) {
+        let members = covers::members(self.grid, shape, cover);
         let classes = members.iter().map(|member| member.class).max().unwrap_or(0);
-        let mut evidence = format!("lattice {}\n", cover.triple);
+        writeln!(text, "verdict tiles {kind} domain {} classes {classes}", members.len()).unwrap();
+        writeln!(text, "lattice {}", cover.triple).unwrap();
         for (by, member) in cover.tiles.iter().zip(&members) {
-            line(&mut evidence, format_args!("tile {by} class {} by {}", member.class, member.by));
+            writeln!(text, "tile {by} class {} by {}", member.class, member.by).unwrap();
         }
-        Entry { verdict: format!("tiles {kind} domain {} classes {classes}", members.len()), evidence }
     }
 
-    /// The entry of a shape without a cover, by the hole-free coronas that it has.
-    fn surrounded(&self, universe: &mut Universe) -> Entry {
-        let mut coronas = "coronas 0\n".to_string();
-        for level in 1..=LEVELS {
+    /// The logs of all triples, which have no cover.
+    fn write_periods(&self, images: &[(Shape, Isometry)], out: &mut impl Write) -> io::Result<()> {
+        let mut known: Vec<Option<Period>> = Vec::new();
+        for (at, Planned { torus, first }) in self.plan.iter().enumerate() {
+            known.push((*first == at).then(|| Period::search(torus, images, TURNS)));
+            let period = known[*first].as_ref().expect("the log of the class");
+            let mut text = Vec::new();
+            writeln!(text, "triple {} {}", torus.triple, period.log.ending())?;
+            period.write(self.grid, torus, images, &mut text);
+            out.write_all(&text)?;
+        }
+        Ok(())
+    }
+}
+
+/// The entry of a shape without a cover, by the hole-free coronas that it has.
+fn surrounded(universe: &mut Universe) -> Entry {
+    let mut evidence = b"coronas 0\n".to_vec();
+    for level in 1..=LEVELS {
+        universe.extend();
+        let log = match coronas(universe, true) {
+            Answer::Coronas(layers) => {
+                evidence.clear();
+                write_layers(&mut evidence, "coronas", &layers);
+                continue;
+            }
+            Answer::TooLarge => {
+                writeln!(evidence, "wall {level} size").unwrap();
+                return Entry { verdict: format!("undecided size {} free {level}", level - 1), evidence };
+            }
+            Answer::None(log) => log,
+        };
+        write_proof(&mut evidence, &format!("wall {level}"), universe, &log);
+        if !log.is_refuted() {
+            return Entry { verdict: format!("undecided turns {} free {level}", level - 1), evidence };
+        }
+        if log.has_cut() {
+            drop(log);
+            return bare(universe, evidence);
+        }
+        writeln!(evidence, "bare {level} same").unwrap();
+        return Entry { verdict: format!("heesch {} nontiler {level}", level - 1), evidence };
+    }
+    Entry { verdict: format!("undecided levels {LEVELS}"), evidence }
+}
+
+/// The entry of a shape with one hole-free corona fewer than the universe's level, by those with holes.
+fn bare(universe: &mut Universe, mut evidence: Vec<u8>) -> Entry {
+    let from = universe.table.level();
+    let free = from - 1;
+    let mut wider = Vec::new();
+    for level in from..=LEVELS {
+        if level > from {
             universe.extend();
-            let Some(formula) = universe.formula(SIZE) else {
-                line(&mut coronas, format_args!("wall {level} size"));
-                return Entry { verdict: format!("undecided size {} free {level}", level - 1), evidence: coronas };
-            };
-            let mut search = Search { universe, solver: Solver::new(formula, TURNS), cuts: Vec::new() };
-            let found = search.run(true);
-            if found == Found::Model {
-                coronas = format!("coronas {level}\n");
-                self.write_layers(&mut coronas, &search.layers());
+        }
+        let verdict = match coronas(universe, false) {
+            Answer::Coronas(layers) => {
+                wider = layers;
                 continue;
             }
-            self.write_proof(&mut coronas, &format!("wall {level}"), &search.solver, &search.cuts);
-            if found == Found::Spent {
-                return Entry { verdict: format!("undecided turns {} free {level}", level - 1), evidence: coronas };
+            Answer::TooLarge => {
+                writeln!(evidence, "bare {level} size").unwrap();
+                format!("undecided size {free} bare {level}")
             }
-            if search.cuts.is_empty() {
-                line(&mut coronas, format_args!("bare {level} same"));
-                return Entry { verdict: format!("heesch {} nontiler {level}", level - 1), evidence: coronas };
+            Answer::None(log) => {
+                write_proof(&mut evidence, &format!("bare {level}"), universe, &log);
+                match log.is_refuted() {
+                    true => format!("heesch {free} nontiler {level}"),
+                    false => format!("undecided turns {free} bare {level}"),
+                }
             }
-            let formula = search.solver.into_formula();
-            return self.bare(universe, formula, coronas);
-        }
-        Entry { verdict: format!("undecided levels {LEVELS}"), evidence: coronas }
-    }
-
-    /// The entry of a shape with one hole-free corona fewer than the universe's level, by those with holes; the formula
-    /// is that of the level.
-    fn bare(&self, universe: &mut Universe, formula: Formula, mut evidence: String) -> Entry {
-        let free = universe.level() - 1;
-        let mut wider = Vec::new();
-        let mut formula = Some(formula);
-        for level in universe.level()..=LEVELS {
-            if level > universe.level() {
-                universe.extend();
-                formula = universe.formula(SIZE);
-            }
-            let Some(formula) = formula.take() else {
-                line(&mut evidence, format_args!("bare {level} size"));
-                self.write_open(&mut evidence, &wider);
-                return Entry { verdict: format!("undecided size {free} bare {level}"), evidence };
-            };
-            let mut search = Search { universe, solver: Solver::new(formula, TURNS), cuts: Vec::new() };
-            let found = search.run(false);
-            if found == Found::Model {
-                wider = search.layers();
-                continue;
-            }
-            self.write_proof(&mut evidence, &format!("bare {level}"), &search.solver, &[]);
-            self.write_open(&mut evidence, &wider);
-            let verdict = match found {
-                Found::Refuted => format!("heesch {free} nontiler {level}"),
-                _ => format!("undecided turns {free} bare {level}"),
-            };
-            return Entry { verdict, evidence };
-        }
-        line(&mut evidence, format_args!("bare {LEVELS} open"));
-        self.write_open(&mut evidence, &wider);
-        Entry { verdict: format!("undecided holes {free}"), evidence }
-    }
-
-    /// The log of the torus formula of a triple that has no cover.
-    fn refute_covers(&self, evidence: &mut String, triple: Triple, images: &[(Shape, Isometry)]) {
-        let mut solver = Solver::new(covers::torus_formula(self.grid, triple, images), TURNS);
-        assert!(solver.next() != Found::Model, "a cover that the masks missed");
-        self.write_proof(evidence, &format!("triple {triple}"), &solver, &[]);
-    }
-
-    fn write_layers(&self, out: &mut String, layers: &[Vec<Isometry>]) {
-        for layer in layers {
-            out.push_str("layer");
-            for by in layer {
-                write!(out, " {},{},{}", by.turn, by.da, by.db).unwrap();
-            }
-            out.push('\n');
-        }
-    }
-
-    fn write_open(&self, out: &mut String, wider: &[Vec<Isometry>]) {
+        };
         if !wider.is_empty() {
-            line(out, format_args!("open {}", wider.len()));
-            self.write_layers(out, wider);
+            write_layers(&mut evidence, "open", &wider);
         }
+        return Entry { verdict, evidence };
     }
-
-    fn write_proof(&self, out: &mut String, head: &str, solver: &Solver, cuts: &[Cut]) {
-        line(out, format_args!("{head} {}", if solver.last.is_some() { "refuted" } else { "spent" }));
-        let mut cuts = cuts.iter();
-        for (i, step) in solver.lines.iter().enumerate() {
-            match step {
-                Line::Learnt { hints } => {
-                    out.push_str("learn");
-                    write_words(out, solver.line_clause(i));
-                    out.push_str(" :");
-                    write_words(out, hints);
-                }
-                Line::Given => {
-                    let cut = cuts.next().expect("a cut for each given line");
-                    let cells = cut.hole.iter().map(|c| self.window.cell(*c));
-                    write!(out, "cut {} :", cut.level).unwrap();
-                    write_words(out, cells.map(|c| format!("{},{}", c.a, c.b)));
-                    out.push_str(" :");
-                    write_words(out, &cut.border);
-                }
-            }
-            out.push('\n');
-        }
-        out.push_str(if solver.last.is_some() { "empty" } else { "spent" });
-        write_words(out, solver.last.iter().flatten());
-        out.push('\n');
-    }
+    writeln!(evidence, "bare {LEVELS} open").unwrap();
+    write_layers(&mut evidence, "open", &wider);
+    Entry { verdict: format!("undecided holes {free}"), evidence }
 }
 
-fn line(out: &mut String, words: fmt::Arguments) {
-    out.write_fmt(words).unwrap();
-    out.push('\n');
-}
-
-fn write_words<T: Display>(out: &mut String, words: impl IntoIterator<Item = T>) {
-    for word in words {
-        write!(out, " {word}").unwrap();
-    }
-}
-
-fn catalogue(grid: &'static Grid, name: &str, size: usize, out: &mut impl std::io::Write) -> std::io::Result<()> {
+fn catalogue(grid: &'static Grid, name: &str, size: usize, out: &mut impl Write) -> io::Result<()> {
     let classifier = Classifier::new(grid, size);
     let shapes = shapes::free_shapes(grid, size);
-    writeln!(out, "heesch 1 {name} {size} turns {TURNS} levels {LEVELS} domain {DOMAIN} size {SIZE}")?;
+    writeln!(out, "heesch 2 {name} {size} turns {TURNS} levels {LEVELS} domain {DOMAIN} size {SIZE}")?;
     for shape in &shapes {
-        let Entry { verdict, evidence } = classifier.entry(shape);
-        let mut cells = String::new();
-        write_words(&mut cells, shape.cells().iter().map(|c| format!("{},{}", c.a, c.b)));
-        writeln!(out, "shape{cells}\nverdict {verdict}")?;
-        out.write_all(evidence.as_bytes())?;
+        classifier.write_entry(shape, out)?;
     }
     writeln!(out, "end {}", shapes.len())
 }
 
-fn main() -> std::io::Result<()> {
+fn main() -> io::Result<()> {
     let args: Vec<String> = std::env::args().collect();
     let [_, name, size] = &args[..] else { panic!("classify GRID N") };
-    let has_masks = |grid: &&Grid| grid.columns == 1; // of covers.rs
-    let grid = Grid::named(name).filter(has_masks).expect("square, hex or iamond");
-    let mut out = std::io::BufWriter::new(std::io::stdout().lock());
-    catalogue(grid, name, size.parse().expect("a size"), &mut out)
+    let grid = Grid::named(name).expect("square, hex, iamond or kite");
+    let mut out = io::BufWriter::new(io::stdout().lock());
+    catalogue(grid, name, size.parse().expect("a size"), &mut out)?;
+    out.flush()
 }

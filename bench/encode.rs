@@ -10,6 +10,8 @@ mod grids;
 #[allow(dead_code)]
 mod lattices;
 #[allow(dead_code)]
+mod literals;
+#[allow(dead_code)]
 mod shapes;
 
 use coronas::{Universe, Window};

@@ -1,6 +1,6 @@
 //! Logs of learnt clauses and cuts, checked over clauses that are had by their numbers alone.
 
-use crate::cdcl::Lit;
+use crate::literals::Lit;
 use crate::words::{literal, natural, Lines, Words};
 
 /// The clauses of a formula, each had by its number, from 1.

@@ -2,7 +2,7 @@
 //! sums before it, and its literals from the lists of the cells of the universe. Nothing of a
 //! formula is made.
 
-use crate::cdcl::Lit;
+use crate::literals::Lit;
 use crate::logs::Source;
 use crate::placed::Placements;
 use crate::words::{cell, natural, Words};

@@ -61,6 +61,12 @@ impl Raster {
         self.shift(unit.a - self.low.a, unit.b - self.low.b) + line * self.line() + column
     }
 
+    pub fn cell(&self, number: i32) -> Cell {
+        let (row, column) = (number / self.line() / self.grid.lines, number % self.line() / self.grid.columns);
+        let unit = Cell { a: column + self.low.a, b: row + self.low.b };
+        self.grid.cell_of(unit, self.class(number)).expect("the number of a cell")
+    }
+
     /// The number of a cell that lies in the raster, and not at its frame.
     pub fn inner_number(&self, c: Cell) -> Option<i32> {
         let unit = self.grid.unit_of(c);

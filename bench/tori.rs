@@ -1,7 +1,7 @@
 //! The clauses of torus formulas by their numbers. Residue sets are masks, and the clauses of two
 //! that meet are counted by sums.
 
-use crate::cdcl::Lit;
+use crate::literals::Lit;
 use crate::grids::{Cell, Grid, Isometry};
 use crate::lattices::Triple;
 use crate::logs::Source;

@@ -1,6 +1,6 @@
 //! The lines of a catalogue and their words, read as strictly as they are written.
 
-use crate::cdcl::Lit;
+use crate::literals::Lit;
 use crate::grids::{Cell, Isometry};
 use crate::lattices::Triple;
 
