@@ -8,6 +8,7 @@ mod coronas;
 mod covers;
 mod entries;
 mod grids;
+#[allow(dead_code)]
 mod lattices;
 #[allow(dead_code)]
 mod literals;

@@ -24,7 +24,7 @@ runs=${RUNS:-5}
 work=$(mktemp -d)
 trap 'rm -r "$work"' EXIT
 rustc -O --edition 2021 -o "$work/checker" check.rs
-holding=0 failing=0
+. ./bounds.bash
 
 text_of() { # GRID N: the path of its catalogue
   if [ -n "$texts" ] && [ -f "$texts/$1-$2.txt" ]; then
@@ -33,15 +33,6 @@ text_of() { # GRID N: the path of its catalogue
     "$program" classify "$1" "$2" --workers "$(nproc)" ${OPTIONS:-} > "$work/text"
     echo "$work/text"
   fi
-}
-
-measure() { # NAME COMMAND..: checks the text; adds user seconds, seconds and kB at peak to NAME
-  local name=$1 TIMEFORMAT='%3U %3R' seconds
-  shift
-  seconds=$( {
-    time /usr/bin/time -o "$work/peak" -f %M "$@" < "$text" > "$work/$name.answer"
-  } 2>&1) || true
-  echo "$seconds $(tail -n 1 "$work/peak")" >> "$work/$name"
 }
 
 add() { awk 'BEGIN { for (i = 0; i < 1e7; i++) sum += i }'; }
@@ -53,35 +44,14 @@ additions() { # adds to `loop` how many times as long four loops at once take as
   ratio "$four" "$one" >> "$work/loop"
 }
 
-least() { # NAME COLUMN
-  awk -v column="$2" '{ print $column }' "$work/$1" | sort -n | head -n 1
-}
-
-megabytes() { # NAME: the greatest peak
-  awk '$3 > most { most = $3 } END { printf "%.0f", most / 1024 }' "$work/$1"
-}
-
-ratio() { awk -v a="$1" -v b="$2" 'BEGIN { if (b > 0) printf "%.2f\n", a / b; else print "-" }'; }
-
-bound() { # WHAT FIGURE MOST UNIT: a line, where there is a bound
-  [ -n "$3" ] || return 0
-  if awk -v figure="$2" -v most="$3" 'BEGIN { exit !(figure + 0 <= most + 0) }'; then
-    holding=$((holding + 1))
-    echo "  $1: $2$4, at most $3: holds"
-  else
-    failing=$((failing + 1))
-    echo "  $1: $2$4, at most $3: doesn't hold"
-  fi
-}
-
 compare() { # GRID N
   local name="$1 $2" one plain
   text=$(text_of "$1" "$2")
   rm -f "$work"/{one,plain,four,loop}
   for _ in $(seq "$runs"); do
-    measure one "$program" check --workers 1
-    measure plain "$work/checker"
-    measure four "$program" check --workers 4
+    measure one "$program" check --workers 1 < "$text"
+    measure plain "$work/checker" < "$text"
+    measure four "$program" check --workers 4 < "$text"
     additions
   done
   one=$(least one 1) plain=$(least plain 1)
@@ -90,7 +60,7 @@ compare() { # GRID N
     "plain Rust $(cat "$work/plain.answer"), $plain s, $(megabytes plain) MB;" \
     "4 workers $(cat "$work/four.answer"), $(megabytes four) MB, where the loop took $(least loop 1) of one"
   cmp -s "$work/one.answer" "$work/plain.answer" && cmp -s "$work/one.answer" "$work/four.answer" ||
-    { failing=$((failing + 1)); echo "  the answers differ"; }
+    fail "the answers differ"
   [ -z "${OPTIONS:-}" ] || return 0
   bound "ratio to plain Rust" "$(ratio "$one" "$plain")" "${most_seconds[$name]:+1.4}" ""
   bound "one worker" "$one" "${most_seconds[$name]:-}" " s"
@@ -102,5 +72,4 @@ while [ $# -ge 2 ]; do
   compare "$1" "$2"
   shift 2
 done
-echo "bounds: $holding hold, $failing fail"
-[ "$failing" -eq 0 ]
+tell_bounds

@@ -1,37 +1,51 @@
 #!/usr/bin/env bash
-# Compares `heesch classify --version 1` with a plain Rust program of the same methods (classify.rs), by one worker and the default
-# limits, on the catalogues that are named, as `classify.sh square 7 hex 5`: the user seconds of both and their ratio,
-# the bytes of both texts, how many verdict lines differ, and what `heesch check` says of the plain program's text. A
-# line with the verdicts' tally follows, of the plain program.
-# Build the program first: (cd crates/heesch && rt run -- list square 4). Without it the plain program runs alone.
+# Compares `heesch classify` with a plain Rust program of the same methods (classify.rs), which makes no formula:
+# `classify.sh [PROGRAM [GRID N ..]]`, by default the program built in this repository, over square 8, 9 and 10, hex 6
+# and 7, and iamond 9 and 10. Both run by one worker and with the default limits.
+# Both write a catalogue in turn, RUNS times (5): the bytes of both texts, the least user seconds of each, their greatest
+# peaks in MB, and what PROGRAM's `check` says of both.
+# A line for each bound says whether it holds. Ends with 1 where one doesn't, where a text isn't valid, or where verdicts
+# differ. It needs rustc and GNU time.
 set -eu
+declare -A most_megabytes=([square 8]=12 [square 9]=30 [square 10]=110 [hex 6]=12 [hex 7]=100 [iamond 9]=40
+  [iamond 10]=40)
+
+program=$(readlink -f "${1:-$(dirname "$0")/../crates/heesch/out/heesch}")
+[ -x "$program" ] || { sed -n 2,8p "$0" >&2; exit 2; }
+[ $# -le 1 ] && set -- "$program" square 8 square 9 square 10 hex 6 hex 7 iamond 9 iamond 10
+shift
 cd "$(dirname "$0")"
-[ $# -gt 0 ] || set -- square 7 hex 5 iamond 8
-program=../crates/heesch/out/heesch
+runs=${RUNS:-5}
 work=$(mktemp -d)
 trap 'rm -r "$work"' EXIT
 rustc -O --edition 2021 -o "$work/classify" classify.rs
-seconds() { # TEXT COMMAND..: writes the command's output to TEXT, and prints its user seconds
-  local text=$1 TIMEFORMAT=%U
-  shift
-  { time "$@" > "$text"; } 2>&1
+. ./bounds.bash
+
+verdicts() { grep '^verdict ' "$work/$1.answer"; }
+
+compare() { # GRID N
+  local name="$1 $2" text one plain differ
+  local -A said
+  rm -f "$work"/{one,plain}
+  for _ in $(seq "$runs"); do
+    measure one "$program" classify "$1" "$2" --workers 1 < /dev/null
+    measure plain "$work/classify" "$1" "$2" < /dev/null
+  done
+  one=$(least one 1) plain=$(least plain 1)
+  for text in one plain; do
+    said[$text]=$("$program" check < "$work/$text.answer") || true
+  done
+  echo "$name: heesch $(wc -c < "$work/one.answer") bytes, ${said[one]}, $one s, $(megabytes one) MB;" \
+    "plain Rust $(wc -c < "$work/plain.answer") bytes, ${said[plain]}, $plain s, $(megabytes plain) MB"
+  [[ ${said[one]} == valid* && ${said[one]} == "${said[plain]}" ]] || fail "not both texts are valid"
+  differ=$(diff <(verdicts one) <(verdicts plain) | grep -c '^[<>]') || true
+  [ "$differ" -eq 0 ] || fail "the verdicts differ: $differ lines"
+  bound "ratio to plain Rust" "$(ratio "$one" "$plain")" "${most_megabytes[$name]:+1.3}" ""
+  bound "memory" "$(megabytes one)" "${most_megabytes[$name]:-}" " MB"
 }
-tally() {
-  awk '$1 == "verdict" { count[$2 == "tiles" ? $3 : $2 == "heesch" ? "heesch " $3 : "undecided " $3]++ }
-    END { for (kind in count) print kind, count[kind] }' "$1" | sort | paste -sd , | sed 's/,/, /g'
-}
+
 while [ $# -ge 2 ]; do
-  plain=$(seconds "$work/plain" "$work/classify" "$1" "$2")
-  bytes=$(wc -c < "$work/plain")
-  if [ -x $program ]; then
-    heesch=$(seconds "$work/heesch" $program classify "$1" "$2" --version 1)
-    differ=$(diff <(grep ^verdict "$work/heesch") <(grep ^verdict "$work/plain") | grep -c '^>' || true)
-    ratio=$(awk -v a="$heesch" -v b="$plain" 'BEGIN { if (b > 0) printf "%.2f", a / b; else printf "-" }')
-    echo "$1 $2: heesch $heesch, plain Rust $plain, ratio $ratio, bytes $(wc -c < "$work/heesch") and $bytes," \
-      "verdicts that differ $differ, checked $($program check < "$work/plain" || true)"
-  else
-    echo "$1 $2: plain Rust $plain, bytes $bytes"
-  fi
-  tally "$work/plain"
+  compare "$1" "$2"
   shift 2
 done
+tell_bounds

@@ -2,6 +2,8 @@
 
 use crate::grids::Cell;
 use crate::literals::Lit;
+use crate::raster::Raster;
+use crate::tables::want_for;
 use crate::universe::Universe;
 
 /// A hole that placements of so many levels enclose, the variables around it, and the clause against it.
@@ -22,6 +24,35 @@ struct Patch<'a> {
     cells: Vec<i32>,
 }
 
+#[derive(Clone, Copy, PartialEq, Eq)]
+enum Place {
+    Patch,
+    /// Outside the patch, and touching it.
+    Beside,
+    Far,
+    Reached,
+}
+
+/// The cells that paths through such places join to this one, in order, none where it isn't such a place. They are
+/// reached now.
+fn flood(raster: &Raster, from: i32, places: &mut [Place], through: &[Place]) -> Vec<i32> {
+    let mut part = Vec::new();
+    let mut reach = |c: i32, part: &mut Vec<i32>| {
+        if through.contains(&places[c as usize]) {
+            places[c as usize] = Place::Reached;
+            part.push(c);
+        }
+    };
+    reach(from, &mut part);
+    let mut looked = 0;
+    while let Some(c) = part.get(looked).copied() {
+        looked += 1;
+        raster.adjacent(c).for_each(|d| reach(d, &mut part));
+    }
+    part.sort_unstable();
+    part
+}
+
 impl Patch<'_> {
     fn add(&mut self, cells: impl Iterator<Item = usize>, holder: u32) {
         for c in cells {
@@ -30,36 +61,26 @@ impl Patch<'_> {
         }
     }
 
-    /// The cells that paths outside the patch join to this one are reached too; those newly reached, in order.
-    fn flood(&self, from: i32, is_reached: &mut [bool]) -> Vec<i32> {
-        is_reached[from as usize] = true;
-        let mut part = vec![from];
-        let mut looked = 0;
-        while let Some(c) = part.get(looked).copied() {
-            looked += 1;
-            for d in self.universe.raster.adjacent(c) {
-                if is_reached.get(d as usize) == Some(&false) {
-                    is_reached[d as usize] = true;
-                    part.push(d);
-                }
-            }
-        }
-        part.sort_unstable();
-        part
-    }
-
-    /// The joined parts of the patch's holes. The frame of the raster is far outside: a path that leaves it at one
-    /// side, and comes in at the other, does no harm.
+    /// The joined parts of the patch's holes.
+    ///
+    /// The patch is connected, so each part of what lies outside it has one edge, and the cells along that are joined
+    /// by cells along it. The least cell beside the patch is in no hole: below a hole's least cell is one of the patch,
+    /// and below that at last one outside.
     fn holes(&self) -> Vec<Vec<i32>> {
-        let mut is_reached: Vec<bool> = self.holders.iter().map(|holder| *holder != 0).collect();
-        self.flood(0, &mut is_reached);
-        let mut holes = Vec::new();
-        for c in self.cells.iter().flat_map(|c| self.universe.raster.adjacent(*c)) {
-            if !is_reached[c as usize] {
-                holes.push(self.flood(c, &mut is_reached));
+        let raster = &self.universe.raster;
+        let mut places = vec![Place::Far; self.holders.len()];
+        self.cells.iter().for_each(|c| places[*c as usize] = Place::Patch);
+        let mut beside = Vec::new();
+        for c in self.cells.iter().flat_map(|c| raster.touching(*c)) {
+            if places[c as usize] == Place::Far {
+                places[c as usize] = Place::Beside;
+                beside.push(c);
             }
         }
-        holes
+        let mut flood = |from: i32, through: &[Place]| flood(raster, from, &mut places, through);
+        flood(beside.iter().copied().min().expect("a cell outside"), &[Place::Beside]);
+        let parts = beside.iter().map(|from| flood(*from, &[Place::Beside, Place::Far]));
+        parts.filter(|part| !part.is_empty()).collect()
     }
 
     fn cut(&self, level: usize, hole: &[i32]) -> Cut {
@@ -68,7 +89,7 @@ impl Patch<'_> {
         let mut border: Vec<u32> = beside.filter(|holder| ![0, SHAPE].contains(holder)).collect();
         border.sort_unstable();
         border.dedup();
-        let over = |c: &i32| table.candidates(crate::tables::want_for(*c as usize, level)).iter();
+        let over = |c: &i32| table.candidates(want_for(*c as usize, level)).iter();
         let fillers = hole.iter().flat_map(over).map(|var| Lit::positive(*var));
         let mut clause: Vec<Lit> = border.iter().map(|var| Lit::negative(*var)).chain(fillers).collect();
         clause.sort_unstable();

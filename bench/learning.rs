@@ -115,24 +115,24 @@ impl Learner {
     /// The reasons by which the conflict follows where the clause is false.
     pub fn reasons(&mut self, state: &State, clause: &[Lit], conflict: Reason) -> Vec<Reason> {
         clause.iter().for_each(|lit| self.mark(lit.var(), Mark::Kept));
-        let mut used: Vec<u32> = Vec::new();
+        let mut places: Vec<u32> = Vec::new();
         let (mut reason, mut looked) = (conflict, 0);
         loop {
             for var in state.members(reason) {
                 if self.marks[var as usize] == Mark::None {
                     self.mark(var, Mark::Follows);
-                    used.push(var);
+                    places.push(state.trail.place(var));
                 }
             }
-            let Some(var) = used.get(looked) else {
+            let Some(place) = places.get(looked) else {
                 break;
             };
-            reason = state.trail.reason(*var);
+            reason = state.trail.reason_at(*place);
             looked += 1;
         }
         self.clear();
-        used.sort_unstable_by_key(|var| state.trail.place(*var));
-        let reasons = used.iter().map(|var| state.trail.reason(*var)).chain([conflict]);
+        places.sort_unstable();
+        let reasons = places.iter().map(|place| state.trail.reason_at(*place)).chain([conflict]);
         reasons.map(|reason| state.store.named(reason)).collect()
     }
 

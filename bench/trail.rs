@@ -76,6 +76,11 @@ impl Trail {
         self.since[var as usize].reason
     }
 
+    /// The reason of the literal made after so many others.
+    pub fn reason_at(&self, place: u32) -> Reason {
+        self.reason(self.made[place as usize].var())
+    }
+
     pub fn place(&self, var: u32) -> u32 {
         self.since[var as usize].place
     }

@@ -78,7 +78,9 @@ impl Universe {
         let cells: Vec<i32> = shape.cells().iter().map(|c| raster.number(*c)).collect();
         let around: Vec<i32> = ring_of(grid, shape.cells()).iter().map(|c| raster.number(*c)).collect();
         let mut is_near = vec![false; raster.len() * images.len()];
-        spots_over(&raster, &images, &cells).chain(spots_over(&raster, &images, &around)).for_each(|spot| is_near[spot] = true);
+        spots_over(&raster, &images, &cells)
+            .chain(spots_over(&raster, &images, &around))
+            .for_each(|spot| is_near[spot] = true);
         let forms = forms_of(&raster, &images);
         let mut table = Table::new(forms, raster.len(), around.iter().map(|c| *c as u32).collect());
         cells.iter().for_each(|c| table.is_own[*c as usize] = true);

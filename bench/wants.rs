@@ -4,7 +4,7 @@
 
 use crate::lists::Lists;
 use crate::literals::Lit;
-use crate::tables::{cell_of_want, Table};
+use crate::tables::{cell_of_want, want_for, Table};
 use crate::trail::{Reason, Trail};
 
 /// The asker of a want that holds from the start.
@@ -28,7 +28,7 @@ pub struct Wants<'a> {
     /// By variable, the want for a supporter of it, or 0.
     support: Vec<usize>,
     /// By cell, the chosen variable whose tile has it, or 0.
-    owners: Vec<u32>,
+    chosen_at: Vec<u32>,
     /// The wants that hold, in the order in which they were asked for: those for cells, and those for supporters.
     for_cells: Vec<u32>,
     for_supporters: Vec<u32>,
@@ -44,7 +44,7 @@ impl<'a> Wants<'a> {
             wants: vec![Want::default(); table.cell_wants()],
             supporters: Lists::new(),
             support: vec![0; vars],
-            owners: vec![0; table.cell_count()],
+            chosen_at: vec![0; table.cell_count()],
             for_cells: Vec::new(),
             for_supporters: Vec::new(),
             watched: vec![Vec::new(); vars],
@@ -81,7 +81,7 @@ impl<'a> Wants<'a> {
     /// The wants hold that hold from the start, and each variable is denied that asks for a cell without candidates.
     pub fn open(&mut self, trail: &mut Trail) -> Result<(), Reason> {
         for c in &self.table.first {
-            let want = crate::tables::want_for(*c as usize, 1);
+            let want = want_for(*c as usize, 1);
             self.wants[want].asker = START;
             self.for_cells.push(want as u32);
             self.begin(want as u32, trail)?;
@@ -129,7 +129,7 @@ impl<'a> Wants<'a> {
     /// What follows where the variable is chosen now.
     pub fn choose(&mut self, var: u32, trail: &mut Trail) -> Result<(), Reason> {
         let table = self.table;
-        table.cells(var).for_each(|c| self.owners[c] = var);
+        table.cells(var).for_each(|c| self.chosen_at[c] = var);
         let known = self.for_cells.len();
         for want in table.asked(var) {
             let asker = &mut self.wants[want].asker;
@@ -199,18 +199,16 @@ impl<'a> Wants<'a> {
     /// Whether a want is for a cell that a chosen variable up to its level has.
     fn is_covered(&self, want: u32) -> bool {
         let (c, level) = cell_of_want(want as usize);
-        let owner = self.owners.get(c).copied().unwrap_or(0);
-        owner != 0 && self.table.level_of(owner) <= level
+        let chosen = self.chosen_at.get(c).copied().unwrap_or(0);
+        chosen != 0 && self.table.level_of(chosen) <= level
     }
 
     /// The variable is chosen no more; what it asked for came last.
     pub fn release(&mut self, var: u32) {
-        self.table.cells(var).for_each(|c| self.owners[c] = 0);
+        self.table.cells(var).for_each(|c| self.chosen_at[c] = 0);
         for list in [&mut self.for_cells, &mut self.for_supporters] {
-            while let Some(want) = list.last().map(|want| &mut self.wants[*want as usize]).filter(|want| want.asker == var)
-            {
-                want.asker = 0;
-                list.pop();
+            while let Some(want) = list.pop_if(|want| self.wants[*want as usize].asker == var) {
+                self.wants[want as usize].asker = 0;
             }
         }
     }
@@ -221,7 +219,7 @@ impl<'a> Wants<'a> {
         let mut fewest = usize::MAX;
         let mut best = None;
         for want in &self.for_cells {
-            if self.owners[cell_of_want(*want as usize).0] != 0 {
+            if self.chosen_at[cell_of_want(*want as usize).0] != 0 {
                 continue;
             }
             let open = self.candidates(*want).iter().filter(|var| trail.value(**var).is_none());
