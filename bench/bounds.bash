@@ -1,5 +1,5 @@
-# What check.sh and classify.sh share: runs of two programs in turn, their least figures, and bounds on these. The script
-# that reads it has a folder `work`, with a file of figures for each name.
+# What check.sh and classify.sh share: runs of programs in turn, their least figures, and bounds on these. The script
+# that reads it names a folder `work`, in which each name has a file of figures.
 holding=0 failing=0
 
 measure() { # NAME COMMAND..: its output is NAME.answer; adds user seconds, seconds and kB at peak to NAME

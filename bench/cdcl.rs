@@ -52,11 +52,6 @@ impl Formula {
     pub fn clause(&self, clause: u32) -> &[Lit] {
         &self.literals[self.range(clause)]
     }
-
-    fn truncate(&mut self, count: u32) {
-        self.ends.truncate(count as usize + 1);
-        self.literals.truncate(self.ends[count as usize] as usize);
-    }
 }
 
 /// An entry of the list of a watched literal: its clause, and another literal of it. A clause of two literals is
@@ -119,12 +114,6 @@ impl Marks {
     }
 }
 
-/// A line of the log: a learnt clause with its hints, or a given one.
-pub enum Line {
-    Learnt { hints: Vec<u32> },
-    Given,
-}
-
 #[derive(Clone, Copy, PartialEq, Eq, Debug)]
 pub enum Found {
     Model,
@@ -150,7 +139,8 @@ pub struct Solver {
     /// So much of the trail has no cover without a true literal, but for what is true beyond it.
     settled: usize,
     marks: Marks,
-    pub lines: Vec<Line>,
+    /// By line of the log, its hints.
+    pub lines: Vec<Vec<u32>>,
     /// The hints of the line that refutes the formula.
     pub last: Option<Vec<u32>>,
 }
@@ -188,12 +178,6 @@ impl Solver {
             }
         }
         solver
-    }
-
-    /// The formula without what was learnt or given.
-    pub fn into_formula(mut self) -> Formula {
-        self.formula.truncate(self.given);
-        self.formula
     }
 
     pub fn is_true(&self, var: u32) -> bool {
@@ -471,26 +455,11 @@ impl Solver {
         let mut clause: Vec<Lit> =
             left.map(|var| if self.is_true(*var) { Lit::negative(*var) } else { Lit::positive(*var) }).collect();
         self.marks.clear();
-        self.lines.push(Line::Learnt { hints });
+        self.lines.push(hints);
         self.latest_first(&mut clause);
         self.back_to(clause.get(1).map_or(0, |lit| self.fact(*lit).level as usize));
         let number = self.add(&clause);
         self.assign(clause[0], number);
-    }
-
-    /// Takes a clause that the model makes false, and goes back to where it doesn't.
-    pub fn give(&mut self, mut clause: Vec<Lit>) {
-        self.lines.push(Line::Given);
-        self.latest_first(&mut clause);
-        let level = |lit: Option<&Lit>| lit.map_or(0, |lit| self.fact(*lit).level as usize);
-        let (latest, before) = (level(clause.first()), level(clause.get(1)));
-        self.back_to(if before < latest { before } else { latest.saturating_sub(1) });
-        let number = self.add(&clause);
-        if latest == 0 {
-            self.refute(number);
-        } else if before < latest {
-            self.assign(clause[0], number);
-        }
     }
 
     /// Puts a literal of the highest level first, and one of the next behind it.

@@ -1,6 +1,6 @@
-//! The catalogue of a size, as a plain Rust program writes it by the methods of `heesch classify`: `classify GRID N`, by
-//! the second corona formula and with the limits by default. Plain tilings come first, then covers by masks, then
-//! coronas level by level. No formula is made.
+//! The catalogue of a size, as a plain Rust program writes it by the methods of `heesch classify`: `classify GRID N`,
+//! of version 2, with the limits by default. Plain tilings come first, then covers by masks, then coronas level by
+//! level. No formula is made.
 mod covers;
 mod grids;
 mod holes;

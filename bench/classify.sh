@@ -2,10 +2,10 @@
 # Compares `heesch classify` with a plain Rust program of the same methods (classify.rs), which makes no formula:
 # `classify.sh [PROGRAM [GRID N ..]]`, by default the program built in this repository, over square 8, 9 and 10, hex 6
 # and 7, and iamond 9 and 10. Both run by one worker and with the default limits.
-# Both write a catalogue in turn, RUNS times (5): the bytes of both texts, the least user seconds of each, their greatest
-# peaks in MB, and what PROGRAM's `check` says of both.
-# A line for each bound says whether it holds. Ends with 1 where one doesn't, where a text isn't valid, or where verdicts
-# differ. It needs rustc and GNU time.
+# Both write a catalogue in turn, RUNS times (5): the bytes of both texts, what PROGRAM's `check` says of them, the
+# least user seconds of each, and their greatest peaks in MB.
+# A line for each bound says whether it holds. Ends with 1 where one doesn't, where a text isn't valid, or where
+# verdicts differ. It needs rustc and GNU time.
 set -eu
 declare -A most_megabytes=([square 8]=12 [square 9]=30 [square 10]=110 [hex 6]=12 [hex 7]=100 [iamond 9]=40
   [iamond 10]=40)

@@ -14,7 +14,7 @@ mod literals;
 #[allow(dead_code)]
 mod shapes;
 
-use cdcl::{Formula, Line, Solver};
+use cdcl::{Formula, Solver};
 use coronas::{Universe, Window};
 use grids::Grid;
 use shapes::Shape;
@@ -50,11 +50,7 @@ fn solve(formula: Formula) {
     let found = solver.next();
     let took = start.elapsed();
     let literals: usize = (0..solver.lines.len()).map(|line| solver.line_clause(line).len()).sum();
-    let hints = solver.lines.iter().map(|line| match line {
-        Line::Learnt { hints } => hints.len(),
-        Line::Given => 0,
-    });
-    let (conflicts, hints) = (solver.lines.len(), hints.sum::<usize>());
+    let (conflicts, hints) = (solver.lines.len(), solver.lines.iter().map(Vec::len).sum::<usize>());
     println!("{sizes}: {found:?} conflicts {conflicts} literals {literals} hints {hints} {took:.2?}");
 }
 
