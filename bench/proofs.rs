@@ -40,8 +40,9 @@ impl Log {
         }
     }
 
+    /// Whether its proof has a cut.
     pub fn has_cut(&self) -> bool {
-        !self.cuts.is_empty()
+        (0..).zip(self.staying()).any(|(index, stays)| stays && self.store.origin(index) == Origin::Given)
     }
 
     /// By clause of the log, whether it stays as a line.
