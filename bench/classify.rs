@@ -226,9 +226,10 @@ fn bare(universe: &mut Universe, mut evidence: Vec<u8>) -> Entry {
             }
             Answer::None(log) => {
                 write_proof(&mut evidence, &format!("bare {level}"), universe, &log);
-                match log.is_refuted() {
-                    true => format!("heesch {free} nontiler {level}"),
-                    false => format!("undecided turns {free} bare {level}"),
+                if log.is_refuted() {
+                    format!("heesch {free} nontiler {level}")
+                } else {
+                    format!("undecided turns {free} bare {level}")
                 }
             }
         };

@@ -34,9 +34,10 @@ impl Log {
 
     /// How its proof ends.
     pub fn ending(&self) -> &'static str {
-        match self.is_refuted() {
-            true => "refuted",
-            false => "spent",
+        if self.is_refuted() {
+            "refuted"
+        } else {
+            "spent"
         }
     }
 
