@@ -1,12 +1,10 @@
 -- A record that was read, and that it is the only one.
 use Rattle.std.proofs.Common.{◌≡◌, ℕ, ◌<◌, ◌^◌, false, List, ◌++◌, refl, sym, ap, subst, ◌∙◌, arith}
 use Rattle.std.specs.List.{AllByRecursion}
-use Rattle.heesch_grid.specs.Geometry.{Geometry}
 use Rattle.heesch_cert.specs.declared.entry.Entry.{Entry}
-use Rattle.heesch_cert.specs.declared.limits.Limits.{Limits}
 use Rattle.heesch_cert.specs.declared.verdict.Verdict.{Verdict}
 use Rattle.heesch_cert.specs.declared.verdict.Verdict.TheVariants.{Tiles, Heesch, Levels, Holes, Turns, Size}
-use Rattle.heesch_cert.specs.TrueEntry.{IsTrueEntry, first_number}
+use Rattle.heesch_cert.specs.TrueEntry.{first_number}
 use Rattle.heesch_text.specs.declared.line.Line.{Line}
 use Rattle.heesch_text.specs.Catalogue.{entry_lines}
 use Rattle.heesch_text.specs.Lines.{text_of}
@@ -20,7 +18,7 @@ use Rattle.heesch_outer.specs.Record.{answer_text}
 use Rattle.heesch_outer.specs.declared.answer.OuterAnswer.{OuterAnswer}
 use Rattle.heesch_outer.specs.declared.answers.OuterEntry.{OuterEntry}
 use Rattle.heesch_record.specs.Lines.{AreFrontLines}
-use Rattle.heesch_record.specs.Records.{HasLineForms, IsAnswerOf, IsEntryOf, IsReadableRecord}
+use Rattle.heesch_record.specs.Records.{IsAnswerOf, IsEntryOf, IsReadableRecord}
 use Rattle.heesch_record.specs.Statements.{TextsDetermineRecords, TrueRecordsAreReadable}
 use Rattle.heesch_record.proofs.Answers.{one_answer}
 use Rattle.heesch_record.proofs.Fronts.{one_front}

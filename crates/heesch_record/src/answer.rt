@@ -8,9 +8,9 @@ ghost use Rattle.heesch_outer.specs.declared.answer.OuterAnswer.{OuterAnswer as 
 ghost use Rattle.heesch_record.specs.Lines.{AreLinesOf};
 ghost use Rattle.heesch_record.specs.Records.{IsAnswerOf};
 
+use crate::front::{after, after_number};
 use crate::lines::all_lines;
 use crate::parts::{layers_of, proof_of};
-use crate::front::{after, after_number};
 use heesch_cert::{Layers, Proof};
 use heesch_io::NoMemory;
 use heesch_outer::OuterAnswer;
