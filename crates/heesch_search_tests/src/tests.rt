@@ -1,5 +1,6 @@
 //! A module for each crate that is tried.
 mod audit;
+mod chart;
 mod encode;
 mod levels;
 mod made;

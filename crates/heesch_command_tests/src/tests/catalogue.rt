@@ -1,11 +1,16 @@
-//! How many calls a catalogue takes, and what stands written where one fails.
-use heesch_catalogue::write_catalogue_of_size;
+//! How many calls a catalogue takes, what stands written where one fails, and one of more than 2^16 entries.
+ghost use Rattle.std.specs.Prelude.{All, IfOk};
+ghost use Rattle.heesch_grid.specs.Polyform.{IsCanonicalListOf};
+
+use heesch_catalogue::{write_catalogue, write_catalogue_of_size};
 use heesch_cert::{Header, Limits, Subject};
 use heesch_cnf::Version;
-use heesch_grid::GridName;
+use heesch_grid::{Cell, Grid, GridName, Square};
 use heesch_io::{IoStop, MemorySink};
-use heesch_made::{BRIEF_TETROMINOES, LIMITS};
+use heesch_made::{BRIEF_TETROMINOES, LIMITS, canonical_of};
 use heesch_pool::{Crew, Open};
+use heesch_shape::Shape;
+use std::alloc::Global;
 use std::test::Fail;
 
 /// The header of the brief catalogue of the tetrominoes.
@@ -48,5 +53,36 @@ fn a_sink_that_fails_holds_what_was_written_before(rt: HostRuntime) -> Result<()
     let written = write_catalogue_of_size(&crew, &TETROMINOES, 4, &mut full);
     assert_eq!(rt; written, Err(IoStop::Failed));
     assert_eq!(rt; full.held.len(), room);
+    Ok(())
+}
+
+/// So many copies of the shape of one cell.
+fn single_cells<G: Grid>(alloc: Global, count: u32) -> Result<Vec<Shape<G>>, Fail>
+    ensures { IfOk result (λ shapes. All (λ s. IsCanonicalListOf G.geometry s s) shapes.items) }
+{
+    let mut shapes = Vec::new(alloc);
+    for _ in 0..count {
+        let shape = canonical_of::<G>(&[Cell { a: 0, b: 0 }])?;
+        shapes.push(shape)?;
+    }
+    Ok(shapes)
+}
+
+/// No clause rules out that a number of shapes is refused as if memory were wanting.
+#[test]
+fn more_than_65536_entries(rt: HostRuntime) -> Result<(), Fail> {
+    let alloc = rt.alloc();
+    let shapes = single_cells::<Square>(alloc, 65_537)?;
+    let given = Header {
+        brief: true,
+        grid: GridName::Square,
+        subject: Subject::Given,
+        limits: TETROMINOES.limits,
+    };
+    let crew = Crew::new(&rt, alloc, 1, &Open);
+    let mut sink = MemorySink::new(alloc, 10_000_000, 10_000_000, Vec::new(alloc))?;
+    let written = write_catalogue(&crew, &given, &shapes, &mut sink);
+    assert_eq!(rt; written, Ok(()));
+    assert!(rt; sink.held.ends_with(b"end 65537\n"));
     Ok(())
 }
