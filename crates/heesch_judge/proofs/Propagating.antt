@@ -13,7 +13,7 @@ use Rattle.heesch_cnf.specs.Literals.{Values, held, lit_value, signed}
 use Rattle.heesch_cnf.specs.Lines.{refuting}
 use Rattle.heesch_cnf.proofs.Lists.{Contains-here}
 use Rattle.heesch_trail.specs.Fixpoint.{IsFixpoint, IsSettled}
-use Rattle.heesch_judge.specs.Propagation.{EndsOpen, Extends, Forces, HasConflict, HasConflictOver, IsPass, IsPropagated, PassesOver, open_count}
+use Rattle.heesch_judge.specs.Propagation.{EndsOpen, Extends, Forces, HasConflict, HasConflictOver, IsForcedExtension, IsPropagated, ConflictOrExtension, open_count}
 use Rattle.heesch_logs.proofs.Equal.{granted, refused}
 use Rattle.heesch_judge.proofs.Settled.{left_there, one_true, settled_more, unsettled}
 
@@ -33,18 +33,18 @@ open_of false (Some b) e = absurd (let bad : ⊥ = cc in bad)
 
 module _ (values : List (Option Bool)) (clause : List Lit) where
   -- none of its literals is left
-  pub passes_nothing : (after : List (Option Bool)) → left_of (held values) clause ≡ [] → PassesOver (clause ∷ []) values None after
+  pub passes_nothing : (after : List (Option Bool)) → left_of (held values) clause ≡ [] → ConflictOrExtension (clause ∷ []) values None after
   passes_nothing after none = λ others fixpoint extends. unsettled others (held values) extends clause none (All-head (IsSettled others) clause [] fixpoint)
 
   -- it is settled already
-  pub passes_settled : IsSettled (held values) clause → PassesOver (clause ∷ []) values (Some false) values
+  pub passes_settled : IsSettled (held values) clause → ConflictOrExtension (clause ∷ []) values (Some false) values
   passes_settled settled = record {
     forced = λ others fixpoint extends. extends;
     still = λ e. (refl, All-cons (IsSettled (held values)) clause [] settled (All-nil (IsSettled (held values))));
     fewer = λ e. absurd (true≢false (sym e));
   }
 
-  pub passes_more : (vars : ℕ) → IsClause vars clause → 2 ≤ length (left_of (held values) clause) → PassesOver (clause ∷ []) values (Some false) values
+  pub passes_more : (vars : ℕ) → IsClause vars clause → 2 ≤ length (left_of (held values) clause) → ConflictOrExtension (clause ∷ []) values (Some false) values
   passes_more vars form more = passes_settled (settled_more (held values) clause vars form more)
 
   module _ (l : Lit) (alone : left_of (held values) clause ≡ l ∷ []) where
@@ -69,7 +69,7 @@ module _ (values : List (Option Bool)) (clause : List Lit) where
         let was : counts (get_or values l.var None) ≡ 1 = ap counts is_open in
         omega (arith, sum, was)
 
-    pub passes_made : l.var < length values → held values l.var ≡ None → PassesOver (clause ∷ []) values (Some true) (set values l.var (Some l.positive))
+    pub passes_made : l.var < length values → held values l.var ≡ None → ConflictOrExtension (clause ∷ []) values (Some true) (set values l.var (Some l.positive))
     passes_made fits is_open = record {
       forced = λ others fixpoint extends. made_extends fits others (All-head (IsSettled others) clause [] fixpoint) extends;
       still = λ e. absurd (true≢false e);
@@ -77,7 +77,7 @@ module _ (values : List (Option Bool)) (clause : List Lit) where
     }
 
     -- or it is true already
-    pub passes_true : (¬ (held values l.var ≡ None)) → PassesOver (clause ∷ []) values (Some false) values
+    pub passes_true : (¬ (held values l.var ≡ None)) → ConflictOrExtension (clause ∷ []) values (Some false) values
     passes_true closed =
         let found = left_there (held values) clause l (subst (λ ls. Contains ls l) (sym alone) (Contains-here l [])) in
         elim found.1 [
@@ -86,9 +86,9 @@ module _ (values : List (Option Bool)) (clause : List Lit) where
         ]
 
     -- so it is made true where it is open
-    pub passes_assigned : l.var < length values → (came : Bool) (after : List (Option Bool)) → (came ≡ true → (held values l.var ≡ None) × (after ≡ set values l.var (Some l.positive))) → (came ≡ false → (¬ (held values l.var ≡ None)) × (after ≡ values)) → PassesOver (clause ∷ []) values (Some came) after
-    passes_assigned fits true after made kept = let m = made refl in subst (λ vs. PassesOver (clause ∷ []) values (Some true) vs) (sym m.1) (passes_made fits m.0)
-    passes_assigned fits false after made kept = let k = kept refl in subst (λ vs. PassesOver (clause ∷ []) values (Some false) vs) (sym k.1) (passes_true k.0)
+    pub passes_assigned : l.var < length values → (came : Bool) (after : List (Option Bool)) → (came ≡ true → (held values l.var ≡ None) × (after ≡ set values l.var (Some l.positive))) → (came ≡ false → (¬ (held values l.var ≡ None)) × (after ≡ values)) → ConflictOrExtension (clause ∷ []) values (Some came) after
+    passes_assigned fits true after made kept = let m = made refl in subst (λ vs. ConflictOrExtension (clause ∷ []) values (Some true) vs) (sym m.1) (passes_made fits m.0)
+    passes_assigned fits false after made kept = let k = kept refl in subst (λ vs. ConflictOrExtension (clause ∷ []) values (Some false) vs) (sym k.1) (passes_true k.0)
 
     -- its variable is one of the clause's
     pub in_range : (vars : ℕ) → IsClause vars clause → l.var ≤ vars
@@ -97,18 +97,18 @@ module _ (values : List (Option Bool)) (clause : List Lit) where
 -- ---- one pass after the other
 
 -- where nothing is looked at
-pub passes_none : (values : List (Option Bool)) → IsPass [] values false values
+pub passes_none : (values : List (Option Bool)) → IsForcedExtension [] values false values
 passes_none values = record { forced = λ others fixpoint extends. extends; still = λ e. (refl, All-nil (IsSettled (held values))); fewer = λ e. absurd (true≢false (sym e)) }
 
 module _ (whole xs ys : List (List Lit)) (apart : (v : Values) → IsFixpoint v whole → IsFixpoint v xs × IsFixpoint v ys) where
   pub first_conflict : (before : List (Option Bool)) → HasConflictOver xs (held before) → HasConflictOver whole (held before)
   first_conflict before bad others fixpoint extends = bad others (apart others fixpoint).0 extends
 
-  module _ (before middle : List (Option Bool)) (g : Bool) (p : IsPass xs before g middle) where
+  module _ (before middle : List (Option Bool)) (g : Bool) (p : IsForcedExtension xs before g middle) where
     pub second_conflict : HasConflictOver ys (held middle) → HasConflictOver whole (held before)
     second_conflict bad others fixpoint extends = let both = apart others fixpoint in bad others both.1 (p.forced others both.0 extends)
 
-    pub second_pass : ((v : Values) → IsFixpoint v xs → IsFixpoint v ys → IsFixpoint v whole) → (after : List (Option Bool)) (h : Bool) → IsPass ys middle h after → IsPass whole before (g || h) after
+    pub second_pass : ((v : Values) → IsFixpoint v xs → IsFixpoint v ys → IsFixpoint v whole) → (after : List (Option Bool)) (h : Bool) → IsForcedExtension ys middle h after → IsForcedExtension whole before (g || h) after
     second_pass together after h q = record {
       forced = λ others fixpoint extends. (let both = apart others fixpoint in q.forced others both.1 (p.forced others both.0 extends));
       still = still g h p.still q.still;
@@ -145,16 +145,16 @@ module _ (clauses : List (List Lit)) (i : ℕ) (below : i < length clauses) wher
   more_together : (v : Values) → IsFixpoint v (take i clauses) → IsFixpoint v (get_or clauses i [] ∷ []) → IsFixpoint v (take (i + 1) clauses)
   more_together v first last = All-more (IsSettled v) clauses i [] below first (All-head (IsSettled v) (get_or clauses i []) [] last)
 
-  module _ (before middle : List (Option Bool)) (g : Bool) (p : IsPass (take i clauses) before g middle) where
+  module _ (before middle : List (Option Bool)) (g : Bool) (p : IsForcedExtension (take i clauses) before g middle) where
     pub one_conflict : HasConflictOver (get_or clauses i [] ∷ []) (held middle) → HasConflictOver clauses (held before)
     one_conflict bad = second_conflict clauses (take i clauses) (get_or clauses i [] ∷ []) one_apart before middle g p bad
 
-    pub one_more : (after : List (Option Bool)) (h : Bool) → IsPass (get_or clauses i [] ∷ []) middle h after → IsPass (take (i + 1) clauses) before (g || h) after
+    pub one_more : (after : List (Option Bool)) (h : Bool) → IsForcedExtension (get_or clauses i [] ∷ []) middle h after → IsForcedExtension (take (i + 1) clauses) before (g || h) after
     one_more after h q = second_pass (take (i + 1) clauses) (take i clauses) (get_or clauses i [] ∷ []) more_apart before middle g p more_together after h q
 
 -- a pass over all of them
-pub whole_pass : (clauses : List (List Lit)) (n : ℕ) (before after : List (Option Bool)) (g : Bool) → length clauses ≤ n → IsPass (take n clauses) before g after → IsPass clauses before g after
-whole_pass clauses n before after g all p = subst (λ cs. IsPass cs before g after) (take_all n clauses all) p
+pub whole_pass : (clauses : List (List Lit)) (n : ℕ) (before after : List (Option Bool)) (g : Bool) → length clauses ≤ n → IsForcedExtension (take n clauses) before g after → IsForcedExtension clauses before g after
+whole_pass clauses n before after g all p = subst (λ cs. IsForcedExtension cs before g after) (take_all n clauses all) p
 
 -- a pass over the second clauses, and then over the first
 module _ (xs ys : List (List Lit)) where

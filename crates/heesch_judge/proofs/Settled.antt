@@ -1,4 +1,4 @@
--- What is left of a clause, and whether it has a true literal or two open ones.
+-- What is left of a clause, whether it has a true literal or two open ones, and the clauses of lines.
 use Rattle.std.proofs.Common.{◌≡◌, refl, sym, ap, subst, ◌∙◌, ℕ, ◌+◌, ◌<◌, ◌≤◌, Bool, true, false, not, cond, Option, None, Some, List, [], ◌∷◌, ◌++◌, take, filter, length, get_or, arith, inl, inr, ◌⊎◌, All, true≢false}
 use Rattle.std.specs.Prelude.{◌↔◌, IsTrue}
 use Rattle.std.specs.List.{Contains}
@@ -37,14 +37,6 @@ open_or_true : (o : Option Bool) → not (is_false_value o) ≡ true → (o ≡ 
 open_or_true None e = inr refl
 open_or_true (Some true) e = inl refl
 open_or_true (Some false) e = absurd (let bad : false ≡ true = e in cc)
-
-true_is : (o : Option Bool) → is_true_value o ≡ true → o ≡ Some true
-true_is None e = absurd (let bad : false ≡ true = e in cc)
-true_is (Some true) e = refl
-true_is (Some false) e = absurd (let bad : false ≡ true = e in cc)
-
-is_true : (o : Option Bool) → o ≡ Some true → is_true_value o ≡ true
-is_true o e = ap is_true_value e
 
 only : (x l : Lit) → Contains (x ∷ []) l → x ≡ l
 only x l h = elim (Contains-cases x [] l h) [ inl e ↦ e | inr none ↦ absurd (Contains-none l none) ]
@@ -85,18 +77,9 @@ module _ (others values : Values) (extends : Extends others values) (clause : Li
       let other = only l two.other (subst (λ ls. Contains ls two.other) alone (open_left two.other two.has_other two.other_open)) in
       absurd (two.differ (sym one ∙ other))
 
-same_extends : (values : Values) → Extends values values
-same_extends values x b e = e
-
 module _ (values : Values) (clause : List Lit) where
   pub left_there : (l : Lit) → Contains (left_of values clause) l → Contains clause l × ((lit_value values l ≡ Some true) ⊎ (lit_value values l ≡ None))
   left_there l h = let both = filtered (λ m. not (is_false_value (lit_value values m))) clause l h in (both.0, open_or_true (lit_value values l) both.1)
-
-  settled_one : (l : Lit) → left_of values clause ≡ l ∷ [] → IsTrue (is_true_value (lit_value values l)) ↔ IsSettled values clause
-  settled_one l alone = (
-    (λ t. inl (l, ((left_there l (subst (λ ls. Contains ls l) (sym alone) (Contains-here l []))).0, true_is (lit_value values l) t))),
-    (λ s. is_true (lit_value values l) (one_true values values (same_extends values) clause l alone s)),
-  )
 
   -- two are left, of different variables
   two_left : (left : List Lit) → left_of values clause ≡ left → Rises left → 2 ≤ length left → IsSettled values clause
@@ -117,38 +100,6 @@ module _ (values : Values) (clause : List Lit) where
   pub settled_more : (vars : ℕ) → IsClause vars clause → 2 ≤ length (left_of values clause) → IsSettled values clause
   settled_more vars form more =
       two_left (left_of values clause) refl (Rises-filter (λ m. not (is_false_value (lit_value values m))) clause (Rises-from_adjacent clause form.rising)) more
-
-  -- what an answer says of what is left
-  abbrev pub SettledBy : Left → Bool → Type 0
-  SettledBy left settled = (vars : ℕ) → IsClause vars clause → IsLeft values clause left → IsTrue settled ↔ IsSettled values clause
-
-  pub by_nothing : SettledBy Nothing false
-  by_nothing vars form none = refused (unsettled values values (same_extends values) clause none)
-
-  pub by_one : (l : Lit) (settled : Bool) → settled ≡ is_true_value (lit_value values l) → SettledBy (One l) settled
-  by_one l settled is vars form alone = subst (λ b. IsTrue b ↔ IsSettled values clause) (sym is) (settled_one l alone)
-
-  pub by_more : SettledBy More true
-  by_more vars form more = granted (settled_more vars form more)
-
--- ---- clauses, one after the other
-
--- what a test of what is left of a clause tells
-abbrev pub Tells : Values → Left → Bool → Type 0
-Tells values left settled = (vars : ℕ) (clause : List Lit) → IsClause vars clause → IsLeft values clause left → IsTrue settled ↔ IsSettled values clause
-
-module _ (values : Values) (vars : ℕ) (clauses : List (List Lit)) (form : AreClauses vars clauses) (i : ℕ) (below : i < length clauses)
-    (clause : List Lit) (same : clause ≡ get_or clauses i []) (left : Left) (is_left : IsLeft values clause left) (settled : Bool) (tells : Tells values left settled) where
-  told : IsTrue settled ↔ IsSettled values (get_or clauses i [])
-  told = tells vars (get_or clauses i []) (form i [] below) (subst (λ c. IsLeft values c left) same is_left)
-
-  -- one that isn't settled
-  pub stops : settled ≡ false → IsTrue false ↔ IsFixpoint values clauses
-  stops fails = refused (λ all. true≢false (sym (told.1 (all i [] below)) ∙ fails))
-
-  -- one more that is
-  pub goes_on : settled ≡ true → ((k : ℕ) (d : List Lit) → k < i → IsSettled values (get_or clauses k d)) → (k : ℕ) (d : List Lit) → k < i + 1 → IsSettled values (get_or clauses k d)
-  goes_on holds before = each_more (IsSettled values) clauses i (get_or clauses i []) below (get_or_default clauses i [] (get_or clauses i []) below) (told.0 holds) before
 
 -- ---- the clauses of lines
 
@@ -174,18 +125,3 @@ pub lines_form : (vars : ℕ) (clauses : List (List Lit)) (lines : List Line) �
 lines_form vars clauses lines hold i d below =
     let few : i < length lines = omega (arith, below, length-map lines clause_of) in
     subst (IsClause vars) (sym (get_or-map clause_of lines i (Given []) d few)) (line_form vars (clauses_with clauses (take i lines)) (get_or lines i (Given [])) (hold i few (Given [])))
-
--- ---- the clauses of a formula, and of lines
-
-module _ (values : Values) (xs ys : List (List Lit)) (a : Bool) (second : IsTrue a ↔ IsFixpoint values ys) where
-  first_settled : IsFixpoint values (xs ++ ys) → IsFixpoint values xs
-  first_settled all = All-from_members (IsSettled values) xs (λ c m. All-contains (IsSettled values) (xs ++ ys) c all (Contains-append_left xs ys c m))
-
-  second_settled : IsFixpoint values (xs ++ ys) → IsFixpoint values ys
-  second_settled all = All-from_members (IsSettled values) ys (λ c m. All-contains (IsSettled values) (xs ++ ys) c all (Contains-append_right xs ys c m))
-
-  pub both_settled : (b : Bool) → IsTrue b ↔ IsFixpoint values xs → a ≡ true → IsTrue b ↔ IsFixpoint values (xs ++ ys)
-  both_settled b first holds = ((λ t. All-append (IsSettled values) xs ys (first.0 t) (second.0 holds)), (λ all. first.1 (first_settled all)))
-
-  pub second_unsettled : a ≡ false → IsTrue a ↔ IsFixpoint values (xs ++ ys)
-  second_unsettled fails = ((λ t. absurd (true≢false (sym t ∙ fails))), (λ all. second.1 (second_settled all)))

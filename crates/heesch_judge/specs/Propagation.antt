@@ -33,13 +33,13 @@ Forces clauses before after = (others : Values) → IsFixpoint others clauses �
 abbrev pub open_count : List (Option Bool) → ℕ
 open_count values = count_by is_none values
 
--- the values after are forced; they are those before, and nothing is left to do, or else fewer variables are open
-pub record IsPass (clauses : List (List Lit)) (before : List (Option Bool)) (grew : Bool) (after : List (Option Bool)) : Type 0 where
+-- the values after extend those before by forced ones alone; where none came (`grew` is false), they are a fixpoint
+pub record IsForcedExtension (clauses : List (List Lit)) (before : List (Option Bool)) (grew : Bool) (after : List (Option Bool)) : Type 0 where
   pub forced : Forces clauses (held before) (held after)
   pub still : grew ≡ false → (after ≡ before) × IsFixpoint (held after) clauses
   pub fewer : grew ≡ true → open_count after < open_count before
 
--- a look at each of the clauses ends in a conflict, or gives values
-abbrev pub PassesOver : List (List Lit) → List (Option Bool) → Option Bool → List (Option Bool) → Type 0
-PassesOver clauses before None after = HasConflictOver clauses (held before)
-PassesOver clauses before (Some grew) after = IsPass clauses before grew after
+-- the clauses are in conflict with the values before, or the values after are such an extension of them
+abbrev pub ConflictOrExtension : List (List Lit) → List (Option Bool) → Option Bool → List (Option Bool) → Type 0
+ConflictOrExtension clauses before None after = HasConflictOver clauses (held before)
+ConflictOrExtension clauses before (Some grew) after = IsForcedExtension clauses before grew after

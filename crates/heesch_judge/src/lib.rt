@@ -17,5 +17,5 @@ pub use coronas::spells_up_to;
 pub use empty::first_empty;
 pub use heesch_logs::has_no_cut;
 pub use propagation::{ends_open, propagated};
-pub use refuted::refutes_up_to;
-pub use spent::is_spent_up_to;
+pub use refuted::{refutes_anew, refutes_up_to};
+pub use spent::{is_spent_open, is_spent_up_to};

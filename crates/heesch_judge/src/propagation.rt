@@ -7,8 +7,8 @@ ghost use Rattle.heesch_cnf.specs.Left.{IsLeft};
 ghost use Rattle.heesch_cnf.specs.Lines.{clauses_of, clauses_with};
 ghost use Rattle.heesch_cnf.specs.Literals.{held};
 ghost use Rattle.heesch_trail.specs.Fixpoint.{IsFixpoint};
-ghost use Rattle.heesch_judge.specs.Propagation.{EndsOpen, Forces, HasConflict, HasConflictOver};
-ghost use Rattle.heesch_judge.specs.Propagation.{IsPropagated, PassesOver};
+ghost use Rattle.heesch_judge.specs.Propagation.{ConflictOrExtension, EndsOpen, Forces, HasConflict};
+ghost use Rattle.heesch_judge.specs.Propagation.{HasConflictOver, IsPropagated};
 
 use crate::empty::all_open;
 use heesch_cnf::{ClauseSource, Left, Lit, left_in};
@@ -36,7 +36,7 @@ fn assign(values: &mut [Option<bool>], lit: Lit) -> bool
 fn force(vars: u32, values: &mut [Option<bool>], left: Left) -> Option<bool>
     requires { vars < length values.old }
     ensures { (clause : List Literal) → IsClause vars clause → IsLeft (held values.old) clause left
-        → PassesOver (clause ∷ []) values.old result values.new }
+        → ConflictOrExtension (clause ∷ []) values.old result values.new }
 {
     match left {
         Left::Nothing => None,
@@ -53,7 +53,7 @@ fn force(vars: u32, values: &mut [Option<bool>], left: Left) -> Option<bool>
 /// The same of each clause of the formula, one after the other. None at a conflict, else whether a value came.
 fn pass_over<C: ClauseSource>(formula: &C, values: &mut [Option<bool>]) -> Option<bool>
     requires room { (C.listed formula.now).vars < length values.old }
-    ensures { PassesOver (C.listed formula.now).clauses values.old result values.new }
+    ensures { ConflictOrExtension (C.listed formula.now).clauses values.old result values.new }
 {
     let vars = formula.vars();
     let mut grew = false;
@@ -71,7 +71,7 @@ fn pass_over<C: ClauseSource>(formula: &C, values: &mut [Option<bool>]) -> Optio
 fn pass_over_lines<S: Steps>(vars: u32, steps: &S, values: &mut [Option<bool>]) -> Option<bool>
     requires room { vars < length values.old }
     requires form { AreClauses vars (clauses_of (S.written steps.now).lines) }
-    ensures { PassesOver (clauses_of (S.written steps.now).lines) values.old result values.new }
+    ensures { ConflictOrExtension (clauses_of (S.written steps.now).lines) values.old result values.new }
 {
     let mut grew = false;
     for index in 0..steps.count() {
@@ -93,7 +93,7 @@ fn pass<C: ClauseSource, S: Steps>(
 ) -> Option<bool>
     requires room { (C.listed formula.now).vars < length values.old }
     requires form { AreClauses (C.listed formula.now).vars (clauses_of (S.written steps.now).lines) }
-    ensures { PassesOver (clauses_with (C.listed formula.now).clauses (S.written steps.now).lines)
+    ensures { ConflictOrExtension (clauses_with (C.listed formula.now).clauses (S.written steps.now).lines)
         values.old result values.new }
 {
     let Some(by_lines) = pass_over_lines(formula.vars(), steps, values) else {

@@ -1,4 +1,4 @@
-//! Whether a proof refutes the formula.
+//! Whether a log refutes clauses by new lines, and a proof the formula.
 ghost use Rattle.std.specs.Prelude.{◌≤◌, ◌↔◌, ℕ, IsTrue, IfOk};
 ghost use Rattle.heesch_cnf.specs.declared.version.Version.TheVariants.{Two};
 ghost use Rattle.heesch_grid.specs.Clauses.{formula_size};
@@ -10,23 +10,25 @@ use heesch_cert::Proof;
 use heesch_cnf::NewnessSource;
 use heesch_grid::Grid;
 use heesch_io::NoMemory;
-use heesch_logs::{ProofLog, admitted_log};
+use heesch_logs::admitted_log;
 use heesch_numbers::CoronaSource;
-use heesch_rup::{LogAnswer, all_new_in_turn, check_steps_in_turn};
+use heesch_rup::{LogAnswer, Steps, all_new_in_turn, check_steps_in_turn};
 use heesch_shape::Shape;
 use std::alloc::Global;
 
-/// Whether the log refutes the clauses, and each of its lines is new.
-fn is_refuted<N: NewnessSource>(
+/// Whether the log refutes the clauses, wherever they stand, and each of its lines is new. The cost is a look at each
+/// hinted clause, and for each line the question whether it is new; the clauses of the lines are copied twice, one copy
+/// after the other.
+pub fn refutes_anew<N: NewnessSource, S: Steps>(
     alloc: Global,
     formula: &N,
-    log: &ProofLog<'_>,
+    steps: &S,
 ) -> Result<bool, NoMemory>
     ensures { let f = N.listed formula.now in
-        IfOk result (λ yes. IsTrue yes ↔ RefutesAnew f.vars f.clauses log.now) }
+        IfOk result (λ yes. IsTrue yes ↔ RefutesAnew f.vars f.clauses (S.written steps.now)) }
 {
-    match check_steps_in_turn(alloc, formula, log)? {
-        LogAnswer::Refuted => all_new_in_turn(alloc, formula, log),
+    match check_steps_in_turn(alloc, formula, steps)? {
+        LogAnswer::Refuted => all_new_in_turn(alloc, formula, steps),
         LogAnswer::Open => Ok(false),
         LogAnswer::BadLine { .. } => Ok(false),
     }
@@ -36,9 +38,8 @@ fn is_refuted<N: NewnessSource>(
 /// 1 to `free_levels`: its cuts are lawful, of these levels, with holes within 100,000 of 0; each line holds and is
 /// new; and the final line is there and holds.
 ///
-/// Condition: the source is that of this shape. The proof may be any. The cost is a look at each hinted clause, for
-/// each line the question whether it is new, and that of `lawful` and `clause_of` for each cut; the clauses of the
-/// lines are copied twice, one copy after the other.
+/// Condition: the source is that of this shape. The proof may be any. The cost is that of `refutes_anew`, and that of
+/// `lawful` and `clause_of` for each cut.
 pub fn refutes_up_to<G: Grid>(
     alloc: Global,
     shape: &Shape<G>,
@@ -54,5 +55,5 @@ pub fn refutes_up_to<G: Grid>(
     let Some(log) = admitted_log(alloc, shape, source.universe(), free_levels, proof)? else {
         return Ok(false);
     };
-    is_refuted(alloc, source, &log)
+    refutes_anew(alloc, source, &log)
 }

@@ -1,4 +1,4 @@
-//! Whether a proof is spent, and leaves the formula open.
+//! Whether a log is spent and leaves clauses open, and a proof the formula.
 ghost use Rattle.std.specs.Prelude.{◌≤◌, ◌↔◌, ℕ, IsTrue, IfOk};
 ghost use Rattle.heesch_cnf.specs.declared.version.Version.TheVariants.{Two};
 ghost use Rattle.heesch_grid.specs.Clauses.{formula_size};
@@ -11,27 +11,28 @@ use heesch_cert::Proof;
 use heesch_cnf::NewnessSource;
 use heesch_grid::Grid;
 use heesch_io::NoMemory;
-use heesch_logs::{ProofLog, admitted_log};
+use heesch_logs::admitted_log;
 use heesch_numbers::CoronaSource;
-use heesch_rup::is_spent_in_turn;
+use heesch_rup::{Steps, is_spent_in_turn};
 use heesch_shape::Shape;
 use std::alloc::Global;
 
-/// Whether the log is spent for so many turns over the clauses, and unit propagation over both has no conflict.
-fn is_spent_open<N: NewnessSource>(
+/// Whether the log is spent for so many turns over the clauses, wherever they stand, and unit propagation over both
+/// ends without a conflict: so no final line holds. The cost is that of `refutes_anew`, and that of `propagated`.
+pub fn is_spent_open<N: NewnessSource, S: Steps>(
     alloc: Global,
     formula: &N,
-    log: &ProofLog<'_>,
+    steps: &S,
     turns: u32,
 ) -> Result<bool, NoMemory>
     ensures { let f = N.listed formula.now in
-        IfOk result (λ yes. IsTrue yes ↔ IsSpentOpen f.vars f.clauses turns log.now) }
+        IfOk result (λ yes. IsTrue yes ↔ IsSpentOpen f.vars f.clauses turns (S.written steps.now)) }
 {
-    let spent = is_spent_in_turn(alloc, formula, log, turns)?;
+    let spent = is_spent_in_turn(alloc, formula, steps, turns)?;
     if !spent {
         return Ok(false);
     }
-    ends_open(alloc, formula, log)
+    ends_open(alloc, formula, steps)
 }
 
 /// Whether the proof is a spent one that `heesch_levels::level_up_to` may answer for so many turns, with holes

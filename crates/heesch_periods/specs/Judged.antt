@@ -2,23 +2,15 @@
 use Rattle.std.specs.Prelude.{ℕ, List}
 use Rattle.heesch_cnf.specs.declared.literal.Lit.{Lit}
 use Rattle.heesch_cnf.specs.declared.log.Log.{Log}
-use Rattle.heesch_cnf.specs.Lines.{IsSpent, LinesAreNew, Refutes, clauses_with}
-use Rattle.heesch_cnf.specs.Literals.{Values}
 use Rattle.heesch_cnf.specs.Meaning.{LearnsAlone}
-use Rattle.heesch_trail.specs.Fixpoint.{IsFixpoint}
+use Rattle.heesch_judge.specs.Closed.{IsSpentOpen, RefutesAnew}
 
--- the log has Learn lines alone, each of them new, and refutes the clauses
+-- the log has Learn lines alone, and refutes the clauses by new lines
 pub record RefutesAlone (vars : ℕ) (clauses : List (List Lit)) (log : Log) : Type 0 where
   pub alone : LearnsAlone log.lines
-  pub refutes : Refutes vars clauses log
-  pub new_lines : LinesAreNew clauses log.lines
+  pub refutes : RefutesAnew vars clauses log
 
--- the log has Learn lines alone, and is spent for this many turns
+-- the log has Learn lines alone, is spent for this many turns, and leaves the clauses open
 pub record IsSpentAlone (vars : ℕ) (clauses : List (List Lit)) (turns : ℕ) (log : Log) : Type 0 where
   pub alone : LearnsAlone log.lines
-  pub is_spent : IsSpent vars clauses turns log
-
--- under some values each of the clauses and of the lines' has a true literal or two open ones: unit propagation over them ends without a conflict
-pub record IsLeftOpen (clauses : List (List Lit)) (log : Log) : Type 0 where
-  pub values : Values
-  pub fixpoint : IsFixpoint values (clauses_with clauses log.lines)
+  pub is_spent : IsSpentOpen vars clauses turns log

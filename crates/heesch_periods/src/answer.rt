@@ -5,46 +5,16 @@ ghost use Rattle.heesch_grid.specs.Cells.{has};
 ghost use Rattle.heesch_grid.specs.Vectors.{IsWithin};
 ghost use Rattle.heesch_torus.specs.Domain.{HasDomain};
 ghost use Rattle.heesch_torus.specs.Answer.{IsTorusAnswer};
-ghost use Rattle.heesch_torus.specs.Formula.{IsFormulaOf};
 
-use crate::judge::{is_left_open, is_spent_alone, refutes_alone};
+use crate::judge::{is_spent_alone, refutes_alone};
 use crate::log::searched_log;
-use heesch_cnf::{ClauseSource, Log};
 use heesch_grid::Grid;
 use heesch_io::NoMemory;
 use heesch_lattice::Triple;
 use heesch_shape::Shape;
 use heesch_tori::TorusSource;
-use heesch_torus::{TorusAnswer, torus_formula};
+use heesch_torus::TorusAnswer;
 use std::alloc::Global;
-
-/// The answer that a log without a last line is, where it is spent for so many turns and leaves the formula open. For
-/// that the formula is written down, since each of its clauses is looked at.
-fn spent_answer<G: Grid>(
-    alloc: Global,
-    shape: &Shape<G>,
-    triple: Triple,
-    turns: u32,
-    source: &TorusSource<G>,
-    log: Log,
-) -> Result<Option<TorusAnswer>, NoMemory>
-    requires near { (c : Cell) → has shape.now c ≡ true → IsWithin 100000 c }
-    requires domain { HasDomain G.geometry (length shape.now) triple }
-    requires formula { let f = source.now.formula in IsFormulaOf G.geometry shape.now triple f.vars f.clauses }
-    ensures { IfOk result (λ answer. IfSome answer (IsTorusAnswer G.geometry shape.now triple turns)) }
-{
-    let spent = is_spent_alone(alloc, source, &log, turns)?;
-    if !spent {
-        return Ok(None);
-    }
-    let formula = torus_formula(alloc, shape, triple)?;
-    let open = is_left_open(alloc, &formula, &log)?;
-    if open {
-        Ok(Some(TorusAnswer::Spent { log }))
-    } else {
-        Ok(None)
-    }
-}
 
 /// The answer that the search over the geometry proposes, where it is found true.
 fn judged_answer<G: Grid>(
@@ -60,11 +30,15 @@ fn judged_answer<G: Grid>(
     // Reading the cells tells the proof that they are a polyform.
     let _cells = shape.cells();
     let source = TorusSource::of(alloc, shape, triple)?;
-    let Some(log) = searched_log(alloc, source.vars(), source.lists(), turns)? else {
+    let Some(log) = searched_log(alloc, &source, turns)? else {
         return Ok(None);
     };
     if log.last.is_none() {
-        return spent_answer(alloc, shape, triple, turns, &source, log);
+        let spent = is_spent_alone(alloc, &source, &log, turns)?;
+        if !spent {
+            return Ok(None);
+        }
+        return Ok(Some(TorusAnswer::Spent { log }));
     }
     let refuted = refutes_alone(alloc, &source, &log)?;
     if refuted {

@@ -21,7 +21,7 @@ use Rattle.heesch_numbers.proofs.Counting.{found, all_counted}
 use Rattle.heesch_torus.specs.Formula.{pair_clause}
 use Rattle.heesch_torus.proofs.Excluding.{pairs_with, pair_of}
 use Rattle.heesch_torus.proofs.Numbering.{map_agree}
-use Rattle.heesch_tori.specs.Later.{all_later, later_of, later_counts, later_numbers, variable_at, MeetsOneOf}
+use Rattle.heesch_tori.specs.Later.{all_later, later_sharing, later_counts, later_numbers, variable_at, MeetsOneOf}
 use Rattle.heesch_tori.proofs.Passed.{Entry, no_entry, number_of, entry_is, entry_last}
 
 module _ (sets : List (List Cell)) where
@@ -35,14 +35,14 @@ module _ (sets : List (List Cell)) where
   clause_with u v = clause_of literals (λ x. is_numbered u.0 x || is_numbered v.0 x) no_variable sets
 
   counts_are : later_counts sets ≡ map (λ u. length (pairs_with sets u)) (enumerate_from 1 sets)
-  counts_are = map_agree (λ u. length (later_of sets u)) (λ u. length (pairs_with sets u)) (enumerate_from 1 sets) (λ u m. sym (length-map (later_of sets u) (clause_with u)))
+  counts_are = map_agree (λ u. length (later_sharing sets u)) (λ u. length (pairs_with sets u)) (enumerate_from 1 sets) (λ u m. sym (length-map (later_sharing sets u) (clause_with u)))
 
   -- as many as the counts say
   pub pairs_counted : sum (later_counts sets) ≡ length (exclusion_clauses literals meet sets)
   pairs_counted = ap sum counts_are ∙ all_counted (pairs_with sets) (enumerate_from 1 sets)
 
   counts_numbers : later_counts sets ≡ map (λ u. length (later_numbers sets u)) (enumerate_from 1 sets)
-  counts_numbers = map_agree (λ u. length (later_of sets u)) (λ u. length (later_numbers sets u)) (enumerate_from 1 sets) (λ u m. sym (length-map (later_of sets u) number_of))
+  counts_numbers = map_agree (λ u. length (later_sharing sets u)) (λ u. length (later_numbers sets u)) (enumerate_from 1 sets) (λ u m. sym (length-map (later_sharing sets u) number_of))
 
   -- there are as many later variables
   pub later_counted : sum (later_counts sets) ≡ length (all_later sets)
@@ -63,7 +63,7 @@ module _ (sets : List (List Cell)) where
     pub last : w.0 ≤ length sets
     pub is : w ≡ variable_at sets w.0
 
-  later_one : (u : ℕ) (w : Entry) → Contains (later_of sets (variable_at sets u)) w → IsLaterOne u w
+  later_one : (u : ℕ) (w : Entry) → Contains (later_sharing sets (variable_at sets u)) w → IsLaterOne u w
   later_one u w m =
       let f = filter_member (λ (v : Entry). nat_lt u v.0 && meet (set_of sets u) v.1) (enumerate_from 1 sets) w m in
       let parts = and_parts (nat_lt u w.0) (meet (set_of sets u) w.1) f.1 in
@@ -77,26 +77,26 @@ module _ (sets : List (List Cell)) where
     pub first_within : part < length sets
     first_within = let long = length-enumerate_from 1 sets in let l = falls_so.0 in omega arith
 
-    pub place_within : rest < length (later_of sets (variable_at sets (part + 1)))
+    pub place_within : rest < length (later_sharing sets (variable_at sets (part + 1)))
     place_within =
         let l = falls_so.1 in
-        let long = length-map (later_of sets (get_or (enumerate_from 1 sets) part no_entry)) (clause_with (get_or (enumerate_from 1 sets) part no_entry)) in
-        let same = ap (λ u. length (later_of sets u)) (entry_is sets part first_within) in
+        let long = length-map (later_sharing sets (get_or (enumerate_from 1 sets) part no_entry)) (clause_with (get_or (enumerate_from 1 sets) part no_entry)) in
+        let same = ap (λ u. length (later_sharing sets u)) (entry_is sets part first_within) in
         omega arith
 
     abbrev found_there : Entry
-    found_there = get_or (later_of sets (variable_at sets (part + 1))) rest no_entry
+    found_there = get_or (later_sharing sets (variable_at sets (part + 1))) rest no_entry
 
     there : IsLaterOne (part + 1) found_there
-    there = later_one (part + 1) found_there (Contains-get_or (later_of sets (variable_at sets (part + 1))) rest no_entry place_within)
+    there = later_one (part + 1) found_there (Contains-get_or (later_sharing sets (variable_at sets (part + 1))) rest no_entry place_within)
 
     -- its number is the one that stands at the place
-    pub number_there : get_or (all_later sets) place 0 ≡ (get_or (later_of sets (variable_at sets (part + 1))) rest no_entry).0
+    pub number_there : get_or (all_later sets) place 0 ≡ (get_or (later_sharing sets (variable_at sets (part + 1))) rest no_entry).0
     number_there =
         let so = found (later_numbers sets) (enumerate_from 1 sets) place part rest no_entry 0 (subst (λ ns. FallsIn ns place part rest) counts_numbers falls) in
         so.2
         ∙ ap (λ u. get_or (later_numbers sets u) rest 0) (entry_is sets part first_within)
-        ∙ get_or-map number_of (later_of sets (variable_at sets (part + 1))) rest no_entry 0 place_within
+        ∙ get_or-map number_of (later_sharing sets (variable_at sets (part + 1))) rest no_entry 0 place_within
 
     pub number_later : part + 1 < get_or (all_later sets) place 0
     number_later = let e = number_there in let l = there.later in omega (arith, e, l)
@@ -104,21 +104,21 @@ module _ (sets : List (List Cell)) where
     pub number_last : get_or (all_later sets) place 0 ≤ length sets
     number_last = let e = number_there in let l = there.last in omega (arith, e, l)
 
-    pub number_at : get_or (later_of sets (variable_at sets (part + 1))) rest no_entry ≡ variable_at sets (get_or (all_later sets) place 0)
+    pub number_at : get_or (later_sharing sets (variable_at sets (part + 1))) rest no_entry ≡ variable_at sets (get_or (all_later sets) place 0)
     number_at = there.is ∙ ap (variable_at sets) (sym number_there)
 
     -- the clause of a place is of the first variable and of the later one at its place
-    pub pair_at : (v : ℕ) → part + 1 < v → v ≤ length sets → get_or (later_of sets (variable_at sets (part + 1))) rest no_entry ≡ variable_at sets v → get_or (exclusion_clauses literals meet sets) place [] ≡ pair_clause (part + 1) v
+    pub pair_at : (v : ℕ) → part + 1 < v → v ≤ length sets → get_or (later_sharing sets (variable_at sets (part + 1))) rest no_entry ≡ variable_at sets v → get_or (exclusion_clauses literals meet sets) place [] ≡ pair_clause (part + 1) v
     pair_at v later last is =
         falls_so.2
         ∙ ap (λ u. get_or (pairs_with sets u) rest []) (entry_is sets part first_within)
-        ∙ get_or-map (clause_with (variable_at sets (part + 1))) (later_of sets (variable_at sets (part + 1))) rest no_entry [] place_within
+        ∙ get_or-map (clause_with (variable_at sets (part + 1))) (later_sharing sets (variable_at sets (part + 1))) rest no_entry [] place_within
         ∙ ap (clause_with (variable_at sets (part + 1))) is
         ∙ pair_of (part + 1) v sets (omega arith) later (omega arith)
 
   -- ---- which clauses they are
 
-  entry_there : (v : ℕ) → 1 ≤ v → v ≤ length sets → Contains (enumerate_from 1 sets) (variable_at sets v)
+  pub entry_there : (v : ℕ) → 1 ≤ v → v ≤ length sets → Contains (enumerate_from 1 sets) (variable_at sets v)
   entry_there v low high =
       let long = length-enumerate_from 1 sets in
       subst (Contains (enumerate_from 1 sets)) (entry_last sets v low high) (Contains-get_or (enumerate_from 1 sets) (v - 1) no_entry (omega arith))
@@ -136,7 +136,7 @@ module _ (sets : List (List Cell)) where
   pub pair_member : (e : List Lit) → Contains (exclusion_clauses literals meet sets) e → IsPair e
   pair_member e m =
       let r = flat_map_member (pairs_with sets) (enumerate_from 1 sets) e m in
-      let s = map_member (clause_with r.0) (later_of sets r.0) e r.2 in
+      let s = map_member (clause_with r.0) (later_sharing sets r.0) e r.2 in
       let f = filter_member (λ (v : Entry). nat_lt r.0.0 v.0 && meet r.0.1 v.1) (enumerate_from 1 sets) s.0 s.1 in
       let parts = and_parts (nat_lt r.0.0 s.0.0) (meet r.0.1 s.0.1) f.1 in
       let less = ltb-true r.0.0 s.0.0 parts.0 in
@@ -160,15 +160,15 @@ module _ (sets : List (List Cell)) where
       let last = p.last in
       let u : Entry = variable_at sets p.first in
       let v : Entry = variable_at sets p.second in
-      let is_later : Contains (later_of sets (variable_at sets p.first)) (variable_at sets p.second) =
+      let is_later : Contains (later_sharing sets (variable_at sets p.first)) (variable_at sets p.second) =
       member_filter (λ (v : Entry). nat_lt p.first v.0 && meet (set_of sets p.first) v.1) (enumerate_from 1 sets) v (entry_there p.second (omega arith) last) (and_from (nat_lt p.first p.second) (meet (set_of sets p.first) (set_of sets p.second)) (lt-ltb p.first p.second more) p.meets) in
       member_flat_map (pairs_with sets) (enumerate_from 1 sets) u e (entry_there p.first first (omega arith))
-      (subst (Contains (pairs_with sets u)) (pair_of p.first p.second sets first more (omega arith) ∙ sym p.is) (member_map (clause_with u) (later_of sets u) v is_later))
+      (subst (Contains (pairs_with sets u)) (pair_of p.first p.second sets first more (omega arith) ∙ sym p.is) (member_map (clause_with u) (later_sharing sets u) v is_later))
 
   pub pairs_form : AreClauses (length sets) (exclusion_clauses literals meet sets)
   pairs_form = All-from_members (IsClause (length sets)) (exclusion_clauses literals meet sets) (λ e m.
       let r = flat_map_member (pairs_with sets) (enumerate_from 1 sets) e m in
-      let s = map_member (clause_with r.0) (later_of sets r.0) e r.2 in
+      let s = map_member (clause_with r.0) (later_sharing sets r.0) e r.2 in
       subst (IsClause (length sets)) s.2 (clause_form sets (λ (x : Entry). is_numbered r.0.0 x || is_numbered s.0.0 x) no_variable))
 
   -- ---- when a clause contains one of them

@@ -1,5 +1,5 @@
 -- The later variables that share a cell with one, listed one after another.
-use Rattle.std.proofs.Common.{◌≡◌, refl, sym, ap, ◌∙◌, ℕ, zero, suc, ◌+◌, ◌-◌, ◌*◌, ◌<◌, ◌≤◌, List, [], ◌∷◌, ◌++◌, map, filter, length, get_or, take, Bool, true, false, cond, ◌&&◌, not, inl, inr, arith, lt-ltb, ltb-true}
+use Rattle.std.proofs.Common.{◌≡◌, refl, sym, ap, ◌∙◌, ℕ, zero, suc, ◌+◌, ◌-◌, ◌<◌, ◌≤◌, List, [], ◌∷◌, ◌++◌, map, filter, length, get_or, take, Bool, true, false, cond, ◌&&◌, not, inl, inr, arith, lt-ltb, ltb-true}
 use Rattle.std.specs.Prelude.{nat_lt, sum, flat_map}
 use Rattle.std.specs.List.{enumerate_from}
 use Rattle.std.proofs.lemmas.Bool.{cases_Bool}
@@ -11,7 +11,7 @@ use Rattle.std.proofs.lemmas.List.FromFn.{length-enumerate_from, get_or-enumerat
 use Rattle.std.proofs.lemmas.Grind.{flat_map-append}
 use Rattle.heesch_grid.specs.declared.Cell.{Cell}
 use Rattle.heesch_grid.specs.Cells.{meet, set_of}
-use Rattle.heesch_tori.specs.Later.{all_later, later_of, later_counts, later_numbers, variable_at}
+use Rattle.heesch_tori.specs.Later.{all_later, later_sharing, later_counts, later_numbers, variable_at}
 
 abbrev pub Entry : Type 0
 Entry = ℕ × List Cell
@@ -99,7 +99,7 @@ module _ (sets : List (List Cell)) where
         ap (λ xs. map number_of (filter is_later xs)) (take_all (v - 1) (enumerate_from 1 sets) (omega arith))
 
   -- no more than there are variables
-  pub later_few : (u : Entry) → length (later_of sets u) ≤ length sets
+  pub later_few : (u : Entry) → length (later_sharing sets u) ≤ length sets
   later_few u =
       let both = length-filter_both (λ (v : Entry). nat_lt u.0 v.0 && meet u.1 v.1) (λ (v : Entry). not (nat_lt u.0 v.0 && meet u.1 v.1)) (λ x. refl) (enumerate_from 1 sets) in
       let long = length-enumerate_from 1 sets in
@@ -108,23 +108,23 @@ module _ (sets : List (List Cell)) where
   -- ---- the counts and the numbers, one variable more
 
   -- as many numbers stand last as the variable has
-  pub numbers_long : (i : ℕ) (old new : List ℕ) → new ≡ old ++ later_numbers sets (variable_at sets (i + 1)) → length new ≡ length old + length (later_of sets (variable_at sets (i + 1)))
+  pub numbers_long : (i : ℕ) (old new : List ℕ) → new ≡ old ++ later_numbers sets (variable_at sets (i + 1)) → length new ≡ length old + length (later_sharing sets (variable_at sets (i + 1)))
   numbers_long i old new is =
       let both = length-append old (later_numbers sets (variable_at sets (i + 1))) in
-      let same = length-map (later_of sets (variable_at sets (i + 1))) number_of in
+      let same = length-map (later_sharing sets (variable_at sets (i + 1))) number_of in
       let whole = ap length is in
       omega (arith, both, same, whole)
 
-  pub counts_more : (i n : ℕ) (old new : List ℕ) → i < length sets → new ≡ old ++ n ∷ [] → n ≡ length (later_of sets (variable_at sets (i + 1))) → old ≡ map (λ u. length (later_of sets u)) (take i (enumerate_from 1 sets)) → new ≡ map (λ u. length (later_of sets u)) (take (i + 1) (enumerate_from 1 sets))
+  pub counts_more : (i n : ℕ) (old new : List ℕ) → i < length sets → new ≡ old ++ n ∷ [] → n ≡ length (later_sharing sets (variable_at sets (i + 1))) → old ≡ map (λ u. length (later_sharing sets u)) (take i (enumerate_from 1 sets)) → new ≡ map (λ u. length (later_sharing sets u)) (take (i + 1) (enumerate_from 1 sets))
   counts_more i n old new l is count was =
       let long = length-enumerate_from 1 sets in
-      let here : length (later_of sets (get_or (enumerate_from 1 sets) i no_entry)) ≡ n = ap (λ (u : Entry). length (later_of sets u)) (entry_is i l) ∙ sym count in
-      is ∙ (λ k. was k ++ sym here k ∷ []) ∙ sym (map_more (λ u. length (later_of sets u)) (enumerate_from 1 sets) i no_entry (omega arith))
+      let here : length (later_sharing sets (get_or (enumerate_from 1 sets) i no_entry)) ≡ n = ap (λ (u : Entry). length (later_sharing sets u)) (entry_is i l) ∙ sym count in
+      is ∙ (λ k. was k ++ sym here k ∷ []) ∙ sym (map_more (λ u. length (later_sharing sets u)) (enumerate_from 1 sets) i no_entry (omega arith))
 
-  pub counts_whole : (i : ℕ) (counts : List ℕ) → length sets ≤ i → counts ≡ map (λ u. length (later_of sets u)) (take i (enumerate_from 1 sets)) → counts ≡ later_counts sets
+  pub counts_whole : (i : ℕ) (counts : List ℕ) → length sets ≤ i → counts ≡ map (λ u. length (later_sharing sets u)) (take i (enumerate_from 1 sets)) → counts ≡ later_counts sets
   counts_whole i counts l is =
       let long = length-enumerate_from 1 sets in
-      is ∙ ap (map (λ u. length (later_of sets u))) (take_all i (enumerate_from 1 sets) (omega arith))
+      is ∙ ap (map (λ u. length (later_sharing sets u))) (take_all i (enumerate_from 1 sets) (omega arith))
 
   pub numbers_more : (i : ℕ) (old new : List ℕ) → i < length sets → new ≡ old ++ later_numbers sets (variable_at sets (i + 1)) → old ≡ flat_map (later_numbers sets) (take i (enumerate_from 1 sets)) → new ≡ flat_map (later_numbers sets) (take (i + 1) (enumerate_from 1 sets))
   numbers_more i old new l is was =

@@ -1,4 +1,4 @@
 pub mod Later
 pub mod Rows
 pub mod Shared
-pub mod Toured
+pub mod TorusView

@@ -1,5 +1,7 @@
 //! The pairs of variables that share a cell, by the first of the two.
-ghost use Rattle.std.specs.Prelude.{◌≡◌, ◌≤◌, ◌*◌, ◌++◌, length, sum, IfOk, OnOk};
+ghost use Rattle.std.specs.Prelude.{◌≡◌, ◌<◌, ◌≤◌, ◌*◌, ◌++◌, length, nat_lt, slice_index_or, slice_range, sum};
+ghost use Rattle.std.specs.Prelude.{Contains, IfOk, MatchOption, OnOk};
+ghost use Rattle.heesch_grid.specs.Listing.{IsRising};
 ghost use Rattle.heesch_tori.specs.Later.{all_later, later_counts, later_numbers, variable_at};
 ghost use Rattle.heesch_tori.specs.Shared.{IsVariable, tabled_sets};
 
@@ -7,6 +9,24 @@ use crate::table::CellTable;
 use heesch_io::NoMemory;
 use heesch_numbers::Prefix;
 use std::alloc::Global;
+
+/// The numbers from one place to before another.
+pub(crate) fn part(numbers: &[u32], start: usize, end: usize) -> &[u32]
+    requires order { start ≤ end }
+    requires last { end ≤ length numbers.now }
+    ensures { result.now ≡ slice_range numbers.now start end }
+{
+    &numbers[start..end]
+}
+
+/// The place of the number among these, which rise. A binary search.
+pub(crate) fn place_of(numbers: &[u32], number: u32) -> Option<usize>
+    requires { IsRising nat_lt numbers.now }
+    ensures { MatchOption result (¬ Contains numbers.now number)
+        (λ place. (place < length numbers.now) × (slice_index_or numbers.now place 0 ≡ number)) }
+{
+    numbers.binary_search(&number).ok()
+}
 
 /// For each variable in turn the later ones that share a cell with it: how many they are, and their numbers.
 #[derive(Drop)]

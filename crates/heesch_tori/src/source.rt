@@ -1,6 +1,7 @@
 //! The torus formula as a source of clauses.
-ghost use Rattle.std.specs.Prelude.{◌≡◌, ◌++◌, true, map, length, All, IfOk};
+ghost use Rattle.std.specs.Prelude.{◌≡◌, ◌≤◌, ◌++◌, true, map, length, All, Contains, IfOk, MatchOption};
 ghost use Rattle.heesch_cert.specs.Literals.{literals};
+ghost use Rattle.heesch_cnf.specs.Lines.{IsNumber, numbered};
 ghost use Rattle.heesch_encode.specs.Literals.{plus_all};
 ghost use Rattle.heesch_grid.specs.declared.Cell.{Cell};
 ghost use Rattle.heesch_grid.specs.Cells.{has, meet};
@@ -8,11 +9,11 @@ ghost use Rattle.heesch_grid.specs.CoronaFormula.{exclusion_clauses};
 ghost use Rattle.heesch_grid.specs.Vectors.{IsWithin};
 ghost use Rattle.heesch_torus.specs.Covering.{AreNumbers};
 ghost use Rattle.heesch_torus.specs.Domain.{HasDomain};
-ghost use Rattle.heesch_torus.specs.Formula.{IsFormulaOf};
+ghost use Rattle.heesch_torus.specs.Formula.{IsFormulaOf, pair_clause};
 ghost use Rattle.heesch_torus.specs.Variables.{sets_of, AreVariables};
 
 use crate::apart::{are_apart, lists_remain};
-use crate::later::{LaterVariables, later_variables};
+use crate::later::{LaterVariables, later_variables, part, place_of};
 use crate::table::CellTable;
 use heesch_cnf::{ClauseSource, Left, Lit, NewnessSource, left_in};
 use heesch_grid::Grid;
@@ -27,7 +28,8 @@ use std::marker::{Model, PhantomData};
 /// The torus formula of a shape and a triple, by the numbers of its clauses: first one for each reduced cell, in cell
 /// order, and then one for each two variables that share a cell, by the first and then the second. None stands
 /// anywhere. What is kept are the variables, for each cell the numbers of those that have it, and for each variable a
-/// bit for each cell and the numbers of the later ones that share a cell with it.
+/// bit for each cell and the numbers of the later ones that share a cell with it: a word for each two variables that
+/// share one, at most about 42 MB.
 #[derive(Drop)]
 pub struct TorusSource<G: Grid> {
     table: CellTable,
@@ -36,13 +38,13 @@ pub struct TorusSource<G: Grid> {
 }
 
 impl<G: Grid> Model for TorusSource<G> {
-    ghost use Rattle.heesch_tori.specs.Toured.{Toured, IsTour, toured};
+    ghost use Rattle.heesch_tori.specs.TorusView.{TorusView, ListsPairs, torus_view};
 
-    ghost Value = { Toured };
+    ghost Value = { TorusView };
 
-    ghost view = { λ s. toured s.table.variables s.table.lists };
+    ghost view = { λ s. torus_view s.table.variables s.table.lists };
 
-    ghost invariant = { λ s. IsTour s.table s.later.counts s.later.numbers.items };
+    ghost invariant = { λ s. ListsPairs s.table s.later.counts s.later.numbers.items };
 }
 
 /// The negation of a variable.
@@ -94,6 +96,26 @@ impl<G: Grid> TorusSource<G> {
         ensures numbers { All (AreNumbers (length self.now.variables)) result.now }
     {
         self.table.lists()
+    }
+
+    /// The number of the clause of two variables that share a cell, the lower one first; None where there is none: they
+    /// share no cell, or the first isn't the lower. A binary search among the later variables that share a cell with
+    /// the first; it takes no memory.
+    ///
+    /// Condition: the first is the number of a variable. The second may be any.
+    pub fn pair_number(&self, first: u32, second: u32) -> Option<u32>
+        requires { (1 ≤ first) × (first ≤ length self.now.variables) }
+        ensures { let clause = pair_clause first second in
+            MatchOption result (¬ Contains (exclusion_clauses literals meet (sets_of self.now.variables)) clause)
+            (λ number. IsNumber self.now.formula.clauses number
+            × (numbered self.now.formula.clauses number ≡ clause)) }
+    {
+        let start = self.later.counts.start(first as usize - 1) as usize;
+        let end = self.later.counts.start(first as usize) as usize;
+        let Some(rank) = place_of(part(&self.later.numbers, start, end), second) else {
+            return None;
+        };
+        Some((self.table.lists().len() + start + rank) as u32 + 1)
     }
 }
 

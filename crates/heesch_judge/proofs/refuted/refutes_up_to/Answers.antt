@@ -28,6 +28,6 @@ returns g c =
     let is = subst (λ (o : Option Log). MatchOption o (¬ IsAdmitted geometry u k proof) (IsLogOf geometry u k proof)) c.in-Some.is c.in_ok-log.ensures in
     let told = refutation_told geometry s u c.universe.ensures k proof c.in-Some.log is in
     record {
-      judged = IfOk-weaker c.is_refuted.result _ _ (λ answer tells. told answer tells) c.is_refuted.ensures;
-      refutes = IfOk-weaker c.is_refuted.result _ _ (λ answer tells t. refutation_up_to geometry c.args.shape.now s c.requires.source k proof ((told answer tells).0 t)) c.is_refuted.ensures;
+      judged = IfOk-weaker c.refutes_anew.result _ _ (λ answer tells. told answer tells) c.refutes_anew.ensures;
+      refutes = IfOk-weaker c.refutes_anew.result _ _ (λ answer tells t. refutation_up_to geometry c.args.shape.now s c.requires.source k proof ((told answer tells).0 t)) c.refutes_anew.ensures;
     }

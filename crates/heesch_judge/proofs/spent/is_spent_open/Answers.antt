@@ -13,7 +13,7 @@ pub ends_open-requires : goal.ends_open-requires
 ends_open-requires g c =
     let f = g.N.ClauseSource.listed c.args.formula.now in
     let holds : c.in_ok-spent.spent ≡ true = search rules in
-    record { form = lines_form f.vars f.clauses c.args.log.now.lines (c.in_ok-spent.ensures.0 holds).lines }
+    record { form = lines_form f.vars f.clauses (g.S.Steps.written c.args.steps.now).lines (c.in_ok-spent.ensures.0 holds).lines }
 
 pub returns : goal.returns
 returns g c =

@@ -1,5 +1,5 @@
-use Rattle.std.proofs.Common.{◌≡◌, ◌+◌, ◌-◌, ◌<◌, ◌≤◌, List, ℕ, length, ap, arith}
-use Rattle.heesch_tori.specs.Later.{later_of, variable_at}
+use Rattle.std.proofs.Common.{◌≡◌, ◌+◌, ◌-◌, ◌<◌, length, arith}
+use Rattle.heesch_tori.specs.Later.{later_sharing, variable_at}
 use Rattle.heesch_tori.specs.Shared.{tabled_sets}
 use Rattle.heesch_tori.proofs.Clauses.{sets_many}
 use Rattle.heesch_tori.proofs.Passed.{later_few, numbers_long, counts_more, counts_whole, numbers_more, numbers_whole, sum_more}
@@ -25,7 +25,7 @@ loop-i-preserved c =
     let long = numbers_long sets c.loop-i.i c.loop-i.numbers.items c.add_later.new.numbers.items c.in_ok-add_later.ensures in
     let now = c.len.ensures in
     let before = c.len-before.ensures in
-    let count : c.len.result - c.len-before.result ≡ length (later_of (tabled_sets c.args.table.now) (variable_at (tabled_sets c.args.table.now) (c.loop-i.i + 1))) = omega (arith, long, now, before) in
+    let count : c.len.result - c.len-before.result ≡ length (later_sharing (tabled_sets c.args.table.now) (variable_at (tabled_sets c.args.table.now) (c.loop-i.i + 1))) = omega (arith, long, now, before) in
     let whole = sum_more c.loop-i.counts c.push.new.self (c.len.result - c.len-before.result) c.in_ok-push.ensures.ok in
     let few = later_few sets (variable_at sets (c.loop-i.i + 1)) in
     let most = c.count-i-end.ensures.few in

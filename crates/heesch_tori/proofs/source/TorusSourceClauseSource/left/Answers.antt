@@ -1,4 +1,4 @@
-use Rattle.std.proofs.Common.{◌≡◌, ◌+◌, ◌-◌, ◌<◌, ◌≤◌, [], ◌∷◌, List, ℕ, get_or, length, sym, ap, subst, ◌∙◌, arith}
+use Rattle.std.proofs.Common.{◌≡◌, ◌+◌, ◌-◌, ◌<◌, [], ◌∷◌, List, ℕ, get_or, length, sym, ap, subst, ◌∙◌, arith}
 use Rattle.std.specs.Prelude.{nat_lt, sum}
 use Rattle.std.proofs.lemmas.List.{get_or_default, get_or_read}
 use Rattle.std.proofs.lemmas.List.Elements.{All-get_or}
@@ -14,8 +14,8 @@ use Rattle.heesch_numbers.proofs.Seeing.{seen_none}
 use Rattle.heesch_torus.specs.Formula.{pair_clause}
 use Rattle.heesch_torus.specs.Variables.{sets_of}
 use Rattle.heesch_tori.specs.Later.{all_later}
-use Rattle.heesch_tori.specs.Toured.{Toured, tour_clauses}
-use Rattle.heesch_tori.proofs.Clauses.{sets_many, list_left, tour_length, tour_form_of, cell_numbered, pair_numbered}
+use Rattle.heesch_tori.specs.TorusView.{TorusView, table_clauses}
+use Rattle.heesch_tori.proofs.Clauses.{sets_many, list_left, clauses_length, clauses_form_of, cell_numbered, pair_numbered}
 use Rattle.heesch_tori.proofs.Pairs.{first_within, later_counted, number_at, number_last, number_later, pair_at}
 use Rattle.heesch_tori.proofs.source.TorusSourceClauseSource.left.Given as given
 use Rattle.heesch_tori.proofs.source.TorusSourceClauseSource.left.Goals as goal
@@ -34,13 +34,13 @@ returns-then-index-lists g c =
     let rising = (c.lists-lists.ensures.numbers.numbers k [] less).rising in
     let left = list_left v c.as_slice.result.now c.left_with_all.result (subst (IsRising nat_lt) (sym here) rising) (c.left_with_all.ensures [] (seen_none v)) in
     let clause : plus_all c.as_slice.result.now ≡ numbered c.args.self.now.formula.clauses c.args.number =
-    ap plus_all here ∙ sym (cell_numbered sets lists c.args.number c.requires.number.0 less) ∙ ap (λ (s : Toured). numbered s.formula.clauses c.args.number) c.self.view_is in
+    ap plus_all here ∙ sym (cell_numbered sets lists c.args.number c.requires.number.0 less) ∙ ap (λ (s : TorusView). numbered s.formula.clauses c.args.number) c.self.view_is in
     subst (λ (e : List Lit). IsLeft (held c.args.values.now) e c.left_with_all.result) clause left
 
 pub place-at-requires : goal.place-at-requires
 place-at-requires g c =
-    let whole = tour_length (sets_of c.self.inside.table.variables) c.self.inside.table.lists c.self.inside.later.counts c.self.invariant.counts_are in
-    let seen = ap (λ (s : Toured). length s.formula.clauses) c.self.view_is in
+    let whole = clauses_length (sets_of c.self.inside.table.variables) c.self.inside.table.lists c.self.inside.later.counts c.self.invariant.counts_are in
+    let seen = ap (λ (s : TorusView). length s.formula.clauses) c.self.view_is in
     let few = ap length c.lists-lists.ensures.lists in
     let some = c.requires.number.0 in
     let high = c.requires.number.1 in
@@ -68,8 +68,8 @@ overflow_add-first g c =
 pub index-second-requires : goal.index-second-requires
 index-second-requires g c =
     let sets = sets_of c.self.inside.table.variables in
-    let whole = tour_length (sets_of c.self.inside.table.variables) c.self.inside.table.lists c.self.inside.later.counts c.self.invariant.counts_are in
-    let seen = ap (λ (s : Toured). length s.formula.clauses) c.self.view_is in
+    let whole = clauses_length (sets_of c.self.inside.table.variables) c.self.inside.table.lists c.self.inside.later.counts c.self.invariant.counts_are in
+    let seen = ap (λ (s : TorusView). length s.formula.clauses) c.self.view_is in
     let few = ap length c.lists-lists.ensures.lists in
     let some = c.requires.number.0 in
     let high = c.requires.number.1 in
@@ -89,8 +89,8 @@ written g c =
     let falls = subst (λ (ns : List ℕ). FallsIn ns (c.args.number - 1 - length c.lists-lists.result.now) c.place-at.result.0 c.place-at.result.1) c.self.invariant.counts_are c.place-at.ensures in
     let few = ap length c.lists-lists.ensures.lists in
     let low = c.if-index-lists.false in
-    let whole = tour_length (sets_of c.self.inside.table.variables) c.self.inside.table.lists c.self.inside.later.counts c.self.invariant.counts_are in
-    let seen = ap (λ (s : Toured). length s.formula.clauses) c.self.view_is in
+    let whole = clauses_length (sets_of c.self.inside.table.variables) c.self.inside.table.lists c.self.inside.later.counts c.self.invariant.counts_are in
+    let seen = ap (λ (s : TorusView). length s.formula.clauses) c.self.view_is in
     let high = c.requires.number.1 in
     let some = c.requires.number.0 in
     let counted = later_counted sets in
@@ -100,15 +100,15 @@ written g c =
     let second : c.index-second.result.now ≡ get_or (all_later (sets_of c.self.inside.table.variables)) (c.args.number - 1 - length c.lists-lists.result.now) 0 =
     get_or_read c.self.inside.later.numbers.items place c.index-second.result.now less c.index-second.ensures 0 ∙ ap (λ (ns : List ℕ). get_or ns (c.args.number - 1 - length c.lists-lists.result.now) 0) c.self.invariant.numbers_are in
     let pair = pair_at sets place c.place-at.result.0 c.place-at.result.1 falls (get_or (all_later sets) place 0) (number_later sets place c.place-at.result.0 c.place-at.result.1 falls) (number_last sets place c.place-at.result.0 c.place-at.result.1 falls) (number_at sets place c.place-at.result.0 c.place-at.result.1 falls) in
-    let at : numbered (tour_clauses (sets_of c.self.inside.table.variables) c.self.inside.table.lists) c.args.number ≡ pair_clause (c.place-at.result.0 + 1) c.index-second.result.now =
+    let at : numbered (table_clauses (sets_of c.self.inside.table.variables) c.self.inside.table.lists) c.args.number ≡ pair_clause (c.place-at.result.0 + 1) c.index-second.result.now =
     pair_numbered sets lists c.args.number place c.requires.number.0 (omega arith) (omega arith) ∙ pair ∙ ap (pair_clause (c.place-at.result.0 + 1)) (sym second) in
     let made : c.minus.result ∷ c.minus-2.result ∷ [] ≡ pair_clause (c.place-at.result.0 + 1) c.index-second.result.now = λ i. c.minus.ensures i ∷ c.minus-2.ensures i ∷ [] in
-    made ∙ sym at ∙ ap (λ (s : Toured). numbered s.formula.clauses c.args.number) c.self.view_is
+    made ∙ sym at ∙ ap (λ (s : TorusView). numbered s.formula.clauses c.args.number) c.self.view_is
 
 pub left_in-requires : goal.left_in-requires
 left_in-requires g c =
     let clauses = c.args.self.now.formula.clauses in
-    let form : AreClauses c.args.self.now.formula.vars c.args.self.now.formula.clauses = subst (λ (s : Toured). AreClauses s.formula.vars s.formula.clauses) c.self.view_is (tour_form_of c.self.inside.table.variables c.self.inside.table.lists c.lists-lists.ensures.numbers) in
+    let form : AreClauses c.args.self.now.formula.vars c.args.self.now.formula.clauses = subst (λ (s : TorusView). AreClauses s.formula.vars s.formula.clauses) c.self.view_is (clauses_form_of c.self.inside.table.variables c.self.inside.table.lists c.lists-lists.ensures.numbers) in
     let some = c.requires.number.0 in
     let high = c.requires.number.1 in
     let one : IsClause c.args.self.now.formula.vars (numbered c.args.self.now.formula.clauses c.args.number) = All-get_or (IsClause c.args.self.now.formula.vars) clauses (c.args.number - 1) [] (omega arith) form in

@@ -12,20 +12,20 @@ use Rattle.heesch_tori.specs.Later.{all_later, later_counts}
 use Rattle.heesch_tori.specs.Shared.{Tabled}
 
 -- of each cell one of the variables that have it, which stand in a list, and of each two sets that share a cell not both
-unfoldable pub tour_clauses : List (List Cell) → List (List ℕ) → List (List Lit)
-tour_clauses sets lists = map plus_all lists ++ exclusion_clauses literals meet sets
+unfoldable pub table_clauses : List (List Cell) → List (List ℕ) → List (List Lit)
+table_clauses sets lists = map plus_all lists ++ exclusion_clauses literals meet sets
 
 -- what contracts see of a source: the variables, and the formula over them
-pub record Toured : Type 0 where
+pub record TorusView : Type 0 where
   pub variables : List TorusVariable
   pub formula : Clauses
 
 -- the source of these variables and of the lists of the cells
-abbrev pub toured : List TorusVariable → List (List ℕ) → Toured
-toured variables lists = record { variables = variables; formula = record { vars = length variables; clauses = tour_clauses (sets_of variables) lists } }
+abbrev pub torus_view : List TorusVariable → List (List ℕ) → TorusView
+torus_view variables lists = record { variables = variables; formula = record { vars = length variables; clauses = table_clauses (sets_of variables) lists } }
 
 -- the counts and the numbers are those of the pairs of the table's variables, of which there are at most so many
-pub record IsTour (table : Tabled) (counts numbers : List ℕ) : Type 0 where
+pub record ListsPairs (table : Tabled) (counts numbers : List ℕ) : Type 0 where
   pub counts_are : counts ≡ later_counts (sets_of table.variables)
   pub numbers_are : numbers ≡ all_later (sets_of table.variables)
   pub few : sum counts ≤ 4608 * 4608
