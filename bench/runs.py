@@ -21,7 +21,7 @@ import sys
 MOST = 2_000_000_000  # the bytes of evidence that tools/run keeps by default
 LEAST_LISTED = 2  # the least Heesch number whose shapes are listed
 GRIDS = ('square', 'hex', 'iamond', 'kite')
-SMALL = {'square': 7, 'hex': 6, 'iamond': 8, 'kite': 4}  # sizes up to which catalogues/ has the catalogue
+SMALL = {'square': 7, 'hex': 5, 'iamond': 8, 'kite': 4}  # sizes up to which catalogues/ has the catalogue
 PAGES = ('square 8', 'hex 6', 'iamond 9', 'kite 6')  # sizes of which docs/atlas has a page
 TOP = pathlib.Path(__file__).resolve().parent.parent
 

@@ -5,7 +5,7 @@ from polyforms import commands, grids, texts
 
 DEFAULT = texts.Limits(turns=20_000, levels=3, domain=4, size=60_000_000)  # of the program
 FIRST = {'kite': DEFAULT._replace(domain=6)}  # of 5 or 7 kites no smaller domain exists
-RUNGS = ((6, 4), (8, 4), (12, 5))  # domain and levels of the passes by default, where such domains exist
+RUNGS = ((8, 4), (12, 5))  # domain and levels of the passes by default, where such domains exist
 
 
 def parse(words, before):

@@ -37,10 +37,9 @@ class Ladders(unittest.TestCase):
 
     def test_default_passes(self):
         for grid, size, wanted in (
-                ('square', 9, [(6, 4), (8, 4), (12, 5)]), ('hex', 7, [(6, 4), (8, 4), (12, 5)]),
-                ('iamond', 9, [(6, 4), (8, 4), (12, 5)]), ('kite', 5, [(6, 4), (12, 5)]),
-                ('kite', 7, [(6, 4), (12, 5)]), ('kite', 6, [(6, 4), (8, 4), (12, 5)]),
-                ('kite', 9, [(6, 4), (8, 4), (12, 5)])):
+                ('square', 9, [(8, 4), (12, 5)]), ('hex', 7, [(8, 4), (12, 5)]), ('iamond', 9, [(8, 4), (12, 5)]),
+                ('kite', 5, [(6, 4), (12, 5)]), ('kite', 7, [(6, 4), (12, 5)]), ('kite', 6, [(8, 4), (12, 5)]),
+                ('kite', 9, [(8, 4), (12, 5)])):
             passes = ladder.default_passes(grid, size, ladder.DEFAULT)
             self.assertEqual([(limits.domain, limits.levels) for limits in passes], wanted, (grid, size))
 

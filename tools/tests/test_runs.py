@@ -94,17 +94,19 @@ class Tables(helpers.ToolTest):
         self.assertEqual(RUNS.filled(least, [self.run_of()]).count('\n| '), 2)
 
     def test_publish(self):
-        """Small catalogues are copied, and four sizes get a page; of others nothing is made."""
+        """Catalogues of less than 100 KB are copied, and four sizes get a page; of others nothing is made."""
         for folder in ('catalogues', 'docs/atlas'):
             (self.folder / 'top' / folder).mkdir(parents=True)
         run = self.run_of(size=7)
         RUNS.publish([run], self.folder / 'top')
         self.assertEqual([path for path in (self.folder / 'top').rglob('*') if path.is_file()], [])
-        run = self.run_of(size=6)
-        self.written('catalogue.txt', helpers.read('hex-6.txt'))
-        RUNS.publish([run], self.folder / 'top')
-        self.assertEqual((self.folder / 'top/catalogues/hex-6.txt').read_text(), helpers.read('hex-6.txt'))
+        for size in (5, 6):
+            run = self.run_of(size=size)
+            self.written('catalogue.txt', helpers.read(f'hex-{size}.txt'))
+            RUNS.publish([run], self.folder / 'top')
+        self.assertEqual((self.folder / 'top/catalogues/hex-5.txt').read_text(), helpers.read('hex-5.txt'))
         self.assertIn('polyhexes of 6 cells', (self.folder / 'top/docs/atlas/hex-6.html').read_text().lower())
+        self.assertEqual(len([path for path in (self.folder / 'top').rglob('*') if path.is_file()]), 2)
 
 
 if __name__ == '__main__':
