@@ -145,24 +145,20 @@ read_is_good one readable header before block e text can good =
     let same : good.record_is ≡ e = one good.record_is e (good_readable readable header before good.record_is good.good) can (sym good.text ∙ text) in
     subst (IsGoodRecord header before) same good.good
 
--- a record that was read is good where its shape is in its place, it is true, and its answer is allowed
-pub read_tells : TextsDetermineRecords → TrueRecordsAreReadable → (g : Geometry) (header : Header) → geometry_of header.grid ≡ g → (before : ℕ) (block : List ℕ) (e : OuterEntry) → block ≡ record_text e → IsReadableRecord e
-    → IsInPlace g header.subject before e.entry.cells → (IsTrueEntry g header.limits e.entry × IsOuterAnswer g header.limits e.entry e.answer) ↔ IsGoodBlock header before block
-read_tells one readable g header same before block e text can place = (
+-- so it tells whether the block is that of a good one
+pub read_tells : TextsDetermineRecords → TrueRecordsAreReadable → (header : Header) (before : ℕ) (block : List ℕ) (e : OuterEntry) → block ≡ record_text e → IsReadableRecord e → IsGoodRecord header before e ↔ IsGoodBlock header before block
+read_tells one readable header before block e text can = (λ good. record { record_is = e; good = good; text = text }, λ good. read_is_good one readable header before block e text can good)
+
+-- a record that can be read is good where its shape is in its place, it is true, and its answer is allowed
+pub parts_tell : (g : Geometry) (header : Header) → geometry_of header.grid ≡ g → (before : ℕ) (e : OuterEntry) → IsReadableRecord e → IsInPlace g header.subject before e.entry.cells
+    → (IsTrueEntry g header.limits e.entry × IsOuterAnswer g header.limits e.entry e.answer) ↔ IsGoodRecord header before e
+parts_tell g header same before e can place = (
   λ h. record {
-    record_is = e;
-    good = record {
-      is_true = subst (λ (x : Geometry). IsTrueEntry x header.limits e.entry) (sym same) h.0;
-      in_place = subst (λ (x : Geometry). IsInPlace x header.subject before e.entry.cells) (sym same) place;
-      is_answer = subst (λ (x : Geometry). IsOuterAnswer x header.limits e.entry e.answer) (sym same) h.1;
-      entry_forms = can.entry_forms;
-      answer_forms = can.answer_forms;
-    };
-    text = text;
+    is_true = subst (λ (x : Geometry). IsTrueEntry x header.limits e.entry) (sym same) h.0;
+    in_place = subst (λ (x : Geometry). IsInPlace x header.subject before e.entry.cells) (sym same) place;
+    is_answer = subst (λ (x : Geometry). IsOuterAnswer x header.limits e.entry e.answer) (sym same) h.1;
+    entry_forms = can.entry_forms;
+    answer_forms = can.answer_forms;
   },
-  λ good.
-  let is = read_is_good one readable header before block e text can good in (
-    subst (λ (x : Geometry). IsTrueEntry x header.limits e.entry) same is.is_true,
-    subst (λ (x : Geometry). IsOuterAnswer x header.limits e.entry e.answer) same is.is_answer,
-  ),
+  λ good. (subst (λ (x : Geometry). IsTrueEntry x header.limits e.entry) same good.is_true, subst (λ (x : Geometry). IsOuterAnswer x header.limits e.entry e.answer) same good.is_answer),
 )

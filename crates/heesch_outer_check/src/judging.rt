@@ -5,7 +5,7 @@ ghost use Rattle.heesch_cert.specs.TrueEntry.{IsTrueEntry};
 ghost use Rattle.heesch_check.specs.Catalogues.{IsInPlace};
 ghost use Rattle.heesch_grid.specs.Names.{geometry_of};
 ghost use Rattle.heesch_outer.specs.Answer.{IsOuterAnswer};
-ghost use Rattle.heesch_outer_check.specs.Records.{IsGoodBlock};
+ghost use Rattle.heesch_outer_check.specs.Records.{IsGoodBlock, IsGoodRecord};
 ghost use Rattle.heesch_outer_check.specs.Rounds.{AreListed};
 ghost use Rattle.heesch_record.specs.Records.{IsReadableRecord};
 
@@ -74,8 +74,29 @@ fn is_right<G: Grid, R: Threads + Sync>(
     }
 }
 
-/// Whether the block is the text of a good record behind so many. The place of its shape is looked at before the entry
-/// is audited, and its answer is checked last.
+/// Whether a record that was read is good behind so many. The place of its shape is looked at before the entry is
+/// audited, and its answer is checked last.
+fn is_good_read<G: Grid, R: Threads + Sync>(
+    rt: &R,
+    alloc: Global,
+    header: &Header,
+    shapes: &[Shape<G>],
+    before: u32,
+    found: &OuterEntry,
+) -> Result<bool, NoMemory>
+    requires grid { geometry_of header.now.grid ≡ G.geometry }
+    requires limits { AreLimits header.now.limits }
+    requires shapes { AreListed G.geometry header.now.subject shapes.now }
+    requires readable { IsReadableRecord found.now }
+    ensures { IfOk result (λ yes. IsTrue yes ↔ IsGoodRecord header.now before found.now) }
+{
+    if !is_in_place(header.subject, shapes, before, found.entry.cells.as_slice()) {
+        return Ok(false);
+    }
+    is_right::<G, R>(rt, alloc, header.limits, found)
+}
+
+/// Whether the block is the text of a good record behind so many.
 pub(crate) fn is_good<G: Grid, R: Threads + Sync>(
     rt: &R,
     alloc: Global,
@@ -89,11 +110,9 @@ pub(crate) fn is_good<G: Grid, R: Threads + Sync>(
     requires shapes { AreListed G.geometry header.now.subject shapes.now }
     ensures { IfOk result (λ yes. IsTrue yes ↔ IsGoodBlock header.now before block.now) }
 {
-    let Some(found) = read_record(alloc, block)? else {
-        return Ok(false);
-    };
-    if !is_in_place(header.subject, shapes, before, found.entry.cells.as_slice()) {
-        return Ok(false);
+    let read = read_record(alloc, block)?;
+    match read {
+        None => Ok(false),
+        Some(found) => is_good_read::<G, R>(rt, alloc, header, shapes, before, &found),
     }
-    is_right::<G, R>(rt, alloc, header.limits, &found)
 }

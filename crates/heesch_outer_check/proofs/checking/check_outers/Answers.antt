@@ -7,4 +7,4 @@ use Rattle.heesch_outer_check.proofs.checking.check_outers.Goals as goal
 pub returns-then-input-gt-INPUT_MAX : goal.returns-then-input-gt-INPUT_MAX
 returns-then-input-gt-INPUT_MAX g c =
     let input = c.args.input.now in
-    subst (IsTooLong input) (ap (λ n. n + 1) (sym (c.newlines.ensures ∙ ap newlines c.up_to_place.ensures))) (too_long input (omega (arith, c.if-input-gt-INPUT_MAX.true, c.len.ensures)))
+    subst (IsTooLong input) (ap (λ n. n + 1) (sym (c.newlines-line.ensures ∙ ap newlines c.up_to_place.ensures))) (too_long input (omega (arith, c.if-input-gt-INPUT_MAX.true)))

@@ -8,6 +8,6 @@ returns-clause-answers g c =
     let a = c.args in
     let job = c.new-job.ensures.0 in
     if_both c.run_span.result
-    (λ answers many each. answers_of_numbers a.header.now a.before a.blocks.now answers.items (omega (arith, many, answers.ok.0, c.len.ensures))
+    (λ answers many each. answers_of_numbers a.header.now a.before a.blocks.now answers.items (omega (arith, many, answers.ok.0))
     (ap (λ w. w.header) job) (ap (λ w. w.blocks.now) job) (ap (λ w. w.first) job) each)
     c.run_span.ensures.len c.run_span.ensures.answers
