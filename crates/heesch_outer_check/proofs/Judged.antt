@@ -19,8 +19,8 @@ answers_from header before (block ∷ blocks) (holds ∷ told) many each =
     let here : before + 0 ≡ before = omega arith in (
       subst (λ (n : ℕ). IsTrue holds ↔ IsGoodBlock header n block) here (each 0 holds refl block refl),
       answers_from header (before + 1) blocks told (omega (arith, many)) (λ i h at b is.
-      let further : before + suc i ≡ (before + 1) + i = omega arith in
-      subst (λ (n : ℕ). IsTrue h ↔ IsGoodBlock header n b) further (each (suc i) h at b is)),
+          let further : before + suc i ≡ (before + 1) + i = omega arith in
+          subst (λ (n : ℕ). IsTrue h ↔ IsGoodBlock header n b) further (each (suc i) h at b is)),
     )
 
 -- where all answers say so, the blocks are good records

@@ -23,12 +23,7 @@ use std::thread::Threads;
 pub(crate) const GIVEN_MAX: u32 = 10_000;
 
 /// Whether a shape of these cells may stand behind so many records.
-fn is_in_place<G: Grid>(
-    subject: Subject,
-    shapes: &[Shape<G>],
-    before: u32,
-    cells: &[Cell],
-) -> bool
+fn is_in_place<G: Grid>(subject: Subject, shapes: &[Shape<G>], before: u32, cells: &[Cell]) -> bool
     requires { AreListed G.geometry subject shapes.now }
     ensures { IsTrue result ↔ IsInPlace G.geometry subject before cells.now }
 {

@@ -10,8 +10,8 @@ returns-then-not-is_in_place g c =
     let fails : c.is_in_place.result ≡ false = search rules in (
       λ h. absurd (true≢false (sym h)),
       λ good.
-      let place = subst (λ x. IsInPlace x a.header.now.subject a.before a.found.now.entry.cells) c.requires.grid good.in_place in
-      absurd (true≢false (sym (c.is_in_place.ensures.1 (subst (λ cs. IsInPlace g.G.Grid.geometry a.header.now.subject a.before cs) (sym c.as_slice.ensures) place)) ∙ fails)),
+          let place = subst (λ x. IsInPlace x a.header.now.subject a.before a.found.now.entry.cells) c.requires.grid good.in_place in
+          absurd (true≢false (sym (c.is_in_place.ensures.1 (subst (λ cs. IsInPlace g.G.Grid.geometry a.header.now.subject a.before cs) (sym c.as_slice.ensures) place)) ∙ fails)),
     )
 
 pub returns : goal.returns
