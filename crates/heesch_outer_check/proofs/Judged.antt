@@ -4,7 +4,6 @@ use Rattle.std.specs.Prelude.{IfOk, Result, Ok, Err, Some, slice_get}
 use Rattle.std.specs.List.{position_or_len}
 use Rattle.std.proofs.lemmas.Bool.{false≢true}
 use Rattle.heesch_cert.specs.declared.header.Header.{Header}
-use Rattle.heesch_check.specs.declared.answers.Checked.TheVariants as answers
 use Rattle.heesch_check.specs.Catalogues.{behind_block}
 use Rattle.heesch_outer_check.specs.Records.{IsGoodBlock}
 use Rattle.heesch_outer_check.specs.Rounds.{AreBlocks, AreAnswers, IsBlockAnswer, AreGood, AreGoodUpTo}

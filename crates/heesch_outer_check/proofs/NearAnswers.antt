@@ -1,5 +1,5 @@
 -- The answer of a record that can be read lies near 0.
-use Rattle.std.proofs.Common.{ℕ, zero, suc, List, [], ◌∷◌, ◌++◌, map, All, arith}
+use Rattle.std.proofs.Common.{zero, suc, List, [], ◌∷◌, ◌++◌, map, All, arith}
 use Rattle.std.specs.List.{AllByRecursion}
 use Rattle.heesch_grid.specs.declared.isometries.Iso.{Iso}
 use Rattle.heesch_grid.specs.Vectors.{IsWithin}

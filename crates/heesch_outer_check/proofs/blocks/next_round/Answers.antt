@@ -1,4 +1,4 @@
-use Rattle.std.proofs.Common.{◌++◌, [], ◌∷◌, ◌∙◌, ◌+◌, ap, arith, drop, length, length-append, subst, sym}
+use Rattle.std.proofs.Common.{[], ◌∷◌, ◌∙◌, ◌+◌, ap, arith, drop, length, length-append, subst, sym}
 use Rattle.heesch_outer_check.specs.Rounds.{AreBlocks}
 use Rattle.heesch_outer_check.proofs.Cutting.{next_block}
 use Rattle.heesch_outer_check.proofs.Parts.{further_within}

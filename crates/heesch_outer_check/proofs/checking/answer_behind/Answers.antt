@@ -1,4 +1,4 @@
-use Rattle.std.proofs.Common.{◌∙◌, refl, rules, sym}
+use Rattle.std.proofs.Common.{◌∙◌, rules, sym}
 use Rattle.heesch_outer_check.proofs.Places.{no_more}
 use Rattle.heesch_outer_check.proofs.checking.answer_behind.Goals as goal
 

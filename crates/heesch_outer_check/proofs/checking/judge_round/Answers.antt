@@ -1,4 +1,4 @@
-use Rattle.std.proofs.Common.{◌+◌, ap, length, arith}
+use Rattle.std.proofs.Common.{ap, length, arith}
 use Rattle.heesch_outer_check.proofs.Judged.{bad_round, good_round}
 use Rattle.heesch_outer_check.proofs.checking.judge_round.Goals as goal
 

@@ -1,5 +1,4 @@
-use Rattle.std.proofs.Common.{◌≡◌, ◌↔◌, ◌∙◌, ◌+◌, ◌-◌, ℕ, List, IsTrue, ap, arith, length, subst, sym}
-use Rattle.std.specs.Prelude.{vec_len}
+use Rattle.std.proofs.Common.{ap, arith}
 use Rattle.heesch_outer_check.proofs.Judged.{answers_of_numbers, if_both}
 use Rattle.heesch_outer_check.proofs.rounds.judged.Goals as goal
 
