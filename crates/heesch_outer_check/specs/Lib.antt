@@ -1,0 +1,4 @@
+pub mod Records
+pub mod Answers
+pub mod Rounds
+pub mod Statements
