@@ -50,14 +50,14 @@ run_example() { # the lines of $work/block: commands, each with what it has to p
 run_pictures() { # the lines of $work/block: commands that write pictures
   local picture
   run "$(cat "$work/block")"
-  grep -o "docs/[a-z]*\.svg" "$work/block" > "$work/pictures"
+  grep -o "docs/[a-z-]*\.svg" "$work/block" > "$work/pictures"
   while read -r picture; do judge "$picture" "$top/$picture" "$folder/$picture"; done < "$work/pictures"
 }
 
 run_block() {
   if grep -q '^\$ ' "$work/block"; then
     run_example
-  elif grep -q '> docs/[a-z]*\.svg' "$work/block"; then
+  elif grep -q '> docs/[a-z-]*\.svg' "$work/block"; then
     run_pictures
   fi
 }

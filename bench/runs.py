@@ -170,7 +170,7 @@ def agreement(run, figures):
     is_same = (holed in ('', run.tally['holed'])) and 0 <= more <= left and (left > 0 or told in ({}, ours))
     if not is_same:
         return '**no**'
-    return f'yes, where {more} of the {left} undecided do not tile' if left else 'yes'
+    return f'yes, if {more} of {left} undecided do not tile' if left else 'yes'
 
 
 def with_published(runs):

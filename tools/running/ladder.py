@@ -6,6 +6,7 @@ from polyforms import commands, grids, texts
 DEFAULT = texts.Limits(turns=20_000, levels=3, domain=4, size=60_000_000)  # of the program
 FIRST = {'kite': DEFAULT._replace(domain=6)}  # of 5 or 7 kites no smaller domain exists
 RUNGS = ((8, 4), (12, 5))  # domain and levels of the passes by default, where such domains exist
+PASS_TURNS = 200_000  # of these passes: a polyhex of 7 cells needs 22,340 at level 4
 
 
 def parse(words, before):
@@ -46,7 +47,7 @@ def default_passes(grid, size, first):
     for domain, levels in RUNGS:
         before = ladder[-1] if ladder else first
         limits = before._replace(domain=max(before.domain, greatest_domain(grid, size, domain)),
-                                 levels=max(before.levels, levels))
+                                 levels=max(before.levels, levels), turns=max(before.turns, PASS_TURNS))
         if limits != before:
             ladder.append(limits)
     return ladder

@@ -42,6 +42,7 @@ class Ladders(unittest.TestCase):
                 ('kite', 9, [(8, 4), (12, 5)])):
             passes = ladder.default_passes(grid, size, ladder.DEFAULT)
             self.assertEqual([(limits.domain, limits.levels) for limits in passes], wanted, (grid, size))
+            self.assertEqual({limits.turns for limits in passes}, {200_000})
 
     def test_first_limits(self):
         """A pass of the first limits has a domain that exists, for each size of kites too."""
