@@ -18,10 +18,10 @@ import shutil
 import subprocess
 import sys
 
-MOST = 2_000_000_000  # the bytes of evidence that tools/run keeps by default
+MOST = 200_000_000  # the bytes of evidence that tools/run keeps by default
 LEAST_LISTED = 2  # the least Heesch number whose shapes are listed
 GRIDS = ('square', 'hex', 'iamond', 'kite')
-SMALL = {'square': 7, 'hex': 5, 'iamond': 8, 'kite': 4}  # sizes up to which catalogues/ has the catalogue
+SMALL = {'square': 7, 'hex': 6, 'iamond': 8, 'kite': 4}  # sizes up to which catalogues/ has the catalogue
 PAGES = ('square 8', 'hex 6', 'iamond 9', 'kite 6')  # sizes of which docs/atlas has a page
 TOP = pathlib.Path(__file__).resolve().parent.parent
 
@@ -108,6 +108,10 @@ class Run:
         most = int(most[1] or most[2])
         return f'tools/run {self.name}' + f' --most {most}' * (most != MOST) + ' --outer' * bool(self.outer())
 
+    def seconds(self):
+        """The time of all stages by the clock."""
+        return f'{sum(float(row["Seconds"]) for row in self.rows("Stage") if "Seconds" in row):.1f}'
+
     def times(self):
         """What the program took, then its `check` alone, and then the tools: processor seconds, and MB at most."""
         rows = [row for row in self.rows('Stage') if row.get('Processor seconds')]
@@ -157,7 +161,7 @@ def published():
         is_there = line == '## Published figures' if line.startswith('## ') else is_there
         row = cells(line)
         if is_there and row and re.fullmatch('[a-z]+ [0-9]+', row[0]):
-            figures[row[0]] = row[1:]
+            figures[row[0]] = row[1:6]
     return figures
 
 
@@ -171,6 +175,15 @@ def agreement(run, figures):
     if not is_same:
         return '**no**'
     return f'yes, if {more} of {left} undecided do not tile' if left else 'yes'
+
+
+def beside_published(runs):
+    """The published figures as they stand, and behind those of a size that ran whether ours agree."""
+    by_size = {run.name: run for run in runs}
+    rows = [[f'`{name}`', *figures, agreement(by_size[name], figures) if name in by_size else 'no run']
+            for name, figures in published().items()]
+    return table(['Size', 'Myers: with a hole', "Myers: don't tile, without a hole", 'Kaplan: Hc 0', 'Hc 1', 'Hc 2',
+                  'Ours agree'], rows)
 
 
 def with_published(runs):
@@ -227,18 +240,18 @@ def program_of(runs):
 def stages(runs):
     rows = []
     for run in runs:
-        took = [f'`{run.command()}`', '; '.join(run.limits()), *run.times()]
+        took = [f'`{run.command()}`', '; '.join(run.limits()), run.seconds(), *run.times()]
         for file in run.rows('File'):
             is_empty = int(file['Bytes']) <= len('end 0\n')
             if file['File'].split('.')[0].split('-')[0] in ('catalogue', 'given', 'outer') and not is_empty:
                 said = f'`{file["heesch check"]}`' if file['heesch check'] else ''
                 rows.append([*took, file['File'], file['Bytes'], f'`{file["sha256"]}`', said])
                 took = [''] * len(took)
-    return table(['Command', 'Limits of the shares and of each pass', 'Processor seconds', 'MB', '`check`: seconds',
-                  'MB', 'Tools: seconds', 'MB', 'File', 'Bytes', 'sha256', '`heesch check`'], rows)
+    return table(['Command', 'Limits of the shares and of each pass', 'Seconds', 'Processor seconds', 'MB',
+                  '`check`: seconds', 'MB', 'Tools: seconds', 'MB', 'File', 'Bytes', 'sha256', '`heesch check`'], rows)
 
 
-TABLES = {'published': with_published, 'verdicts': verdicts, 'open': left_open, 'largest': largest, 'runs': stages,
+TABLES = {'published': with_published, 'agreement': beside_published, 'verdicts': verdicts, 'open': left_open, 'largest': largest, 'runs': stages,
           'program': program_of}
 MARK = re.compile('<!-- bench/runs.py ([a-z]+)(?: from ([a-z0-9, ]+))? -->')
 

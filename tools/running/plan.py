@@ -15,7 +15,7 @@ FEW_SHAPES = 1000  # up to so many no time is taken
 SAMPLED = 50  # shapes whose time tells how long a share takes
 SHARE_SECONDS = 180  # that a share should take
 SHARES_OF_JOB = 4  # at least, so that the jobs end at about one time
-MOST_BYTES = 2_000_000_000
+MOST_BYTES = 200_000_000  # of the evidence of undecided shapes that is kept of a pass
 
 
 @dataclasses.dataclass(frozen=True)

@@ -32,21 +32,25 @@ class Report:
         self._passes = [self._folder.recorded(f'pass-{number}') for number in range(1, self._merged['passes'] + 1)]
         with open(self._folder.left(self._merged['passes']), encoding='ascii') as file:
             self._notable = Notable(set(file.read().splitlines()))
-        self._left = self._notable.open
+        self._left, self._sums = self._notable.open, {}
 
     def write(self):
         """Writes the tables, the sums and the README."""
         for name in self._run.catalogues():
-            self._notable.look(self._folder.file(name))
+            self._run.timed('notable shapes', self._notable.look, self._folder.file(name))
         self._write_undecided()
         for name, form in ((TALLY, '--csv'), ('tally.tex', '--latex')):
             self._run.timed('tally', self._write_tally, name, form)
         shutil.copyfile(os.path.join(program.repository(), CITATION), self._folder.file(CITATION))
+        self._run.timed('sums', self._write_sums)
+        write_whole(self._folder.file(README), self._readme())
+
+    def _write_sums(self):
+        """Writes the sums of all that is made but the README, which has them too."""
         summed = [name for name in self._folder.made() if name not in (README, SUMS)]
-        sums = {name: program.sum_of(self._folder.file(name)) for name in summed}
-        write_whole(self._folder.file(SUMS), ''.join(f'{total}  {name}\n' for name, total in sums.items()))
-        sums[SUMS] = program.sum_of(self._folder.file(SUMS))
-        write_whole(self._folder.file(README), self._readme(sums))
+        self._sums = {name: program.sum_of(self._folder.file(name)) for name in summed}
+        write_whole(self._folder.file(SUMS), ''.join(f'{total}  {name}\n' for name, total in self._sums.items()))
+        self._sums[SUMS] = program.sum_of(self._folder.file(SUMS))
 
     def _write_tally(self, name, form):
         """Writes a table of the counts; answers what that took."""
@@ -62,13 +66,13 @@ class Report:
 
     # ---- the README
 
-    def _readme(self, sums):
+    def _readme(self):
         parts = [f'# The catalogue of {self._plan.name}', self._about(),
                  '## Counts', self._counts(),
                  '## Largest Heesch number', self._largest(),
                  '## Undecided', self._undecided(),
                  '## How it was made', self._making(), self._passes_table(), self._times_table(),
-                 '## Files', self._files_table(sums), f'To check them: `sha256sum -c {SUMS}`, and of each catalogue '
+                 '## Files', self._files_table(), f'To check them: `sha256sum -c {SUMS}`, and of each catalogue '
                  f'`heesch check < {CATALOGUE}`.',
                  '## To cite', f'{CITATION} has how to cite the program and the two publications. Cite this folder by '
                  f'the sha256 of {CATALOGUE}.',
@@ -125,9 +129,9 @@ class Report:
 
     def _making(self):
         return (f'By `{self._plan.command}`, which goes on where it was ended, with the program of the sha256 '
-                f'`{self._plan.program}`{self._of_commit()}, on a machine with '
-                f'{os.cpu_count()} processors. The texts are the same in any number of shares, and by any number of '
-                'processes.')
+                f'`{self._plan.program}`{self._of_commit()}, by up to {self._run.jobs} processes at once, on a machine '
+                f'with {os.cpu_count()} processors. The texts are the same in any number of shares, and by any number '
+                'of processes. "Seconds" are those by the clock in which a process of the stage was at work.')
 
     def _of_commit(self):
         return f' of the commit `{self._plan.commit}`' if self._plan.commit else ''
@@ -144,7 +148,8 @@ class Report:
         return _table(['Stage', 'Limits', 'Shapes', 'Decided', 'Undecided', 'Bytes of undecided shapes'], rows)
 
     def _times_table(self):
-        """What the stages took: their processes, processor seconds, the longest, peak memory, begin and end."""
+        """What the stages took: their processes, seconds by the clock while one was at work and of the processors, the
+        longest process, peak memory, begin and end."""
         stages = {}
         for line in self._folder.journal():
             stages.setdefault(line['stage'], []).append(line)
@@ -153,17 +158,26 @@ class Report:
             begun, ended = (line['begun'] for line in lines), (line['begun'] + line['seconds'] for line in lines)
             peaks = [line['peak'] for line in lines if 'peak' in line]
             seconds = sum(line.get('processor', 0) for line in lines)
-            rows.append([stage, len(lines), f'{seconds:.1f}' if peaks else '',
+            rows.append([stage, len(lines), f'{seconds_at_work(lines):.1f}', f'{seconds:.1f}' if peaks else '',
                          duration(max(line['seconds'] for line in lines)),
                          f'{max(peaks) / 1e6:.0f}' if peaks else '', _clock(min(begun)), _clock(max(ended))])
-        return _table(['Stage', 'Processes', 'Processor seconds', 'Longest', 'Peak MB of one', 'Begun (UTC)',
+        return _table(['Stage', 'Processes', 'Seconds', 'Processor seconds', 'Longest', 'Peak MB of one', 'Begun (UTC)',
                        'Ended (UTC)'], rows)
 
-    def _files_table(self, sums):
+    def _files_table(self):
         checked = self._folder.recorded('check')
         rows = [[name, _contents(name), os.path.getsize(self._folder.file(name)), f'`{total}`',
-                 f'`{checked[name]}`' if name in checked else ''] for name, total in sums.items()]
+                 f'`{checked[name]}`' if name in checked else ''] for name, total in self._sums.items()]
         return _table(['File', 'Has', 'Bytes', 'sha256', '`heesch check`'], rows)
+
+
+def seconds_at_work(lines):
+    """The seconds by the clock in which a process of these lines of the journal was at work."""
+    total = end = 0.0
+    for begun, ended in sorted((line['begun'], line['begun'] + line['seconds']) for line in lines):
+        total += max(0.0, ended - max(begun, end))
+        end = max(end, ended)
+    return total
 
 
 def _contents(name):

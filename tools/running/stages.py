@@ -206,7 +206,7 @@ class Run:
         if os.path.exists(self.folder.file(OUTER)):
             return
         if not os.path.exists(self.folder.work(NONTILERS)):
-            self._list_nontilers()
+            self.timed('shapes for the outer numbers', self._list_nontilers)
         sizes = self._cut_list(self.folder.work(NONTILERS), 'outer')
         limits = self.plan.outer_limits(self.folder.recorded('merge')['passes'])
         words = ['outer', self.plan.grid, 'given', *ladder.options(limits)]

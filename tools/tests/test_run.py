@@ -19,6 +19,7 @@ from running import cluster, joins, ladder
 from running.notable import Notable, known, table_text
 from running.parts import Evidence, NotWhole, PassText, ShareText
 from running.progress import Progress, duration
+from running.report import seconds_at_work
 
 SHARES = [data('kite-4-share-1.txt'), data('kite-4-share-2.txt')]
 MOMENTS = ['work/plan.json', 'work/shares/0002.txt', 'work/shares/0006.txt', 'work/first.txt',
@@ -291,6 +292,11 @@ class Words(ToolTest):
         live = self.progress(True, moments)
         self.assertEqual((live.count('\r\x1b[K'), live.count('\n')), (5, 1))
 
+    def test_seconds_at_work(self):
+        """Processes side by side count once, and the time between two calls of the tool not at all."""
+        lines = [{'begun': begun, 'seconds': seconds} for begun, seconds in ((100, 8), (5, 3), (6, 5), (6, 1))]
+        self.assertEqual(seconds_at_work(lines), 14)
+
     def test_durations(self):
         self.assertEqual([duration(seconds) for seconds in (1.26, 59.4, 61, 3600, 90000)],
                          ['1.3 s', '59 s', '1 min 1 s', '1 h 0 min', '25 h 0 min'])
@@ -334,7 +340,7 @@ class Runs(ToolTest):
         self.assertNotIn('undecided.txt', files)
         readme = (self.folder / 'whole' / 'README.md').read_text()
         for part in ('`valid 10`', '## Undecided\n\nNone.', '| pass 1 |', 'The owner of this folder states a licence',
-                     ' of the commit `abc123`, on a machine', '| catalogue.txt | the catalogue |'):
+                     ' of the commit `abc123`, by up to 4 processes at once, on a machine', '| catalogue.txt | the catalogue |'):
             self.assertIn(part, readme)
         told = subprocess.run(['sha256sum', '--quiet', '-c', 'SHA256SUMS'], cwd=self.folder / 'whole', check=False)
         self.assertEqual(told.returncode, 0)

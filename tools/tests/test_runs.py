@@ -12,7 +12,7 @@ HEADS = ('file,grid,size,shapes,holed,translation,halfturn,periodic,one_class,he
          'undecided_levels,undecided_holes,undecided_turns,undecided_size')
 README = '''# The catalogue of hex 7
 
-with the program of the sha256 `{sum}` of the commit `abc`, .. --most 2000000000 ..
+with the program of the sha256 `{sum}` of the commit `abc`, .. --most 200000000 ..
 
 | Heesch number | Cells |
 | --- | --- |
@@ -24,12 +24,12 @@ with the program of the sha256 `{sum}` of the commit `abc`, .. --most 2000000000
 | shares | `turns 20000 levels 3 domain 4 size 60000000` | 9 | 5 | 4 |  |
 | pass 1 | `turns 20000 levels 4 domain 6 size 60000000` | 4 | 2 | 2 | 77 |
 
-| Stage | Processes | Processor seconds | Longest | Peak MB of one | Begun (UTC) | Ended (UTC) |
-| --- | --- | --- | --- | --- | --- | --- |
-| shares | 2 | 1.5 | 1.0 s | 30 | x | x |
-| merge | 1 | 0.2 | 0.2 s | 20 | x | x |
-| check of catalogue.txt | 1 | 0.5 | 0.5 s | 40 | x | x |
-| join of pass 1 | 1 |  | 0.0 s |  | x | x |
+| Stage | Processes | Seconds | Processor seconds | Longest | Peak MB of one | Begun (UTC) | Ended (UTC) |
+| --- | --- | --- | --- | --- | --- | --- | --- |
+| shares | 2 | 3.0 | 1.5 | 1.0 s | 30 | x | x |
+| merge | 1 | 0.3 | 0.2 | 0.2 s | 20 | x | x |
+| check of catalogue.txt | 1 | 1.2 | 0.5 | 0.5 s | 40 | x | x |
+| join of pass 1 | 1 | 0.1 |  | 0.0 s |  | x | x |
 
 | File | Has | Bytes | sha256 | `heesch check` |
 | --- | --- | --- | --- | --- |
@@ -69,7 +69,7 @@ class Tables(helpers.ToolTest):
         self.assertEqual(self.rows('largest', run), [['hex 7', '2', '0,0 1,0'], ['hex 7', '2', '3 more']])
         self.assertEqual(self.rows('program', run), [['abc', '0' * 64]])
         self.assertEqual(self.rows('runs', run), [
-            ['tools/run hex 7', 'levels 3 domain 4; levels 4 domain 6', '2.0', '40', '0.5', '40', '0.2', '20',
+            ['tools/run hex 7', 'levels 3 domain 4; levels 4 domain 6', '4.6', '2.0', '40', '0.5', '40', '0.2', '20',
              'catalogue.txt', '1234', '0' * 64, 'valid 9']])
 
     def test_agreement(self):
@@ -94,7 +94,7 @@ class Tables(helpers.ToolTest):
         self.assertEqual(RUNS.filled(least, [self.run_of()]).count('\n| '), 2)
 
     def test_publish(self):
-        """Catalogues of less than 100 KB are copied, and four sizes get a page; of others nothing is made."""
+        """Small catalogues are copied, and four sizes get a page; of others nothing is made."""
         for folder in ('catalogues', 'docs/atlas'):
             (self.folder / 'top' / folder).mkdir(parents=True)
         run = self.run_of(size=7)
@@ -104,9 +104,10 @@ class Tables(helpers.ToolTest):
             run = self.run_of(size=size)
             self.written('catalogue.txt', helpers.read(f'hex-{size}.txt'))
             RUNS.publish([run], self.folder / 'top')
-        self.assertEqual((self.folder / 'top/catalogues/hex-5.txt').read_text(), helpers.read('hex-5.txt'))
+            self.assertEqual((self.folder / f'top/catalogues/hex-{size}.txt').read_text(),
+                             helpers.read(f'hex-{size}.txt'))
         self.assertIn('polyhexes of 6 cells', (self.folder / 'top/docs/atlas/hex-6.html').read_text().lower())
-        self.assertEqual(len([path for path in (self.folder / 'top').rglob('*') if path.is_file()]), 2)
+        self.assertEqual(len([path for path in (self.folder / 'top').rglob('*') if path.is_file()]), 3)
 
 
 if __name__ == '__main__':
