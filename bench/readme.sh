@@ -1,11 +1,12 @@
 #!/usr/bin/env bash
-# Runs the examples of the documents and compares what they print with what stands there: `readme.sh PROGRAM [DOCUMENT]..`,
-# by default README.md, docs/USAGE.md, docs/READING.md and docs/TABLES.md. An example is an indented block with lines `$ COMMAND`; its
-# commands run in their order, all of a document in one new folder that has tools/, with PROGRAM as `heesch`. A block
-# without such lines that writes a file docs/NAME.svg is run too, and the picture is compared with that of docs/.
+# Runs the examples of the documents and compares what they print with what stands there: `readme.sh PROGRAM
+# [DOCUMENT]..`, by default README.md, docs/USAGE.md, docs/READING.md and docs/TABLES.md. An example is an indented block
+# with lines `$ COMMAND`; its commands run in their order, all of a document in one new folder that has tools/, with
+# PROGRAM as `heesch`. A block without such lines that writes a file docs/NAME.svg is run too, and the picture is
+# compared with that of docs/. Other blocks need rt, a cluster or another solver: they are named, and not run.
 # Prints each command that differs, and how many are as they stand; ends with 1 where one differs.
 set -u
-[ $# -ge 1 ] && [ -x "$1" ] || { sed -n 2,6p "$0"; exit 2; }
+[ $# -ge 1 ] && [ -x "$1" ] || { sed -n 2,7p "$0"; exit 2; }
 top=$(cd "$(dirname "$0")/.." && pwd)
 HEESCH=$(readlink -f "$1")
 export HEESCH
@@ -15,7 +16,7 @@ trap 'rm -r "$work"' EXIT
 mkdir "$work/bin"
 ln -s "$HEESCH" "$work/bin/heesch"
 export PATH="$work/bin:$PATH"
-same=0 differ=0
+same=0 differ=0 passed=0
 
 judge() { # WORDS EXPECTED PRINTED
   if cmp -s "$2" "$3"; then
@@ -59,6 +60,9 @@ run_block() {
     run_example
   elif grep -q '> docs/[a-z-]*\.svg' "$work/block"; then
     run_pictures
+  else
+    passed=$((passed + 1))
+    echo "not run: $(head -n 1 "$work/block")"
   fi
 }
 
@@ -80,5 +84,5 @@ run_document() { # NAME
 
 [ $# -gt 0 ] || set -- README.md docs/USAGE.md docs/READING.md docs/TABLES.md
 for document in "$@"; do run_document "$document"; done
-echo "$same as they stand, differ $differ"
+echo "$same as they stand, differ $differ, not run $passed"
 [ "$differ" -eq 0 ]

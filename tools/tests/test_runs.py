@@ -84,6 +84,12 @@ class Tables(helpers.ToolTest):
                                 (['', '3', '1', '2', '0'], '**no**'), (['', '4', '', '', ''], '**no**')):
             self.assertEqual(RUNS.agreement(run, figures), wanted, figures)
 
+    def test_published_figures_stay(self):
+        """The figures of others are as they stood, and only a size that ran is compared."""
+        rows = {name: figures for name, *figures in self.rows('agreement', self.run_of())}
+        self.assertEqual({name: figures[:5] for name, figures in rows.items()}, RUNS.published())
+        self.assertEqual((rows['hex 7'][5:], rows['hex 6'][5:]), (['**no**'], ['no run']))
+
     def test_filled(self):
         """A table behind a mark is made anew, and what stands around it stays."""
         text = 'one\n\n<!-- bench/runs.py program -->\n\n| old |\n|---|\n| row |\n\ntwo\n'
