@@ -4,6 +4,7 @@ import os
 import shutil
 import sys
 import time
+from concurrent import futures
 
 from polyforms import program
 from polyforms.whole import WholeFile, write_whole
@@ -39,8 +40,10 @@ class Report:
         for name in self._run.catalogues():
             self._run.timed('notable shapes', self._notable.look, self._folder.file(name))
         self._write_undecided()
-        for name, form in ((TALLY, '--csv'), ('tally.tex', '--latex')):
-            self._run.timed('tally', self._write_tally, name, form)
+        with futures.ThreadPoolExecutor() as pool:  # two processes, since each of them reads all texts
+            for told in [pool.submit(self._run.timed, 'tally', self._write_tally, name, form)
+                         for name, form in ((TALLY, '--csv'), ('tally.tex', '--latex'))]:
+                told.result()
         shutil.copyfile(os.path.join(program.repository(), CITATION), self._folder.file(CITATION))
         self._run.timed('sums', self._write_sums)
         write_whole(self._folder.file(README), self._readme())
