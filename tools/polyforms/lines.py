@@ -69,11 +69,14 @@ class Order:
         self._free = 0  # the number behind `coronas`
         self._has_heesch_number = False  # whether `hc` stands before `hh`
 
-    def take(self, line):
-        """Takes a line, and answers its first word."""
+    def take(self, line, reads_proofs=True):
+        """Takes a line, and answers its first word. Where proofs aren't read, that word is all that a step has to have.
+
+        Proofs are most of a large text, and their form most of the time that a tool takes over it.
+        """
         word = line.partition(' ')[0]
         form = FORMS.get(word)
-        if form is None or not form.fullmatch(line):
+        if form is None or not (word in STEPS and not reads_proofs or form.fullmatch(line)):
             raise Fault(f'{quoted(line)} is no line of a catalogue')
         if word not in self._next:
             raise Fault(f'`{word}` stands where {self.expected()} has to stand')

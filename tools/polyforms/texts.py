@@ -169,7 +169,7 @@ class Entry:
         """Reads the lines behind the verdict, keeps all but proofs, and answers the entry."""
         if not self._is_read:
             self._is_read = True
-            for line in self.evidence():
+            for line in self._text.lines_of(self, reads_proofs=False):
                 if not line.startswith(lines.STEPS):
                     self._keep(line.split(' '))
         return self
@@ -244,17 +244,17 @@ class Text:
             self.count += 1
             entry = Entry(self, self.count, line, offset, cells, verdict)
             yield entry
-            for _ in self.lines_of(entry):
+            for _ in self.lines_of(entry, reads_proofs=False):
                 pass
         self._take()
         self._refuse_more()
 
-    def lines_of(self, entry):
-        """The lines behind the verdict of the entry that was taken last."""
+    def lines_of(self, entry, reads_proofs=True):
+        """The lines behind the verdict of the entry that was taken last; steps of proofs have any form if not read."""
         if entry.number != self.count:
             raise RuntimeError('an entry has to be used before the next one is taken')
         while not self._peek().startswith(('shape ', 'end ')):
-            yield self._take()
+            yield self._take(reads_proofs)
 
     # ---- the first lines
 
@@ -298,11 +298,11 @@ class Text:
             self._held = self._read()
         return self._held
 
-    def _take(self):
+    def _take(self, reads_proofs=True):
         """Takes the line that comes next, where it may stand there."""
         line = self._peek()
         try:
-            self._order.take(line)
+            self._order.take(line, reads_proofs)
         except Fault as fault:
             raise self.fault(fault) from None
         self._held = None

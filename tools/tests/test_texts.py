@@ -116,6 +116,18 @@ class Parts(unittest.TestCase):
                 texts.parse_cells(words)
 
 
+class Proofs(helpers.ToolTest):
+    def test_only_a_proof_that_is_read_is_refused(self):
+        """A step of a proof has to stand in its place in any case, and to have its form where someone reads it."""
+        wrong = self.written('wrong', helpers.read('undecided-holes.txt').replace('\nlearn ', '\nlearn x', 1))
+        self.assertEqual(entries(wrong)[0].verdict.limit, 'holes')
+        with texts.opened(wrong) as text:
+            with self.assertRaisesRegex(Fault, 'learn x.* is no line of a catalogue'):
+                list(next(iter(text)).evidence())
+        with self.assertRaisesRegex(Fault, '`learn` stands where '):
+            entries(self.written('place', helpers.read('undecided-holes.txt').replace('\nend ', '\nlearn 1 : 1\nend ')))
+
+
 class Refused(helpers.ToolTest):
     def fault_of(self, text):
         """The words of the fault of a text, or None where it is one."""
