@@ -14,16 +14,19 @@ import functools
 import os
 import pathlib
 import re
+import shlex
 import shutil
 import subprocess
 import sys
 
-MOST = 200_000_000  # the bytes of evidence that tools/run keeps by default
 LEAST_LISTED = 2  # the least Heesch number whose shapes are listed
 GRIDS = ('square', 'hex', 'iamond', 'kite')
 SMALL = {'square': 7, 'hex': 6, 'iamond': 8, 'kite': 4}  # sizes up to which catalogues/ has the catalogue
 PAGES = ('square 8', 'hex 6', 'iamond 9', 'kite 6')  # sizes of which docs/atlas has a page
 TOP = pathlib.Path(__file__).resolve().parent.parent
+
+sys.path.insert(0, str(TOP / 'tools'))
+from running import ladder, plan  # noqa: E402, tools/ has the options of tools/run by default
 
 
 class Run:
@@ -103,10 +106,19 @@ class Run:
         return next((tally for tally in self.tallies if tally['file'] == 'outer.txt'), None)
 
     def command(self):
-        """The words that make the folder again, but for the limits."""
-        most = re.search('--most ([0-9]+)|kept up to ([0-9]+) bytes', self.readme)
-        most = int(most[1] or most[2])
-        return f'tools/run {self.name}' + f' --most {most}' * (most != MOST) + ' --outer' * bool(self.outer())
+        """The words that make the folder again, without those that say what is so by default."""
+        given, defaults = options(shlex.split(re.search('`tools/run ([^`]*)`', self.readme)[1])), self.defaults()
+        words = ['tools/run', self.grid, str(self.size)]
+        for name in defaults:
+            if given.get(name) != defaults[name]:
+                words += [name, *given.get(name, [])]
+        return shlex.join(words)
+
+    def defaults(self):
+        """The values of each option that a row shows, as they are by default."""
+        first = ladder.first_limits(self.grid)
+        return {'--first': [str(first)], '--most': [str(plan.MOST_BYTES)], '--outer': None,
+                '--passes': [str(limits) for limits in ladder.default_passes(self.grid, self.size, first)]}
 
     def seconds(self):
         """The time of all stages by the clock."""
@@ -135,6 +147,17 @@ class Run:
             for number, count in re.findall('^heesch ([0-9]+) ([0-9]+)$', done.stdout.decode(), re.MULTILINE):
                 counts[number] = counts.get(number, 0) + int(count)
         return in_words(counts)
+
+
+def options(words):
+    """The values behind each option of a command."""
+    found, values = {}, []
+    for word in words:
+        if word.startswith('--'):
+            found[word] = values = []
+        else:
+            values.append(word)
+    return found
 
 
 def in_words(counts):
@@ -251,8 +274,8 @@ def stages(runs):
                   '`check`: seconds', 'MB', 'Tools: seconds', 'MB', 'File', 'Bytes', 'sha256', '`heesch check`'], rows)
 
 
-TABLES = {'published': with_published, 'agreement': beside_published, 'verdicts': verdicts, 'open': left_open, 'largest': largest, 'runs': stages,
-          'program': program_of}
+TABLES = {'published': with_published, 'agreement': beside_published, 'verdicts': verdicts, 'open': left_open,
+          'largest': largest, 'runs': stages, 'program': program_of}
 MARK = re.compile('<!-- bench/runs.py ([a-z]+)(?: from ([a-z0-9, ]+))? -->')
 
 

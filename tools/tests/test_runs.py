@@ -12,7 +12,8 @@ HEADS = ('file,grid,size,shapes,holed,translation,halfturn,periodic,one_class,he
          'undecided_levels,undecided_holes,undecided_turns,undecided_size')
 README = '''# The catalogue of hex 7
 
-with the program of the sha256 `{sum}` of the commit `abc`, .. --most 200000000 ..
+By `tools/run hex 7 --into FOLDER --shares 9 --first 'turns 20000 levels 3 domain 4 size 60000000' --most 5000000
+--passes 'turns 20000 levels 4 domain 6 size 60000000'`, with the program of the sha256 `{sum}` of the commit `abc`, ..
 
 | Heesch number | Cells |
 | --- | --- |
@@ -69,7 +70,8 @@ class Tables(helpers.ToolTest):
         self.assertEqual(self.rows('largest', run), [['hex 7', '2', '0,0 1,0'], ['hex 7', '2', '3 more']])
         self.assertEqual(self.rows('program', run), [['abc', '0' * 64]])
         self.assertEqual(self.rows('runs', run), [
-            ['tools/run hex 7', 'levels 3 domain 4; levels 4 domain 6', '4.6', '2.0', '40', '0.5', '40', '0.2', '20',
+            ["tools/run hex 7 --most 5000000 --passes 'turns 20000 levels 4 domain 6 size 60000000'",
+             'levels 3 domain 4; levels 4 domain 6', '4.6', '2.0', '40', '0.5', '40', '0.2', '20',
              'catalogue.txt', '1234', '0' * 64, 'valid 9']])
 
     def test_agreement(self):
