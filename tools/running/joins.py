@@ -9,7 +9,7 @@ from polyforms.whole import WholeFile
 
 from .parts import GivenText
 
-MOST_JOINED = 2_000_000_000  # bytes of shares that `heesch join` is given, since it holds what it reads
+MOST_JOINED = 1_000_000_000  # bytes of shares that `heesch join` is given: it takes 2.6 times as much memory
 MOST_GIVEN = 10_000  # shapes of a catalogue of given shapes
 
 

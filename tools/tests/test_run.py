@@ -348,7 +348,8 @@ class Runs(ToolTest):
     def merged_kites(self):
         """The catalogue of kite 4 under the limits of the first pass, which decides all."""
         left = self.done('select', data('kite-4.txt'), '--undecided')
-        second = self.written('second', program('classify', 'kite', 'given', '--domain', 6, '--levels', 4, text=left))
+        limits = ('--domain', 6, '--levels', 4, '--turns', ladder.PASS_TURNS)
+        second = self.written('second', program('classify', 'kite', 'given', *limits, text=left))
         return self.done('merge', data('kite-4.txt'), second).encode()
 
     def test_given_beside(self):
