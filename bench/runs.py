@@ -197,7 +197,7 @@ def agreement(run, figures):
     is_same = (holed in ('', run.tally['holed'])) and 0 <= more <= left and (left > 0 or told in ({}, ours))
     if not is_same:
         return '**no**'
-    return f'yes, if {more} of {left} undecided do not tile' if left else 'yes'
+    return f'yes, if of {left} undecided {more} {"does" if more == 1 else "do"} not tile' if left else 'yes'
 
 
 def beside_published(runs):

@@ -76,8 +76,8 @@ class Tables(helpers.ToolTest):
 
     def test_agreement(self):
         run = self.run_of()
-        for figures, wanted in ((['', '4', '', '', ''], 'yes, if 1 of 2 undecided do not tile'),
-                                (['1', '3', '', '', ''], 'yes, if 0 of 2 undecided do not tile'),
+        for figures, wanted in ((['', '4', '', '', ''], 'yes, if of 2 undecided 1 does not tile'),
+                                (['1', '3', '', '', ''], 'yes, if of 2 undecided 0 do not tile'),
                                 (['', '6', '', '', ''], '**no**'), (['', '2', '', '', ''], '**no**'),
                                 (['2', '4', '', '', ''], '**no**')):
             self.assertEqual(RUNS.agreement(run, figures), wanted, figures)
