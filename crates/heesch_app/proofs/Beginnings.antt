@@ -12,7 +12,7 @@ use Rattle.heesch_grid.specs.Geometry.{Geometry}
 use Rattle.heesch_grid.specs.Names.{geometry_of}
 use Rattle.heesch_text.specs.Catalogue.{catalogue_text, begun_text}
 use Rattle.heesch_words.specs.declared.requests.Request.{Request}
-use Rattle.heesch_words.specs.declared.requests.Request.TheVariants.{List as ListRequest, Plain as PlainRequest, Classify as ClassifyRequest, Check as CheckRequest, Table as TableRequest, Sample as SampleRequest, Formula as FormulaRequest, Answer as AnswerRequest, Share as ShareRequest, Join as JoinRequest, Outer as OuterRequest}
+use Rattle.heesch_words.specs.declared.requests.Request.TheVariants.{List as ListRequest, Plain as PlainRequest, Classify as ClassifyRequest, Check as CheckRequest, CheckOuter as CheckOuterRequest, Table as TableRequest, Sample as SampleRequest, Formula as FormulaRequest, Answer as AnswerRequest, Share as ShareRequest, Join as JoinRequest, Outer as OuterRequest}
 use Rattle.heesch_catalogue.specs.Catalogues.{AreEntries, IsCatalogue, IsBegunCatalogue}
 use Rattle.heesch_outer.specs.declared.answers.OuterEntry.{OuterEntry}
 use Rattle.heesch_outer.specs.Outers.{AreOuterEntries, IsOuters, IsBegunOuters, begun_outers_text, entries_in, outers_text}
@@ -53,6 +53,7 @@ begins_itself (ClassifyRequest grid Given limits workers brief) left status outp
 begins_itself (ListRequest grid n workers) left status output is = (status, is)
 begins_itself (PlainRequest grid n workers) left status output is = (status, is)
 begins_itself (CheckRequest workers) left status output is = (status, is)
+begins_itself (CheckOuterRequest grid subject limits workers) left status output is = (status, is)
 begins_itself TableRequest left status output is = (status, is)
 begins_itself (SampleRequest grid n count seed limits workers) left status output is = (status, is)
 begins_itself (FormulaRequest grid level size version) left status output is = (status, is)

@@ -12,7 +12,7 @@ use Rattle.heesch_check.specs.declared.answers.Checked.TheVariants as answers
 use Rattle.heesch_tabulate.specs.declared.answers.Tabulated.{Tabulated}
 use Rattle.heesch_tabulate.specs.declared.answers.Tabulated.TheVariants as tables
 use Rattle.heesch_words.specs.declared.requests.Request.{Request}
-use Rattle.heesch_words.specs.declared.requests.Request.TheVariants.{List as ListRequest, Plain as PlainRequest, Classify as ClassifyRequest, Check as CheckRequest, Table as TableRequest, Sample as SampleRequest, Formula as FormulaRequest, Answer as AnswerRequest, Share as ShareRequest, Join as JoinRequest, Outer as OuterRequest}
+use Rattle.heesch_words.specs.declared.requests.Request.TheVariants.{List as ListRequest, Plain as PlainRequest, Classify as ClassifyRequest, Check as CheckRequest, CheckOuter as CheckOuterRequest, Table as TableRequest, Sample as SampleRequest, Formula as FormulaRequest, Answer as AnswerRequest, Share as ShareRequest, Join as JoinRequest, Outer as OuterRequest}
 use Rattle.heesch_words.specs.Requests.{Asks}
 use Rattle.heesch_words.proofs.Forms.{one_request}
 use Rattle.heesch_app.specs.declared.reply.Reply.{Reply}
@@ -59,6 +59,7 @@ output_is_whole (ClassifyRequest grid (Size n) limits workers brief) left status
 output_is_whole (ClassifyRequest grid Given limits workers brief) left status output (input, all, inl (done, is)) = whole_if status Done done tt
 output_is_whole (ClassifyRequest grid Given limits workers brief) left status output (input, all, inr (bad, is)) = whole_if status BadInput bad tt
 output_is_whole (CheckRequest workers) left status output (input, all, (checked, is, same, text)) = whole_if status (check_status checked) same (check_is_whole checked)
+output_is_whole (CheckOuterRequest grid subject limits workers) left status output (input, all, (checked, is, same, text)) = whole_if status (check_status checked) same (check_is_whole checked)
 output_is_whole TableRequest left status output (told, is, same, text) = whole_if status (table_status told) same (table_is_whole told)
 output_is_whole (SampleRequest grid n count seed limits workers) left status output (done, is) = whole_if status Done done tt
 output_is_whole (FormulaRequest grid level size version) left status output (input, all, inl (done, few, is)) = whole_if status Done done tt

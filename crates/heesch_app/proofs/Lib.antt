@@ -5,9 +5,12 @@ mod Endings
 mod Fronts
 mod GivenLists
 mod Headline
+mod OuterChecks
 mod OuterOutputs
+mod OuterRecords
 mod PlainAnswers
 mod PlainLines
 mod Ranges
 mod ToldExchanges
+mod ValidOuters
 mod ValidOutputs

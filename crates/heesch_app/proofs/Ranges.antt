@@ -3,7 +3,7 @@ use Rattle.std.proofs.Common.{◌≤◌, ℕ, List, arith}
 use Rattle.heesch_cert.specs.declared.header.Subject.TheVariants.{Size, Given}
 use Rattle.heesch_grid.specs.declared.GridName.{GridName}
 use Rattle.heesch_words.specs.declared.requests.Request.{Request}
-use Rattle.heesch_words.specs.declared.requests.Request.TheVariants.{List as ListRequest, Plain as PlainRequest, Classify as ClassifyRequest, Check as CheckRequest, Table as TableRequest, Sample as SampleRequest, Formula as FormulaRequest, Answer as AnswerRequest, Share as ShareRequest, Join as JoinRequest, Outer as OuterRequest}
+use Rattle.heesch_words.specs.declared.requests.Request.TheVariants.{List as ListRequest, Plain as PlainRequest, Classify as ClassifyRequest, Check as CheckRequest, CheckOuter as CheckOuterRequest, Table as TableRequest, Sample as SampleRequest, Formula as FormulaRequest, Answer as AnswerRequest, Share as ShareRequest, Join as JoinRequest, Outer as OuterRequest}
 use Rattle.heesch_cnf.specs.declared.version.Version.{Version}
 use Rattle.heesch_cnf.specs.declared.version.Version.TheVariants.{Two}
 use Rattle.heesch_cert.specs.Sizes.{most_cells}
@@ -29,6 +29,12 @@ asked_in_range words (ClassifyRequest grid Given limits workers brief) asks =
     let (_, limits_are, some, few) = words_in_range words (ClassifyRequest grid Given limits workers brief) asks in
     (tt, limits_are, some, few)
 asked_in_range words (CheckRequest workers) asks = words_in_range words (CheckRequest workers) asks
+asked_in_range words (CheckOuterRequest grid (Size n) limits workers) asks =
+    let (size, limits_are, some, few) = words_in_range words (CheckOuterRequest grid (Size n) limits workers) asks in
+    ((size.0, at_most_31 limits.version grid n size.1), limits_are, some, few)
+asked_in_range words (CheckOuterRequest grid Given limits workers) asks =
+    let (_, limits_are, some, few) = words_in_range words (CheckOuterRequest grid Given limits workers) asks in
+    (tt, limits_are, some, few)
 asked_in_range words TableRequest asks = tt
 asked_in_range words (SampleRequest grid n count seed limits workers) asks =
     let (sample, _, limits_are, some, few) = words_in_range words (SampleRequest grid n count seed limits workers) asks in

@@ -90,7 +90,7 @@ size_valid grid n limits shapes text form free (es, are, read, is) =
     let good = sized grid n limits shapes [] es free are.of_shapes (as_listed (IsTrueEntry (geometry_of grid) limits) es are.are_true) read in
     (length es, subst (λ t. IsValid t (length es)) (sym is) (written_is_valid header es form refl good (shapes, free, many)))
 
-few_given : (g : Geometry) (given shapes : List (List Cell)) → AllZip (IsCanonicalOf g) given shapes → length shapes ≡ length given
+pub few_given : (g : Geometry) (given shapes : List (List Cell)) → AllZip (IsCanonicalOf g) given shapes → length shapes ≡ length given
 few_given g [] [] all = refl
 few_given g (c ∷ given) (s ∷ shapes) all = ap suc (few_given g given shapes all.1)
 few_given g [] (s ∷ shapes) all = absurd all

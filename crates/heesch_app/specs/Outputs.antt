@@ -19,7 +19,7 @@ use Rattle.heesch_app.specs.Plains.{plain_list_text}
 use Rattle.heesch_text.specs.Shapes.{list_text}
 use Rattle.heesch_tiling.specs.declared.found.Plain.{Plain}
 use Rattle.heesch_words.specs.declared.requests.Request.{Request}
-use Rattle.heesch_words.specs.declared.requests.Request.TheVariants.{List as ListRequest, Plain as PlainRequest, Classify as ClassifyRequest, Check as CheckRequest, Table as TableRequest, Sample as SampleRequest, Formula as FormulaRequest, Answer as AnswerRequest, Share as ShareRequest, Join as JoinRequest, Outer as OuterRequest}
+use Rattle.heesch_words.specs.declared.requests.Request.TheVariants.{List as ListRequest, Plain as PlainRequest, Classify as ClassifyRequest, Check as CheckRequest, CheckOuter as CheckOuterRequest, Table as TableRequest, Sample as SampleRequest, Formula as FormulaRequest, Answer as AnswerRequest, Share as ShareRequest, Join as JoinRequest, Outer as OuterRequest}
 use Rattle.heesch_words.specs.Requests.{Asks}
 use Rattle.heesch_app.specs.declared.listing.ListForm.{ListForm}
 use Rattle.heesch_app.specs.declared.listing.ListForm.TheVariants.{Cells, Tilings}
@@ -35,6 +35,7 @@ use Rattle.heesch_app.specs.Tilings.{ArePlain}
 use Rattle.heesch_check.specs.Answers.{IsChecked, IsValid}
 use Rattle.heesch_check.specs.declared.answers.Checked.{Checked}
 use Rattle.heesch_outer.specs.Outers.{IsOuters, IsBegunOuters, IsOutersOfSize, IsBegunOutersOfSize}
+use Rattle.heesch_outer_check.specs.Answers.{IsOutersChecked, IsValidOuters}
 use Rattle.heesch_sample.specs.Samples.{IsSample}
 use Rattle.heesch_parts.specs.Written.{IsShareOfSize, IsBegunShareOfSize}
 use Rattle.heesch_parts.specs.Joined.{IsJoined}
@@ -73,6 +74,7 @@ classify_of header workers = ClassifyRequest header.grid header.subject header.l
 abbrev pub Reads : Request → Type 0
 Reads (ClassifyRequest grid Given limits workers brief) = ⊤
 Reads (CheckRequest workers) = ⊤
+Reads (CheckOuterRequest grid subject limits workers) = ⊤
 Reads TableRequest = ⊤
 Reads (FormulaRequest grid level size version) = ⊤
 Reads (AnswerRequest grid level size version) = ⊤
@@ -112,6 +114,10 @@ IsBegunGivenAnswer g IsBegunTextOf output input =
 abbrev pub IsCheckAnswer : Status → List ℕ → List ℕ → Type 0
 IsCheckAnswer status output input = (checked : Checked) × IsChecked input checked × (status ≡ check_status checked) × (output ≡ check_text checked)
 
+-- what is answered to `check outer` of the bytes: that they are a valid outer text of the header's subject under its limits, or their first invalid part
+abbrev pub IsOuterCheckAnswer : Header → Status → List ℕ → List ℕ → Type 0
+IsOuterCheckAnswer header status output input = (checked : Checked) × IsOutersChecked header input checked × (status ≡ check_status checked) × (output ≡ check_text checked)
+
 -- what is answered to `table` of the bytes that the source had left: the tally of a catalogue, or the first fault
 abbrev pub IsTableAnswer : Option (List ℕ) → Status → List ℕ → Type 0
 IsTableAnswer left status output = (told : Tabulated) × IsTabulated left told × (status ≡ table_status told) × (output ≡ table_text told)
@@ -130,6 +136,7 @@ IsOutput (ClassifyRequest grid (Size n) limits workers brief) left status output
     (status ≡ Done) × IsCatalogueOfSize (geometry_of grid) (header_of grid (Size n) limits brief) n output
 IsOutput (ClassifyRequest grid Given limits workers brief) left status output = OfInput left (IsGivenAnswer (geometry_of grid) (IsCatalogue (geometry_of grid) (header_of grid Given limits brief)) status output)
 IsOutput (CheckRequest workers) left status output = OfInput left (IsCheckAnswer status output)
+IsOutput (CheckOuterRequest grid subject limits workers) left status output = OfInput left (IsOuterCheckAnswer (header_of grid subject limits false) status output)
 IsOutput TableRequest left status output = IsTableAnswer left status output
 IsOutput (SampleRequest grid n count seed limits workers) left status output = (status ≡ Done) × IsSample (geometry_of grid) n count seed limits output
 IsOutput (FormulaRequest grid level size version) left status output = OfInput left (IsFormulaAnswer version (geometry_of grid) level size status output)
@@ -188,3 +195,7 @@ AsksForCatalogue words grid n limits workers = Asks words (ClassifyRequest grid 
 -- Known bytes grow by a valid catalogue, in the words of `check`.
 abbrev pub WritesValid : Option (List ℕ) → Option (List ℕ) → Type 0
 WritesValid old new = (text : List ℕ) × (count : ℕ) × IsValid text count × Appends old new text
+
+-- Known bytes grow by a valid outer text of the header's subject under its limits, in the words of `check outer`.
+abbrev pub WritesValidOuters : Header → Option (List ℕ) → Option (List ℕ) → Type 0
+WritesValidOuters header old new = (text : List ℕ) × (count : ℕ) × IsValidOuters header text count × Appends old new text

@@ -4,7 +4,7 @@ use Rattle.heesch_cert.specs.declared.header.Subject.{Subject}
 use Rattle.heesch_cert.specs.declared.header.Subject.TheVariants.{Size, Given}
 use Rattle.heesch_cert.specs.Limits.{AreLimits}
 use Rattle.heesch_words.specs.declared.requests.Request.{Request}
-use Rattle.heesch_words.specs.declared.requests.Request.TheVariants.{List as ListRequest, Plain as PlainRequest, Classify as ClassifyRequest, Check as CheckRequest, Table as TableRequest, Sample as SampleRequest, Formula as FormulaRequest, Answer as AnswerRequest, Share as ShareRequest, Join as JoinRequest, Outer as OuterRequest}
+use Rattle.heesch_words.specs.declared.requests.Request.TheVariants.{List as ListRequest, Plain as PlainRequest, Classify as ClassifyRequest, Check as CheckRequest, CheckOuter as CheckOuterRequest, Table as TableRequest, Sample as SampleRequest, Formula as FormulaRequest, Answer as AnswerRequest, Share as ShareRequest, Join as JoinRequest, Outer as OuterRequest}
 
 -- a size of 1 to 31 cells, or any shapes that are given
 abbrev pub IsSubjectInRange : Subject → Type 0
@@ -17,6 +17,7 @@ IsInRange (ListRequest grid n workers) = (1 ≤ n) × (n ≤ 31) × (1 ≤ worke
 IsInRange (PlainRequest grid n workers) = (1 ≤ n) × (n ≤ 31) × (1 ≤ workers) × (workers ≤ 64)
 IsInRange (ClassifyRequest grid subject limits workers brief) = IsSubjectInRange subject × AreLimits limits × (1 ≤ workers) × (workers ≤ 64)
 IsInRange (CheckRequest workers) = (1 ≤ workers) × (workers ≤ 64)
+IsInRange (CheckOuterRequest grid subject limits workers) = IsSubjectInRange subject × AreLimits limits × (1 ≤ workers) × (workers ≤ 64)
 IsInRange TableRequest = ⊤
 IsInRange (SampleRequest grid n count seed limits workers) = (1 ≤ n) × (n ≤ 32) × (count ≤ 1000) × AreLimits limits × (1 ≤ workers) × (workers ≤ 64)
 IsInRange (FormulaRequest grid level size version) = (1 ≤ level) × (level ≤ 6) × (1 ≤ size) × (size ≤ 60000000)

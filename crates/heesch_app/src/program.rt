@@ -13,6 +13,7 @@ ghost use Rattle.heesch_io.specs.Causes.{Rose};
 ghost use Rattle.heesch_words.specs.declared.requests.Request.{Request as RequestOf};
 ghost use Rattle.heesch_words.specs.declared.requests.Request.TheVariants.{Classify as ClassifyRequest};
 ghost use Rattle.heesch_words.specs.declared.requests.Request.TheVariants.{Check as CheckRequest};
+ghost use Rattle.heesch_words.specs.declared.requests.Request.TheVariants.{CheckOuter as CheckOuterRequest};
 ghost use Rattle.heesch_words.specs.declared.requests.Request.TheVariants.{Table as TableRequest};
 ghost use Rattle.heesch_words.specs.declared.requests.Request.TheVariants.{Formula as FormulaRequest};
 ghost use Rattle.heesch_words.specs.declared.requests.Request.TheVariants.{Answer as AnswerRequest};
@@ -22,7 +23,8 @@ ghost use Rattle.heesch_tabulate.specs.Tabulating.{IsTallied};
 ghost use Rattle.heesch_words.specs.Requests.{Asks};
 ghost use Rattle.heesch_app.specs.Outputs.{IsAccepted, IsOutput, IsBegunOutput, HasOneText, Reads, ReadsToEnd};
 ghost use Rattle.heesch_app.specs.Outputs.{AreReading, Writes, WritesPrefix, AsksForCatalogue, IsCatalogued};
-ghost use Rattle.heesch_app.specs.Outputs.{WritesValid, header_of};
+ghost use Rattle.heesch_app.specs.Outputs.{WritesValid, WritesValidOuters, header_of};
+ghost use Rattle.heesch_outer_check.specs.Answers.{IsValidOuters};
 ghost use Rattle.heesch_app.specs.Endings.{EndsAs};
 ghost use Rattle.heesch_app.specs.Inputs.{ConsumesSome};
 ghost use Rattle.heesch_app.specs.Exchanges.{WritesFormula, WritesAnswer};
@@ -31,7 +33,7 @@ ghost use Rattle.heesch_app.specs.Ranges.{IsInRange};
 
 use crate::Status;
 use crate::catalogues::write_asked_catalogue;
-use crate::checks::checked_reply;
+use crate::checks::{checked_outers_reply, checked_reply};
 use crate::exchanges::{Exchange, exchange_reply};
 use crate::joins::join_reply;
 use crate::listing::{ListForm, free_list_text};
@@ -95,6 +97,16 @@ pub fn run<T: Threads + Sync, R: Source, W: Sink, H: Gate + Sync>(
     ensures passes { (input : List ℕ) (workers count : ℕ) → R.left source.old ≡ Some input → length input ≤ 2 ^ 40
         → Asks (map string_bytes words.now) (CheckRequest workers) → IsValid input count
         → (result ≢ Status.Invalid) × (result ≢ Status.BadInput) }
+    // Nor is a valid outer text by `check outer`, and a finished one is valid, in the words of its own command.
+    ensures outers_pass { (input : List ℕ) (grid : GridName) (subject : Subject) (limits : Limits) (workers count : ℕ)
+        → R.left source.old ≡ Some input → length input ≤ 2 ^ 40
+        → Asks (map string_bytes words.now) (CheckOuterRequest grid subject limits workers)
+        → IsValidOuters (header_of grid subject limits false) input count
+        → (result ≢ Status.Invalid) × (result ≢ Status.BadInput) }
+    ensures outer_checkable { result ≡ Status.Done
+        → (grid : GridName) (subject : Subject) (limits : Limits) (workers : ℕ)
+        → Asks (map string_bytes words.now) (OuterRequest grid subject limits workers)
+        → WritesValidOuters (header_of grid subject limits false) (W.held sink.old) (W.held sink.new) }
     // Only an input that is longer is told `check` bad input, and no input that has a tally `table`.
     ensures too_long { (input : List ℕ) (workers : ℕ) → R.left source.old ≡ Some input
         → Asks (map string_bytes words.now) (CheckRequest workers) → result ≡ Status.BadInput → 2 ^ 40 < length input }
@@ -236,6 +248,21 @@ fn reply<T: Threads + Sync, R: Source, H: Gate + Sync>(
         }
         Request::Check { workers } => {
             checked_reply(&Crew::new(rt, alloc, workers, gate), source)
+        }
+        Request::CheckOuter {
+            grid,
+            subject,
+            limits,
+            workers,
+        } => {
+            let header = Header {
+                brief: false,
+                grid,
+                subject,
+                limits,
+            };
+            let crew = Crew::new(rt, alloc, workers, gate);
+            checked_outers_reply(&crew, &header, source)
         }
         Request::Table => table_reply(alloc, source),
         Request::Formula {

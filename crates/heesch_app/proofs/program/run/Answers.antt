@@ -9,6 +9,7 @@ use Rattle.heesch_app.proofs.Headline.{catalogued}
 use Rattle.heesch_app.proofs.OuterOutputs.{writes_outers}
 use Rattle.heesch_app.proofs.Ranges.{asked_in_range}
 use Rattle.heesch_app.proofs.ToldExchanges.{writes_formula, writes_answer}
+use Rattle.heesch_app.proofs.ValidOuters.{valid_outers_are_done, writes_valid_outers}
 use Rattle.heesch_app.proofs.ValidOutputs.{valid_is_done, writes_valid, joins_valid, tallied_is_done, bad_is_long}
 use Rattle.heesch_app.proofs.program.run.Goals as goal
 
@@ -51,6 +52,13 @@ returns-in-Ok g c =
           valid_is_done words input status text workers count asks short valid (subst (λ l. IsAnswer words l status text) told is)
           in
           ((λ same. let no : Invalid ≡ Done = says Invalid tt same in cc), λ same. let no : BadInput ≡ Done = says BadInput tt same in cc);
+      outers_pass = λ input grid subject limits workers count told short asks valid.
+          let says : (status : Status) → IsWhole status → result ≡ status → status ≡ Done = λ status whole same.
+          let (text, is, appends) = wrote status whole same in
+          valid_outers_are_done words input status text grid subject limits workers count asks short valid (subst (λ l. IsAnswer words l status text) told is)
+          in
+          ((λ same. let no : Invalid ≡ Done = says Invalid tt same in cc), λ same. let no : BadInput ≡ Done = says BadInput tt same in cc);
+      outer_checkable = λ done grid subject limits workers asks. writes_valid_outers words left old new grid subject limits workers asks (wrote Done tt done);
       too_long = λ input workers told asks bad.
           let (text, is, appends) = wrote BadInput tt bad in
           bad_is_long words input BadInput text workers asks (subst (λ l. IsAnswer words l BadInput text) told is) refl;
