@@ -1,7 +1,6 @@
 -- The texts of outer entries, as an outer text.
 use Rattle.std.proofs.Common.{◌≡◌, ℕ, List, [], ◌++◌, length, take, sym, ap, ◌∙◌}
 use Rattle.std.specs.Prelude.{◌==◌, if◌then◌else◌, All}
-use Rattle.std.specs.List.{AllByRecursion}
 use Rattle.std.proofs.lemmas.List.{length-map}
 use Rattle.std.proofs.lemmas.List.Elements.{All-take}
 use Rattle.heesch_grid.specs.declared.Cell.{Cell}
@@ -9,14 +8,13 @@ use Rattle.heesch_grid.specs.Geometry.{Geometry, IsGrid}
 use Rattle.heesch_grid.specs.Polyform.{IsCanonicalListOf}
 use Rattle.heesch_cert.specs.declared.limits.Limits.{Limits}
 use Rattle.heesch_cert.specs.Limits.{AreLimits}
-use Rattle.heesch_text.specs.Catalogue.{end_text, entry_lines}
-use Rattle.heesch_text.specs.Naturals.{HasNaturals}
+use Rattle.heesch_text.specs.Catalogue.{end_text}
 use Rattle.heesch_catalogue.specs.Rounds.{AreTexts, IsBegunText, IsItemText, IsOfSize, IsWholeText}
 use Rattle.heesch_catalogue.proofs.CatalogueTexts.{as_many}
 use Rattle.heesch_catalogue.proofs.EntryLists.{free_are_canonical}
 use Rattle.heesch_catalogue.proofs.ItemTexts.{items_of_texts}
 use Rattle.heesch_outer.specs.declared.answers.OuterEntry.{OuterEntry}
-use Rattle.heesch_outer.specs.Answers.{IsOuterEntryOf, IsRecord}
+use Rattle.heesch_outer.specs.Answers.{IsOuterEntryOf, IsRecord, RecordHasNaturals}
 use Rattle.heesch_outer.specs.Outers.{AreOuterEntries, IsBegunOuters, IsBegunOutersOfSize, IsOuters, IsOutersOfSize, entries_in, record_text, records_text}
 use Rattle.heesch_outer.proofs.OuterLists.{outers_of_shapes}
 use Rattle.heesch_outer.proofs.OuterReadable.{HaveOuterNaturals, outers_readable}
@@ -29,7 +27,7 @@ module _ (g : Geometry) (law : IsGrid g) (limits : Limits) (valid : AreLimits li
   outers_of_texts : (shapes : List (List Cell)) (texts : List ℕ) → All (λ s. IsCanonicalListOf g s s) shapes → AreTexts (IsItemText (IsOuter g) IsRecord) shapes texts
       → (es : List OuterEntry) × AreOuterEntries g limits shapes es × HaveOuterNaturals es × (texts ≡ records_text es) × (length es ≡ length shapes)
   outers_of_texts shapes texts canonical are =
-      let (es, zip, naturals, same) = items_of_texts (IsOuterEntryOf g limits) record_text (λ (e : OuterEntry). AllByRecursion HasNaturals (entry_lines e.entry)) shapes texts are in
+      let (es, zip, naturals, same) = items_of_texts (IsOuterEntryOf g limits) record_text RecordHasNaturals shapes texts are in
       let are_outers : AreOuterEntries g limits shapes es = outers_of_shapes g limits shapes es zip canonical in
       (es, are_outers, naturals, same, sym (length-map es (λ (e : OuterEntry). e.entry)) ∙ as_many g limits shapes (entries_in es) are_outers.entries)
 

@@ -12,7 +12,7 @@ use Rattle.heesch_line.specs.Forms.{IsLine}
 use Rattle.heesch_text.specs.Catalogue.{entry_lines, entry_text, end_text}
 use Rattle.heesch_outer.specs.Answer.{IsOuterAnswer}
 use Rattle.heesch_outer.specs.Found.{IsNearAnswer}
-use Rattle.heesch_outer.specs.Record.{answer_text}
+use Rattle.heesch_outer.specs.Record.{answer_lines, answer_text}
 use Rattle.heesch_outer.specs.Statements.{TellsNumber}
 use Rattle.heesch_outer.specs.declared.answers.OuterEntry.{OuterEntry}
 
@@ -33,9 +33,12 @@ pub record AreOuterEntries (g : Geometry) (limits : Limits) (shapes : List (List
   pub entries : AreEntries g limits shapes (entries_in es)
   pub answers : All (HasOuterAnswer g limits) es
 
--- the lines of each entry have the forms of a catalogue's lines
+-- the lines of the entry and of its answer have the forms of a catalogue's lines
+abbrev pub IsReadable : OuterEntry → Type 0
+IsReadable e = AllByRecursion IsLine (entry_lines e.entry) × AllByRecursion IsLine (answer_lines e.answer)
+
 abbrev pub AreReadable : List OuterEntry → Type 0
-AreReadable es = AllByRecursion (λ (e : OuterEntry). AllByRecursion IsLine (entry_lines e.entry)) es
+AreReadable es = AllByRecursion IsReadable es
 
 -- ---- texts
 
@@ -55,7 +58,7 @@ outers_text es = records_text es ++ end_text (length es)
 abbrev pub begun_outers_text : ℕ → List OuterEntry → List ℕ
 begun_outers_text count first = records_text first ++ (if length first == count then end_text count else [])
 
--- the output is the outer text of these shapes under the limits; the lines of its entries can be read
+-- the output is the outer text of these shapes under the limits; the lines of its entries and answers can be read
 abbrev pub IsOuters : Geometry → Limits → List (List Cell) → List ℕ → Type 0
 IsOuters g limits shapes output = (es : List OuterEntry) × AreOuterEntries g limits shapes es × AreReadable es × (output ≡ outers_text es)
 

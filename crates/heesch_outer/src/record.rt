@@ -1,7 +1,9 @@
 //! The text of an answer, which follows that of its entry.
 ghost use Rattle.std.specs.Prelude.{◌≡◌, ◌++◌, length, take, OnOk, OnErr};
+ghost use Rattle.std.specs.List.{AllByRecursion};
 ghost use Rattle.heesch_cert.specs.TrueEntry.{first_number};
-ghost use Rattle.heesch_outer.specs.Record.{answer_text, number_line};
+ghost use Rattle.heesch_outer.specs.Record.{answer_lines, answer_text, number_line};
+ghost use Rattle.heesch_text.specs.Naturals.{HasNaturals};
 
 use crate::OuterAnswer;
 use heesch_cert::Entry;
@@ -23,6 +25,7 @@ fn append_number_line(label: &[u8], number: u64, out: &mut Vec<u8>) -> Result<()
 fn append_answer(h: u32, answer: &OuterAnswer, out: &mut Vec<u8>) -> Result<(), NoMemory>
     ensures ok { OnOk result (out.new.items ≡ out.old.items ++ answer_text h answer.now) }
     ensures kept { take (length out.old.items) out.new.items ≡ out.old.items }
+    ensures naturals { OnOk result (AllByRecursion HasNaturals (answer_lines answer.now)) }
 {
     let h = u64::from(h);
     match answer {
@@ -48,13 +51,14 @@ fn append_answer(h: u32, answer: &OuterAnswer, out: &mut Vec<u8>) -> Result<(), 
 
 /// Appends what is known of the outer number of the entry's shape: `hh tiles`; `hh undecided`; `hc H` and `hh K` with
 /// K = H + 1 and a line for each layer; `hc H`, `hh H` and the lines of the refutation; or `hc H`, `hh spent` and the
-/// lines of the proof.
+/// lines of the proof. The natural numbers of the lines of layers and of proofs that it wrote fit 32 bits.
 ///
 /// Errors: at `NoMemory` the text is as it was before. Its cost is the length of what it appends.
 pub fn write_answer(entry: &Entry, answer: &OuterAnswer, out: &mut Vec<u8>) -> Result<(), NoMemory>
     ensures ok { OnOk result
         (out.new.items ≡ out.old.items ++ answer_text (first_number entry.now.verdict) answer.now) }
     ensures err { OnErr result (out.new.items ≡ out.old.items) }
+    ensures naturals { OnOk result (AllByRecursion HasNaturals (answer_lines answer.now)) }
 {
     let before = out.len();
     let written = append_answer(entry.verdict.first_number(), answer, out);

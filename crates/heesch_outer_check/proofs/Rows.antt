@@ -26,8 +26,7 @@ use Rattle.heesch_cert.specs.TrueEntry.{first_number}
 use Rattle.heesch_reader.proofs.EntryLines.{body_inside, body_lines}
 use Rattle.heesch_outer.specs.declared.answers.OuterEntry.{OuterEntry}
 use Rattle.heesch_outer.specs.Outers.{record_text}
-use Rattle.heesch_outer.specs.Record.{answer_text, number_line}
-use Rattle.heesch_record.specs.Records.{answer_lines}
+use Rattle.heesch_outer.specs.Record.{answer_lines, answer_text, number_line}
 
 -- ---- rows of bytes
 

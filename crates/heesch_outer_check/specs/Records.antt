@@ -9,8 +9,8 @@ use Rattle.heesch_line.specs.Forms.{IsLine}
 use Rattle.heesch_check.specs.Catalogues.{block_of, behind_block, IsInPlace}
 use Rattle.heesch_outer.specs.Answer.{IsOuterAnswer}
 use Rattle.heesch_outer.specs.Outers.{record_text}
+use Rattle.heesch_outer.specs.Record.{answer_lines}
 use Rattle.heesch_outer.specs.declared.answers.OuterEntry.{OuterEntry}
-use Rattle.heesch_record.specs.Records.{answer_lines}
 
 -- behind so many records, the entry is true under the grid and the limits, its shape is in its place, the answer is allowed for the entry, and the lines of both have the forms of a catalogue's
 pub record IsGoodRecord (header : Header) (before : ℕ) (e : OuterEntry) : Type 0 where

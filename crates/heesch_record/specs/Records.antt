@@ -1,25 +1,17 @@
 -- Which outer records can be read, and the parts that they are read in.
-use Rattle.std.specs.Prelude.{◌≡◌, ℕ, false, List, []}
+use Rattle.std.specs.Prelude.{◌≡◌, ℕ, false, List}
 use Rattle.std.specs.List.{AllByRecursion}
 use Rattle.heesch_cert.specs.declared.entry.Entry.{Entry}
 use Rattle.heesch_text.specs.declared.line.Line.{Line}
-use Rattle.heesch_text.specs.Catalogue.{entry_lines, layer_lines, proof_lines}
+use Rattle.heesch_text.specs.Catalogue.{entry_lines}
 use Rattle.heesch_line.specs.Forms.{IsLine}
 use Rattle.heesch_grammar.specs.Entries.{HoldsItsLines, LeadOver}
 use Rattle.heesch_grammar.specs.Statements.{start}
-use Rattle.heesch_outer.specs.Record.{answer_text}
+use Rattle.heesch_outer.specs.Record.{answer_lines, answer_text}
 use Rattle.heesch_outer.specs.declared.answer.OuterAnswer.{OuterAnswer}
-use Rattle.heesch_outer.specs.declared.answer.OuterAnswer.TheVariants.{More, Same, Spent}
 use Rattle.heesch_outer.specs.declared.answers.OuterEntry.{OuterEntry}
 
--- the lines of the layers or of the proof that show the answer
-abbrev pub answer_lines : OuterAnswer → List Line
-answer_lines (More layers) = layer_lines layers.layers
-answer_lines (Same proof) = proof_lines proof
-answer_lines (Spent proof) = proof_lines proof
-answer_lines answer = []
-
--- these lines have the forms of a catalogue's
+-- the lines of the layers or of the proof that show the answer have the forms of a catalogue's
 abbrev pub HasLineForms : OuterAnswer → Type 0
 HasLineForms answer = AllByRecursion IsLine (answer_lines answer)
 

@@ -1,5 +1,6 @@
 -- The words of the forms.
 use Rattle.std.proofs.Common.{◌≡◌, ◌≢◌, ◌<◌, ◌≤◌, ◌^◌, ◌-◌, ℕ, List, [], ◌∷◌, ◌++◌, refl, sym, ap, ◌∙◌, subst, Bool, get_or, length, take, drop, map, codes, decimal, true, false, arith}
+use Rattle.std.specs.List.{flat_map}
 use Rattle.std.proofs.Math.Seq.{drop-append_seam}
 use Rattle.std.proofs.lemmas.Fmt.{decimal_injective, decimal_is_IsNumeral}
 use Rattle.std.proofs.lemmas.List.{take_rest, drop-map}
@@ -16,9 +17,9 @@ use Rattle.heesch_grid.specs.declared.GridName.TheVariants.{Square, Hex, Iamond,
 use Rattle.heesch_grid.specs.Names.{grid_word}
 use Rattle.heesch_words.specs.declared.options.Options.{Options}
 use Rattle.heesch_words.specs.declared.requests.Request.{Request}
-use Rattle.heesch_words.specs.declared.requests.Request.TheVariants.{List as ListRequest, Plain as PlainRequest, Classify as ClassifyRequest, Check as CheckRequest, Table as TableRequest, Sample as SampleRequest, Formula as FormulaRequest, Answer as AnswerRequest, Share as ShareRequest, Join as JoinRequest, Outer as OuterRequest}
-use Rattle.heesch_words.specs.Options.{AreOptions, HasWorkersAlone, HasSizeAndVersionAlone, workers_of, limits_of}
-use Rattle.heesch_words.specs.Requests.{Asks, HasForm, HaveOptions, HasCheckForm, HasListForm, HasSampleForm, HasClassifyForm, HasFormulaForm, HasShareForm, form_word}
+use Rattle.heesch_words.specs.declared.requests.Request.TheVariants.{List as ListRequest, Plain as PlainRequest, Classify as ClassifyRequest, Check as CheckRequest, CheckOuter as CheckOuterRequest, Table as TableRequest, Sample as SampleRequest, Formula as FormulaRequest, Answer as AnswerRequest, Share as ShareRequest, Join as JoinRequest, Outer as OuterRequest}
+use Rattle.heesch_words.specs.Options.{Setting, Number, Brief, Workers, Turns, Levels, Domain, Size as SizeOption, Version as VersionOption, setting_words, AreOptions, HasWorkersAlone, HasSizeAndVersionAlone, workers_of, limits_of}
+use Rattle.heesch_words.specs.Requests.{Asks, HasForm, HaveOptions, HasCheckForm, HasCheckOuterForm, HasListForm, HasSampleForm, HasClassifyForm, HasFormulaForm, HasShareForm, form_word}
 use Rattle.heesch_words.proofs.Settings.{one_reading}
 
 -- Words before options.
@@ -271,6 +272,38 @@ one_formula words grid grid' level level' size size' version version' first seco
 four_same : {a b c d x y z w : List ℕ} → a ∷ b ∷ c ∷ d ∷ [] ≡ x ∷ y ∷ z ∷ w ∷ [] → (a ≡ x) × (b ≡ y) × (c ≡ z) × (d ≡ w)
 four_same is = ((cc), (cc), (cc), (cc))
 
+-- no option is spelled `outer`
+setting_not_outer : (settings : List Setting) (others : List (List ℕ)) → codes "outer" ∷ others ≡ flat_map setting_words settings → ⊥
+setting_not_outer [] others is = absurd cc
+setting_not_outer (Brief ∷ settings) others is = absurd cc
+setting_not_outer (Number Workers n ∷ settings) others is = absurd cc
+setting_not_outer (Number Turns n ∷ settings) others is = absurd cc
+setting_not_outer (Number Levels n ∷ settings) others is = absurd cc
+setting_not_outer (Number Domain n ∷ settings) others is = absurd cc
+setting_not_outer (Number SizeOption n ∷ settings) others is = absurd cc
+setting_not_outer (Number VersionOption n ∷ settings) others is = absurd cc
+
+-- so words with the form of the check of a catalogue have none of the check of an outer text
+check_not_outer : (words : List (List ℕ)) (workers : ℕ) → HasCheckForm words workers → (grid : GridName) (subject : Subject) (limits : Limits) (workers' : ℕ) → ¬ HasCheckOuterForm words grid subject limits workers'
+check_not_outer words workers first grid subject limits workers' second = setting_not_outer first.given.settings second.others (sym second.spelled ∙ first.given.spelled)
+
+-- words that begin with `outer` aren't the options of a check
+pub outer_no_options : {X : Type 0} (text_of : X → List ℕ) (words : List X) (first : X) → 1 ≤ length words → first ≡ get_or words 0 first → text_of first ≡ codes "outer"
+    → (workers : ℕ) → ¬ HasCheckForm (map text_of words) workers
+outer_no_options text_of [] first some is named workers has = absurd (omega arith)
+outer_no_options text_of (x ∷ words) first some is named workers has =
+    let first_is : first ≡ x = is in
+    let outer : text_of x ≡ codes "outer" = cc in
+    setting_not_outer has.given.settings (map text_of words) (ap (λ w. w ∷ map text_of words) (sym outer) ∙ has.given.spelled)
+
+-- words behind `outer` that have no form give none
+pub outer_refused : {X : Type 0} (text_of : X → List ℕ) (words : List X)
+    → ((grid : GridName) (subject : Subject) (limits : Limits) (workers : ℕ) → ¬ HasClassifyForm (map text_of (take (length words - 1) (drop 1 words))) grid subject limits workers false)
+    → (grid : GridName) (subject : Subject) (limits : Limits) (workers : ℕ) → ¬ HasCheckOuterForm (map text_of words) grid subject limits workers
+outer_refused text_of words none grid subject limits workers has =
+    let others : map text_of (take (length words - 1) (drop 1 words)) ≡ has.others = others_are text_of words 1 (codes "outer" ∷ []) has.others refl has.spelled in
+    none grid subject limits workers (subst (λ (w : List (List ℕ)). HasClassifyForm w grid subject limits workers false) (sym others) has.has)
+
 -- words have one form of each kind
 one_of_form : (words : List (List ℕ)) (x y : Request) → form_word x ≡ form_word y → HasForm words x → HasForm words y → x ≡ y
 one_of_form words (ListRequest grid n workers) (ListRequest grid' n' workers') is first second =
@@ -285,6 +318,13 @@ one_of_form words (ClassifyRequest grid subject limits workers brief) (ClassifyR
 one_of_form words (CheckRequest workers) (CheckRequest workers') is first second =
     let same = one_reading words first.options second.options first.given second.given in
     let same_workers : workers ≡ workers' = first.workers_is ∙ ap workers_of same ∙ sym second.workers_is in
+    cc
+one_of_form words (CheckRequest workers) (CheckOuterRequest grid subject limits workers') is first second = absurd (check_not_outer words workers first grid subject limits workers' second)
+one_of_form words (CheckOuterRequest grid subject limits workers') (CheckRequest workers) is first second = absurd (check_not_outer words workers second grid subject limits workers' first)
+one_of_form words (CheckOuterRequest grid subject limits workers) (CheckOuterRequest grid' subject' limits' workers') is first second =
+    let spelled : codes "outer" ∷ first.others ≡ codes "outer" ∷ second.others = sym first.spelled ∙ second.spelled in
+    let same : second.others ≡ first.others = cc in
+    let (grids, subjects, limits_are, counts, briefs) = one_classify first.others grid grid' subject subject' limits limits' workers workers' false false first.has (subst (λ (w : List (List ℕ)). HasClassifyForm w grid' subject' limits' workers' false) same second.has) in
     cc
 one_of_form words TableRequest TableRequest is first second = refl
 one_of_form words (SampleRequest grid n count seed limits workers) (SampleRequest grid' n' count' seed' limits' workers') is first second =

@@ -9,7 +9,7 @@ use Rattle.heesch_cert.specs.Limits.{AreLimits}
 use Rattle.heesch_grid.specs.declared.GridName.{GridName}
 use Rattle.heesch_words.specs.declared.options.Options.{Options}
 use Rattle.heesch_words.specs.declared.requests.Request.{Request}
-use Rattle.heesch_words.specs.declared.requests.Request.TheVariants.{List as ListRequest, Plain as PlainRequest, Classify as ClassifyRequest, Check as CheckRequest, Table as TableRequest, Sample as SampleRequest, Formula as FormulaRequest, Answer as AnswerRequest, Share as ShareRequest, Join as JoinRequest, Outer as OuterRequest}
+use Rattle.heesch_words.specs.declared.requests.Request.TheVariants.{List as ListRequest, Plain as PlainRequest, Classify as ClassifyRequest, Check as CheckRequest, CheckOuter as CheckOuterRequest, Table as TableRequest, Sample as SampleRequest, Formula as FormulaRequest, Answer as AnswerRequest, Share as ShareRequest, Join as JoinRequest, Outer as OuterRequest}
 use Rattle.heesch_words.specs.Options.{Name, Workers, Turns, Levels, Domain, Size, Version, Setting, Number, Brief, IsNumberInRange, IsInRange as IsSettingInRange, number_of, held, default_limits, AreOptions, workers_of, limits_of}
 use Rattle.heesch_cert.specs.Sizes.{HasGrid, IsSubject}
 use Rattle.heesch_cnf.specs.declared.version.Version.{Version as FormulaVersion}
@@ -79,6 +79,7 @@ form_in_range words (ClassifyRequest grid subject limits workers brief) has = cl
 form_in_range words (CheckRequest workers) has =
     let (low, high) = workers_in_range words has.options has.given in
     (omega (arith, has.workers_is, low), omega (arith, has.workers_is, high))
+form_in_range words (CheckOuterRequest grid subject limits workers) has = classify_in_range has.others grid subject limits workers false has.has
 form_in_range words TableRequest has = tt
 form_in_range words (SampleRequest grid n count seed limits workers) has =
     let (low, high) = workers_in_range has.have.others has.options has.have.given in

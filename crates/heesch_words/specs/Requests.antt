@@ -1,7 +1,7 @@
 -- What the words of a command line ask for.
 use Rattle.std.specs.Prelude.{◌≡◌, ◌≤◌, ℕ, Bool, false, ⊤, List, [], ◌∷◌, ◌++◌, codes, decimal}
 use Rattle.heesch_cert.specs.declared.header.Subject.{Subject}
-use Rattle.heesch_cert.specs.declared.header.Subject.TheVariants.{Size, Given}
+use Rattle.heesch_cert.specs.declared.header.Subject.TheVariants.{Size}
 use Rattle.heesch_cert.specs.declared.limits.Limits.{Limits}
 use Rattle.heesch_cert.specs.Limits.{AreLimits}
 use Rattle.heesch_cert.specs.Sizes.{most_cells, HasGrid, IsSubject, subject_word}
@@ -11,7 +11,7 @@ use Rattle.heesch_grid.specs.declared.GridName.{GridName}
 use Rattle.heesch_grid.specs.Names.{grid_word}
 use Rattle.heesch_words.specs.declared.options.Options.{Options}
 use Rattle.heesch_words.specs.declared.requests.Request.{Request}
-use Rattle.heesch_words.specs.declared.requests.Request.TheVariants.{List as ListRequest, Plain as PlainRequest, Classify as ClassifyRequest, Check as CheckRequest, Table as TableRequest, Sample as SampleRequest, Formula as FormulaRequest, Answer as AnswerRequest, Share as ShareRequest, Join as JoinRequest, Outer as OuterRequest}
+use Rattle.heesch_words.specs.declared.requests.Request.TheVariants.{List as ListRequest, Plain as PlainRequest, Classify as ClassifyRequest, Check as CheckRequest, CheckOuter as CheckOuterRequest, Table as TableRequest, Sample as SampleRequest, Formula as FormulaRequest, Answer as AnswerRequest, Share as ShareRequest, Join as JoinRequest, Outer as OuterRequest}
 use Rattle.heesch_words.specs.Options.{AreOptions, HasWorkersAlone, HasSizeAndVersionAlone, workers_of, limits_of}
 
 -- the shapes of so many cells are listed: version 2 has the larger ranges
@@ -64,6 +64,12 @@ pub record HasCheckForm (words : List (List ℕ)) (workers : ℕ) : Type 0 where
   pub alone : HasWorkersAlone options
   pub workers_is : workers ≡ workers_of options
 
+-- `outer`, then GRID N or GRID `given`, and the options that are wanted, but for `--brief`
+pub record HasCheckOuterForm (words : List (List ℕ)) (grid : GridName) (subject : Subject) (limits : Limits) (workers : ℕ) : Type 0 where
+  pub others : List (List ℕ)
+  pub spelled : words ≡ codes "outer" ∷ others
+  pub has : HasClassifyForm others grid subject limits workers false
+
 -- GRID N COUNT SEED, and the options that are wanted, but for `--brief`
 pub record HasSampleForm (words : List (List ℕ)) (grid : GridName) (n count seed : ℕ) (limits : Limits) (workers : ℕ) : Type 0 where
   pub options : Options
@@ -100,6 +106,7 @@ form_word (ListRequest grid n workers) = codes "list"
 form_word (PlainRequest grid n workers) = codes "plain"
 form_word (ClassifyRequest grid subject limits workers brief) = codes "classify"
 form_word (CheckRequest workers) = codes "check"
+form_word (CheckOuterRequest grid subject limits workers) = codes "check"
 form_word TableRequest = codes "table"
 form_word (SampleRequest grid n count seed limits workers) = codes "sample"
 form_word (FormulaRequest grid level size version) = codes "formula"
@@ -114,6 +121,7 @@ HasForm words (ListRequest grid n workers) = HasListForm words grid n workers
 HasForm words (PlainRequest grid n workers) = HasListForm words grid n workers
 HasForm words (ClassifyRequest grid subject limits workers brief) = HasClassifyForm words grid subject limits workers brief
 HasForm words (CheckRequest workers) = HasCheckForm words workers
+HasForm words (CheckOuterRequest grid subject limits workers) = HasCheckOuterForm words grid subject limits workers
 HasForm words TableRequest = words ≡ []
 HasForm words (SampleRequest grid n count seed limits workers) = HasSampleForm words grid n count seed limits workers
 HasForm words (FormulaRequest grid level size version) = HasFormulaForm words grid level size version
@@ -134,6 +142,7 @@ IsInRange (ListRequest grid n workers) = IsSize grid n × (1 ≤ workers) × (wo
 IsInRange (PlainRequest grid n workers) = IsSize grid n × (1 ≤ workers) × (workers ≤ 64)
 IsInRange (ClassifyRequest grid subject limits workers brief) = IsSubject limits.version grid subject × AreLimits limits × (1 ≤ workers) × (workers ≤ 64)
 IsInRange (CheckRequest workers) = (1 ≤ workers) × (workers ≤ 64)
+IsInRange (CheckOuterRequest grid subject limits workers) = IsSubject limits.version grid subject × AreLimits limits × (1 ≤ workers) × (workers ≤ 64)
 IsInRange TableRequest = ⊤
 IsInRange (SampleRequest grid n count seed limits workers) = IsSample n count seed × HasGrid limits.version grid × AreLimits limits × (1 ≤ workers) × (workers ≤ 64)
 IsInRange (FormulaRequest grid level size version) = IsFormulaInRange level size × HasGrid version grid

@@ -6,12 +6,13 @@ ghost use Rattle.heesch_cert.specs.declared.limits.Limits.{Limits};
 ghost use Rattle.heesch_grid.specs.declared.GridName.{GridName};
 ghost use Rattle.heesch_cnf.specs.declared.version.Version.{Version as FormulaVersion};
 ghost use Rattle.heesch_words.specs.Requests.{Asks, HasListForm, HasClassifyForm, HasCheckForm, HasSampleForm};
+ghost use Rattle.heesch_words.specs.Requests.{HasCheckOuterForm};
 ghost use Rattle.heesch_words.specs.Requests.{HasFormulaForm, HasShareForm};
 
 use crate::numbers::number;
 use crate::options::Options;
 use crate::shared_forms::{
-    ClassifyForm, FormulaForm, ListForm, classify_form, formula_form, list_form,
+    FormulaForm, ListForm, classify_form, formula_form, full_form, list_form,
 };
 use crate::subjects::grid_named;
 use heesch_cert::{Limits, Subject, has_grid, most_cells};
@@ -50,6 +51,13 @@ pub enum Request {
     },
     /// Whether a catalogue is valid, found by so many workers.
     Check {
+        workers: u32,
+    },
+    /// Whether an outer text of a subject's shapes under these limits is valid, found by so many workers.
+    CheckOuter {
+        grid: GridName,
+        subject: Subject,
+        limits: Limits,
         workers: u32,
     },
     /// The tally of a catalogue.
@@ -116,6 +124,7 @@ const MOST_SHARES: u64 = 1_000;
 /// - `classify GRID N` and `classify GRID given`: `--workers`, `--turns`, `--levels`, `--domain`,
 ///   `--size`, `--version` and `--brief`;
 /// - `check`: `--workers`;
+/// - `check outer GRID N` and `check outer GRID given`: the options of `classify`, but for `--brief`;
 /// - `table`: none;
 /// - `sample GRID N COUNT SEED`: `--workers`, `--turns`, `--levels`, `--domain`, `--size` and
 ///   `--version`;
@@ -195,6 +204,42 @@ fn classify(words: &[String]) -> Result<Request, Usage>
 
 /// The request whose words are `check` and these.
 fn check(words: &[String]) -> Result<Request, Usage>
+    ensures ok { IfOk result
+        (λ request. Asks (codes "check" ∷ map string_bytes words.now) request) }
+    ensures usage { OnErr result
+        ((workers : ℕ) → ¬ HasCheckForm (map string_bytes words.now) workers) }
+    ensures no_outer { OnErr result
+        ((grid : GridName) (subject : Subject) (limits : Limits) (workers : ℕ)
+        → ¬ HasCheckOuterForm (map string_bytes words.now) grid subject limits workers) }
+{
+    let [form, rest @ ..] = words else {
+        return check_catalogue(words);
+    };
+    match form.as_str() {
+        "outer" => check_outer(rest),
+        _ => check_catalogue(words),
+    }
+}
+
+/// The request whose words are `check`, `outer` and these.
+fn check_outer(words: &[String]) -> Result<Request, Usage>
+    ensures ok { IfOk result
+        (λ request. Asks (codes "check" ∷ codes "outer" ∷ map string_bytes words.now) request) }
+    ensures usage { OnErr result
+        ((grid : GridName) (subject : Subject) (limits : Limits) (workers : ℕ)
+        → ¬ HasClassifyForm (map string_bytes words.now) grid subject limits workers false) }
+{
+    let form = full_form(words)?;
+    Ok(Request::CheckOuter {
+        grid: form.grid,
+        subject: form.subject,
+        limits: form.limits,
+        workers: form.workers,
+    })
+}
+
+/// The request whose words are `check` and these, where they are its options alone.
+fn check_catalogue(words: &[String]) -> Result<Request, Usage>
     ensures ok { IfOk result
         (λ request. Asks (codes "check" ∷ map string_bytes words.now) request) }
     ensures usage { OnErr result
@@ -310,10 +355,7 @@ fn outer(words: &[String]) -> Result<Request, Usage>
         ((grid : GridName) (subject : Subject) (limits : Limits) (workers : ℕ)
         → ¬ HasClassifyForm (map string_bytes words.now) grid subject limits workers false) }
 {
-    let form = classify_form(words)?;
-    if form.brief {
-        return Err(Usage);
-    }
+    let form = full_form(words)?;
     Ok(Request::Outer {
         grid: form.grid,
         subject: form.subject,

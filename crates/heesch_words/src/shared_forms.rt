@@ -1,6 +1,6 @@
 //! What words give after the first one, in the forms that two commands share.
 
-ghost use Rattle.std.specs.Prelude.{ℕ, Bool, map, string_bytes, IfOk, OnErr};
+ghost use Rattle.std.specs.Prelude.{ℕ, Bool, false, map, string_bytes, IfOk, OnErr};
 ghost use Rattle.heesch_cert.specs.declared.header.Subject.{Subject};
 ghost use Rattle.heesch_cert.specs.declared.limits.Limits.{Limits};
 ghost use Rattle.heesch_grid.specs.declared.GridName.{GridName};
@@ -49,7 +49,7 @@ pub struct ClassifyForm {
     pub brief: bool,
 }
 
-/// What these words give after `classify`, and after `outer` where they aren't brief.
+/// What these words give after `classify`.
 pub fn classify_form(words: &[String]) -> Result<ClassifyForm, Usage>
     ensures ok { IfOk result
         (λ form. HasClassifyForm
@@ -72,6 +72,22 @@ pub fn classify_form(words: &[String]) -> Result<ClassifyForm, Usage>
         workers: options.workers(),
         brief: options.brief,
     })
+}
+
+/// What these words give after `outer` and after `check outer`: `--brief` isn't taken.
+pub fn full_form(words: &[String]) -> Result<ClassifyForm, Usage>
+    ensures ok { IfOk result
+        (λ form. HasClassifyForm
+        (map string_bytes words.now) form.grid form.subject form.limits form.workers false) }
+    ensures usage { OnErr result
+        ((grid : GridName) (subject : Subject) (limits : Limits) (workers : ℕ)
+        → ¬ HasClassifyForm (map string_bytes words.now) grid subject limits workers false) }
+{
+    let form = classify_form(words)?;
+    if form.brief {
+        return Err(Usage);
+    }
+    Ok(form)
 }
 
 /// What the words GRID J give, with the options `--size` and `--version`.

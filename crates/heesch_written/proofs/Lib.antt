@@ -4,9 +4,9 @@ pub mod Levels
 pub mod Coronas
 pub mod Holes
 pub mod Classes
-mod Lists
-mod Proven
+pub mod Lists
+pub mod Proven
 mod Covers
-mod Searches
+pub mod Searches
 mod Written
 pub mod EntryLines

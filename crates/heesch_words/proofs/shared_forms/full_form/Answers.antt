@@ -4,7 +4,7 @@ use Rattle.heesch_cert.specs.declared.limits.Limits.{Limits}
 use Rattle.heesch_grid.specs.declared.GridName.{GridName}
 use Rattle.heesch_words.specs.Requests.{HasClassifyForm}
 use Rattle.heesch_words.proofs.Forms.{brief_not_full}
-use Rattle.heesch_words.proofs.requests.outer.Goals as goal
+use Rattle.heesch_words.proofs.shared_forms.full_form.Goals as goal
 
 pub returns-in_err-form-clause-usage : goal.returns-in_err-form-clause-usage
 returns-in_err-form-clause-usage c =
