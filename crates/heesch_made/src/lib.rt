@@ -2,10 +2,12 @@
 //! and worked texts.
 #![tactic(auto)]
 
+mod equality;
 mod literals;
 mod shapes;
 mod texts;
 
+pub use equality::same;
 pub use heesch_cert::Member;
 pub use heesch_grid::{Cell, Iso, cells};
 pub use literals::{lit, lits};

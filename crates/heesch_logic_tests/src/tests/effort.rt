@@ -1,10 +1,10 @@
 //! What the solver and propagation take on one formula. No clause bounds it.
-use heesch_cdcl::{Found, Solver};
-use heesch_cnf::{FlatFormula, Line, Lit, is_clause};
-use heesch_made::lit;
+use super::solver::word_of;
+use heesch_cdcl::Solver;
+use heesch_cnf::{FlatFormula, Line, Lit, Log, is_clause};
+use heesch_made::{lit, same};
 use heesch_trail::Trail;
 use std::alloc::Global;
-use std::process::Abort;
 use std::test::Fail;
 
 /// How many variables the formula has.
@@ -64,20 +64,26 @@ const BOARDS: &str =
 -79 -89 0 -82 -88 0 -82 -97 0 -82 -108 0 -83 -105 0 -83 -108 0 -86 -88 0 -86 -95 0 -86 -104 0 -88 -95 0 -88
 -97 0 -89 -91 0 -90 -105 0 -92 -106 0 -95 -107 0 -100 -107 0";
 
+/// Adds the clause, where the formula has room for it.
+fn add(formula: &mut FlatFormula, clause: &[Lit]) -> Result<(), Fail> {
+    if formula.len() < 1000 && is_clause(formula.vars(), clause) {
+        return Ok(formula.add(clause)?);
+    }
+    Err(Fail::new("no clause"))
+}
+
 /// The formula of the boards.
-fn formula_of_boards(rt: &impl Abort, alloc: Global) -> Result<FlatFormula, Fail> {
+fn formula_of_boards(alloc: Global) -> Result<FlatFormula, Fail> {
     let mut formula = FlatFormula::new(alloc, VARS);
     let mut clause = Vec::new(alloc);
     for word in BOARDS.split_whitespace() {
         let number = word.parse::<i32>()?;
-        if number != 0 {
+        if number == 0 {
+            add(&mut formula, &clause)?;
+            clause.clear();
+        } else {
             clause.push(lit(number))?;
-            continue;
         }
-        assert!(rt; formula.vars() == VARS && formula.len() < 1000);
-        assert!(rt; is_clause(VARS, &clause));
-        formula.add(&clause)?;
-        clause.clear();
     }
     Ok(formula)
 }
@@ -93,21 +99,46 @@ fn literals_of(lines: &[Line]) -> usize {
     literals
 }
 
+/// Makes the variable true alone, where it is open, and what follows.
+fn visit(trail: &mut Trail, var: u32) -> Result<(), Fail> {
+    if var < 1 || var > trail.vars() || trail.value(var).is_some() {
+        return Ok(());
+    }
+    trail.decide(Lit {
+        var,
+        positive: true,
+    })?;
+    let _ = trail.propagate()?;
+    trail.back_to(0);
+    Ok(())
+}
+
 /// How many clauses propagation visits, where each variable in turn is made true alone.
-fn visits_of(rt: &impl Abort, alloc: Global) -> Result<u64, Fail> {
-    let mut trail = Trail::over(alloc, formula_of_boards(rt, alloc)?)?;
+fn visits_of(alloc: Global) -> Result<u64, Fail> {
+    let mut trail = Trail::over(alloc, formula_of_boards(alloc)?)?;
     for var in 1..=VARS {
-        assert!(rt; trail.vars() == VARS && 1 <= var && var <= VARS);
-        if trail.value(var).is_none() {
-            trail.decide(Lit {
-                var,
-                positive: true,
-            })?;
-            let _ = trail.propagate()?;
-            trail.back_to(0);
-        }
+        visit(&mut trail, var)?;
     }
     Ok(trail.visits())
+}
+
+/// What the solver finds, and its log.
+fn found(alloc: Global) -> Result<(&'static str, Log), Fail> {
+    let formula = formula_of_boards(alloc)?;
+    if formula.len() > 1000 {
+        return Err(Fail::new("too many"));
+    }
+    let mut solver = Solver::over(alloc, formula, 20_000)?;
+    let found = solver.next()?;
+    Ok((word_of(&found), solver.into_log()))
+}
+
+/// A test fails where the count exceeds the bound.
+fn at_most(row: &str, count: u64, bound: u64) -> Result<(), Fail> {
+    if count <= bound {
+        return Ok(());
+    }
+    Err(Fail::new(format_args!("{count} {row}")))
 }
 
 /// The bounds are what was counted when this was written, 100 conflicts, 294 literals and 49,005 visits, and a quarter
@@ -115,18 +146,9 @@ fn visits_of(rt: &impl Abort, alloc: Global) -> Result<u64, Fail> {
 /// 270; clauses that aren't shortened have 452 literals.
 #[test]
 fn two_boards_take_little_effort(rt: HostRuntime) -> Result<(), Fail> {
-    let alloc = rt.alloc();
-    let formula = formula_of_boards(&rt, alloc)?;
-    assert!(rt; formula.len() < 1000);
-    let mut solver = Solver::over(alloc, formula, 20_000)?;
-    let found = solver.next()?;
-    assert!(rt; matches!(&found, Found::Refuted));
-    let log = solver.into_log();
-    let conflicts = log.lines.len();
-    let literals = literals_of(log.lines.as_slice());
-    let visits = visits_of(&rt, alloc)?;
-    assert!(rt; conflicts <= 125, "{conflicts} conflicts");
-    assert!(rt; literals <= 367, "{literals} literals");
-    assert!(rt; visits <= 61_256, "{visits} visits");
-    Ok(())
+    let (word, log) = found(rt.alloc())?;
+    same("found", word, "refuted")?;
+    at_most("conflicts", log.lines.len() as u64, 125)?;
+    at_most("literals", literals_of(log.lines.as_slice()) as u64, 367)?;
+    at_most("visits", visits_of(rt.alloc())?, 61_256)
 }

@@ -3,6 +3,7 @@ use heesch_cnf::{Lit, PackedLit};
 use heesch_cover::{CoverTable, NumberLists};
 use heesch_io::NoMemory;
 use heesch_lazy::{CoverLog, Found, Reason, Search};
+use heesch_made::same;
 use std::alloc::Global;
 use std::test::Fail;
 
@@ -31,6 +32,13 @@ fn push_each(literals: &mut Vec<Lit>, variables: &[u32], positive: bool) -> Resu
     Ok(())
 }
 
+fn push_packed(literals: &mut Vec<Lit>, clause: &[PackedLit]) -> Result<(), NoMemory> {
+    for literal in clause {
+        literals.push(literal.lit())?;
+    }
+    Ok(())
+}
+
 /// The literals of the clause that a reason is.
 fn literals(
     alloc: Global,
@@ -46,26 +54,20 @@ fn literals(
             push_each(&mut literals, table.candidates(want), true)?;
         }
         Reason::Apart { tile, other } => push_each(&mut literals, &[tile, other], false)?,
-        Reason::Line { index } => {
-            for lit in log.clause(index as usize) {
-                literals.push(lit.lit())?;
-            }
-        }
+        Reason::Line { index } => push_packed(&mut literals, log.clause(index as usize))?,
     }
     Ok(literals)
 }
 
-fn is_false(values: &[Option<bool>], lit: Lit) -> bool {
-    match values.get(lit.var as usize) {
-        Some(Some(value)) => *value != lit.positive,
-        _ => false,
+/// The literals but those that these make false.
+fn open_of(alloc: Global, truths: &[Lit], literals: &[Lit]) -> Result<Vec<Lit>, NoMemory> {
+    let mut open = Vec::new(alloc);
+    for literal in literals {
+        if !truths.contains(&literal.opposite()) {
+            open.push(*literal)?;
+        }
     }
-}
-
-fn make_true(values: &mut [Option<bool>], lit: Lit) {
-    if let Some(value) = values.get_mut(lit.var as usize) {
-        *value = Some(lit.positive);
-    }
+    Ok(open)
 }
 
 /// Whether, where the clause's literals are false, each reason's clause in turn has one literal that isn't, and the
@@ -77,29 +79,22 @@ fn shows(
     clause: &[PackedLit],
     reasons: &[Reason],
 ) -> Result<bool, NoMemory> {
-    let mut values = vec![in alloc; None; table.vars() as usize + 1]?;
-    for lit in clause {
-        make_true(&mut values, lit.lit().opposite());
+    let mut truths = Vec::new(alloc);
+    for literal in clause {
+        truths.push(literal.lit().opposite())?;
     }
     for reason in reasons {
-        let mut left = None;
-        let mut is_one = true;
-        for lit in &literals(alloc, table, log, *reason)? {
-            if !is_false(&values, *lit) {
-                is_one = left.is_none();
-                left = Some(*lit);
-            }
-        }
-        match left {
-            None => return Ok(true),
-            Some(lit) if is_one => make_true(&mut values, lit),
-            Some(_) => return Ok(false),
+        let open = open_of(alloc, &truths, &literals(alloc, table, log, *reason)?)?;
+        match open.as_slice() {
+            [] => return Ok(true),
+            [literal] => truths.push(*literal)?,
+            _ => return Ok(false),
         }
     }
     Ok(false)
 }
 
-/// Whether each line that was learnt holds, and the last one.
+/// Whether each line that was learnt holds, and the last one, which is there.
 fn holds(alloc: Global, table: &CoverTable, log: &CoverLog) -> Result<bool, NoMemory> {
     for index in 0..log.len() {
         let learnt = log.given(index).is_none();
@@ -108,60 +103,66 @@ fn holds(alloc: Global, table: &CoverTable, log: &CoverLog) -> Result<bool, NoMe
         }
     }
     match log.last() {
-        None => Ok(true),
+        None => Ok(false),
         Some(reasons) => shows(alloc, table, log, &[], reasons),
     }
 }
 
-/// The clause that not all of these are chosen.
-fn not_all(alloc: Global, chosen: &[u32]) -> Result<Vec<Lit>, NoMemory> {
+/// Gives that not all of these are chosen.
+fn give(alloc: Global, search: &mut Search, chosen: &[u32]) -> Result<(), NoMemory> {
     let mut clause = Vec::new(alloc);
     push_each(&mut clause, chosen, false)?;
-    Ok(clause)
+    search.give(&clause)
 }
 
-/// How many choices a ring has: each is given as one that isn't wanted, until there is none; and whether the log
-/// holds.
-fn choices(alloc: Global, cells: u32) -> Result<(u32, bool), NoMemory> {
-    let mut search = Search::over(alloc, ring(alloc, cells)?)?;
+/// How many choices a ring has, each given as one that isn't wanted, until there is none. None where there are a
+/// hundred, or where turns are wanting.
+fn choices(alloc: Global, search: &mut Search) -> Result<Option<u32>, NoMemory> {
     for count in 0..100u32 {
         match search.next(100)? {
-            Found::Model { chosen } => search.give(&not_all(alloc, chosen.as_slice())?)?,
-            Found::Refuted => {
-                let (table, log) = search.into_log()?;
-                return Ok((count, log.last().is_some() && holds(alloc, &table, &log)?));
-            }
-            _ => return Ok((count, false)),
+            Found::Model { chosen } => give(alloc, search, chosen.as_slice())?,
+            Found::Refuted => return Ok(Some(count)),
+            _ => return Ok(None),
         }
     }
-    Ok((100, false))
+    Ok(None)
+}
+
+/// The choices of a ring, and whether the log holds.
+fn found_in_ring(alloc: Global, cells: u32) -> Result<(Option<u32>, bool), NoMemory> {
+    let mut search = Search::over(alloc, ring(alloc, cells)?)?;
+    let count = choices(alloc, &mut search)?;
+    let (table, log) = search.into_log()?;
+    Ok((count, holds(alloc, &table, &log)?))
 }
 
 #[test]
 fn rings_have_two_covers_or_none(rt: HostRuntime) -> Result<(), Fail> {
-    assert_eq!(rt; choices(rt.alloc(), 6)?, (2, true));
-    assert_eq!(rt; choices(rt.alloc(), 7)?, (0, true));
-    Ok(())
+    same("six", found_in_ring(rt.alloc(), 6)?, (Some(2), true))?;
+    same("seven", found_in_ring(rt.alloc(), 7)?, (Some(0), true))
 }
 
 #[test]
 fn an_odd_ring_takes_a_turn(rt: HostRuntime) -> Result<(), Fail> {
     let mut search = Search::over(rt.alloc(), ring(rt.alloc(), 5)?)?;
-    assert!(rt; matches!(search.next(0)?, Found::Spent));
-    Ok(())
+    same("spent", matches!(search.next(0)?, Found::Spent), true)
 }
 
-#[test]
-fn one_that_is_asked_for_in_vain_is_denied(rt: HostRuntime) -> Result<(), Fail> {
-    let mut table = ring(rt.alloc(), 4)?;
+/// A ring of four in which the first wants tile 3, and the second what isn't there.
+fn ring_that_asks(alloc: Global) -> Result<CoverTable, NoMemory> {
+    let mut table = ring(alloc, 4)?;
     let want = table.want_one_of(&[3])?;
     let none = table.want_one_of(&[])?;
     table.ask(&[want])?;
     table.ask(&[none])?;
-    let mut search = Search::over(rt.alloc(), table)?;
-    match search.next(0)? {
-        Found::Model { chosen } => assert!(rt; chosen.as_slice() == [1, 3].as_slice()),
-        _ => assert!(rt; false),
-    }
-    Ok(())
+    Ok(table)
+}
+
+#[test]
+fn one_that_is_asked_for_in_vain_is_denied(rt: HostRuntime) -> Result<(), Fail> {
+    let mut search = Search::over(rt.alloc(), ring_that_asks(rt.alloc())?)?;
+    let Found::Model { chosen } = search.next(0)? else {
+        return Err(Fail::new("no choice"));
+    };
+    same("chosen", chosen.as_slice(), [1, 3].as_slice())
 }
