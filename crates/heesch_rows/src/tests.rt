@@ -7,6 +7,7 @@ mod given;
 mod hostile;
 mod lists;
 mod orders;
+mod outer_checks;
 mod plains;
 mod running;
 mod shares;

@@ -1,4 +1,4 @@
-//! `heesch check` uses the workers and the gate that it is given.
+//! `heesch check` and `check outer` use the workers and the gate that they are given.
 use super::FIVE_TETROMINOES;
 use super::running::{bytes_of, room, run_past, written_over};
 use heesch_app::Status;
@@ -64,14 +64,16 @@ impl Drop for Hold {
 #[test]
 fn check_uses_its_workers_and_its_gate(rt: HostRuntime) -> Result<(), Fail> {
     let alloc = rt.alloc();
-    let shapes = bytes_of(alloc, FIVE_TETROMINOES)?;
-    let catalogue = written_over(&rt, alloc, "classify square given", shapes)?;
-    for (line, turns, expires) in [
-        ("check --workers 2", 200_000_000, false),
-        ("check", 1_000, true),
+    for (made, line, turns, expires) in [
+        ("classify square given", "check --workers 2", 200_000_000, false),
+        ("classify square given", "check", 1_000, true),
+        ("outer square given", "check outer square given --workers 2", 200_000_000, false),
+        ("outer square given", "check outer square given", 1_000, true),
     ] {
+        let shapes = bytes_of(alloc, FIVE_TETROMINOES)?;
+        let text = written_over(&rt, alloc, made, shapes)?;
         let gate = Hold::new(turns);
-        let source = MemorySource::new(catalogue.clone()?, 4096, Vec::new(alloc));
+        let source = MemorySource::new(text, 4096, Vec::new(alloc));
         let (status, sink) = run_past(&rt, alloc, line, source, room(alloc, 100)?, &gate)?;
         assert_eq!(rt; status, Status::Done, "{line}");
         assert_eq!(rt; sink.held.as_slice(), b"valid 5\n".as_slice(), "{line}");

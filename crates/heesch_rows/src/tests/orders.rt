@@ -57,6 +57,7 @@ fn every_command_reads_before_it_writes(rt: HostRuntime) -> Result<(), Fail> {
         ("classify square given", FIVE_TETROMINOES),
         ("outer square given", FIVE_TETROMINOES),
         ("check", TRIANGLE),
+        ("check outer square given", "end 0\n"),
         ("table", TRIANGLE),
         ("join", share),
         ("formula square 1", "0,0\n"),
