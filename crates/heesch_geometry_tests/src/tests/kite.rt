@@ -1,31 +1,45 @@
 //! Neighbours and isometries.
-use heesch_grid::{Cell, Grid, Iso};
+use heesch_grid::{Cell, Grid, Iso, cells};
 use heesch_kite::Kite;
+use heesch_made::same;
+use std::test::Fail;
 
-/// The cells are those of six residues, and the neighbours stand in cell order.
+const FIRST: Cell = Cell { a: 1, b: 1 };
+
+const LAST: Cell = Cell { a: 8, b: -7 };
+
+/// The cells are those of six residues.
 #[test]
-fn neighbours_stand_in_cell_order(rt: HostRuntime) {
-    let first = Cell { a: 1, b: 1 };
-    let last = Cell { a: 8, b: -7 };
-    assert!(rt; Kite::is_cell(first) && Kite::is_cell(last) && Kite::is_cell(Cell { a: 4, b: 1 }));
-    assert!(rt; !Kite::is_cell(Cell { a: 0, b: 0 }) && !Kite::is_cell(Cell { a: 1, b: 2 }));
-    assert_eq!(rt; Kite::adjacent(first, 0), Cell { a: 2, b: -1 });
-    assert_eq!(rt; Kite::adjacent(first, 1), Cell { a: 4, b: 1 });
-    assert_eq!(rt; Kite::touching(first, 8), Cell { a: -1, b: 5 });
-    assert_eq!(rt; Kite::adjacent(last, 3), Cell { a: 7, b: -5 });
-    assert_eq!(rt; Kite::touching(last, 0), Cell { a: 10, b: -11 });
+fn cells_have_six_residues(_rt: HostRuntime) -> Result<(), Fail> {
+    let found = [
+        Kite::is_cell(FIRST),
+        Kite::is_cell(LAST),
+        Kite::is_cell(Cell { a: 4, b: 1 }),
+        Kite::is_cell(Cell { a: 0, b: 0 }),
+        Kite::is_cell(Cell { a: 1, b: 2 }),
+    ];
+    same("cells", found, [true, true, true, false, false])
 }
 
-/// A sixth of a turn takes a kite to the next one, and a translation goes by six.
+/// The neighbours stand in cell order; a sixth of a turn takes a kite to the next one, and a translation goes by six.
 #[test]
-fn isometries_follow_the_tables(rt: HostRuntime) {
+fn neighbours_and_isometries_follow_the_tables(_rt: HostRuntime) -> Result<(), Fail> {
     let sixth = Iso {
         turn: 1,
         da: 1,
         db: 0,
     };
-    assert_eq!(rt;
-        sixth.apply::<Kite>(Cell { a: 1, b: 1 }),
-        Cell { a: 5, b: 2 }
-    );
+    let found = [
+        Kite::adjacent(FIRST, 0),
+        Kite::adjacent(FIRST, 1),
+        Kite::touching(FIRST, 8),
+        Kite::adjacent(LAST, 3),
+        Kite::touching(LAST, 0),
+        sixth.apply::<Kite>(FIRST),
+    ];
+    same(
+        "kites",
+        found,
+        cells![2, -1; 4, 1; -1, 5; 7, -5; 10, -11; 5, 2],
+    )
 }

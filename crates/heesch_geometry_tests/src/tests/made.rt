@@ -1,14 +1,15 @@
-//! Isometries in range, and tilings by them.
+//! Cells and isometries in range, and tilings by them.
 ghost use Rattle.std.specs.Prelude.{◌≡◌, ◌≤◌, true, length, All, IfOk};
+ghost use Rattle.heesch_grid.specs.Vectors.{IsWithin};
 ghost use Rattle.heesch_corona.specs.Tiles.{IsInRange as IsTile};
 ghost use Rattle.heesch_tiling.specs.Counting.{IsInRange};
 
 use heesch_cert::Tiling;
-use heesch_grid::{Grid, Iso};
-use heesch_io::{NoMemory, Seq};
+use heesch_grid::{Cell, Grid, Iso};
+use heesch_io::Seq;
 use heesch_lattice::Triple;
 use std::alloc::Global;
-use std::process::Abort;
+use std::test::Fail;
 
 /// Whether an isometry is in range.
 fn is_in_range<G: Grid>(by: Iso) -> bool
@@ -36,18 +37,37 @@ pub(crate) fn are_in_range<G: Grid>(isos: &[Iso]) -> bool
 
 /// The tiling of this triple by these places, which are at most 12 and in range.
 pub(crate) fn tiling_of<G: Grid>(
-    rt: &impl Abort,
     alloc: Global,
     triple: Triple,
     places: &[Iso],
-) -> Result<Tiling, NoMemory>
+) -> Result<Tiling, Fail>
     ensures few { IfOk result (λ t. length t.places ≤ 12) }
     ensures range { IfOk result (λ t. All (IsInRange G.geometry) t.places) }
 {
-    assert!(rt; places.len() <= 12);
-    assert!(rt; are_in_range::<G>(places));
+    if places.len() > 12 || !are_in_range::<G>(places) {
+        return Err(Fail::new("far or many places"));
+    }
     Ok(Tiling {
         triple,
         places: Seq::from_vec(places.to_vec(alloc)?),
     })
+}
+
+/// Whether both coordinates lie within 100,000 of 0.
+fn is_within(c: Cell) -> bool
+    ensures { result ≡ true → IsWithin 100000 c }
+{
+    -100000 <= c.a && c.a <= 100000 && -100000 <= c.b && c.b <= 100000
+}
+
+/// Whether all cells lie within 100,000 of 0.
+pub(crate) fn are_within(cells: &[Cell]) -> bool
+    ensures { result ≡ true → All (IsWithin 100000) cells.now }
+{
+    for c in cells {
+        if !is_within(*c) {
+            return false;
+        }
+    }
+    true
 }

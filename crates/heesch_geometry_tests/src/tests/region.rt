@@ -1,10 +1,9 @@
 //! Regions of each grid.
 use heesch_grid::{Cell, Grid, Hex, Iamond, Square};
 use heesch_io::NoMemory;
-use heesch_made::are_near;
+use heesch_made::{are_near, same};
 use heesch_region::Region;
 use std::alloc::Global;
-use std::process::Abort;
 use std::test::Fail;
 
 type Pairs<'a> = &'a [(i32, i32)];
@@ -18,81 +17,110 @@ fn cells_at(alloc: Global, pairs: Pairs<'_>) -> Result<Vec<Cell>, NoMemory> {
     Ok(cells)
 }
 
-/// Whether the greatest hole of the cells at these pairs has just the given ones, in this order; none for no pairs.
+/// The region of these cells; a test fails where they are far from 0.
+fn region_of<G: Grid>(alloc: Global, cells: &[Cell]) -> Result<Region<G>, Fail> {
+    if !are_near(cells) {
+        return Err(Fail::new("far cells"));
+    }
+    Ok(Region::from_cells(alloc, cells)?)
+}
+
+/// How many of the cells the region has.
+fn count_in<G: Grid>(region: &Region<G>, cells: &[Cell]) -> usize {
+    cells.iter().filter(|c| region.has(**c)).count()
+}
+
+/// The greatest hole of the cells at these pairs, which the region has, is at these other ones, in this order, of
+/// which it has none; no hole for no pairs.
 fn has_hole<G: Grid>(
-    rt: &impl Abort,
     alloc: Global,
+    row: &str,
     pairs: Pairs<'_>,
     hole: Pairs<'_>,
-) -> Result<bool, NoMemory> {
+) -> Result<(), Fail> {
     let cells = cells_at(alloc, pairs)?;
-    assert!(rt; are_near(&cells));
-    let region = Region::<G>::from_cells(alloc, &cells)?;
-    for c in &cells {
-        assert!(rt; region.has(*c));
-    }
     let hole = cells_at(alloc, hole)?;
-    for c in &hole {
-        assert!(rt; !region.has(*c));
-    }
-    match region.hole(alloc)? {
-        None => Ok(hole.is_empty()),
-        Some(found) => Ok(!hole.is_empty() && found.as_slice() == hole.as_slice()),
-    }
+    let region = region_of::<G>(alloc, &cells)?;
+    same(
+        row,
+        (count_in(&region, &cells), count_in(&region, &hole)),
+        (cells.len(), 0),
+    )?;
+    let found = region.hole(alloc)?;
+    same(row, found.is_some(), !hole.is_empty())?;
+    let found = found
+        .as_ref()
+        .map_or([].as_slice(), |found| found.as_slice());
+    same(row, found, hole.as_slice())
 }
 
-/// The heptomino with a hole, the ring of four with gaps at its corners, the tetrominoes, and two holes in one set.
+const RING: Pairs = &[(1, 0), (0, 1), (2, 1), (1, 2)];
+
+/// The heptomino with a hole, the ring of four with gaps at its corners, two holes in one set, the tetrominoes, and
+/// nothing.
+const SQUARES: [(&str, Pairs, Pairs); 9] = [
+    (
+        "heptomino",
+        &[(0, 0), (1, 0), (2, 0), (0, 1), (2, 1), (0, 2), (1, 2)],
+        &[(1, 1)],
+    ),
+    ("ring of four", RING, &[(1, 1)]),
+    (
+        "two holes",
+        &[
+            (-1, 7),
+            (1, 7),
+            (0, 6),
+            (0, 8),
+            (2, 8),
+            (1, 9),
+            (2, 6),
+            (3, 7),
+        ],
+        &[(0, 7), (2, 7), (1, 8)],
+    ),
+    ("I", &[(0, 0), (1, 0), (2, 0), (3, 0)], &[]),
+    ("L", &[(0, 0), (1, 0), (2, 0), (0, 1)], &[]),
+    ("T", &[(0, 0), (1, 0), (2, 0), (1, 1)], &[]),
+    ("O", &[(0, 0), (1, 0), (0, 1), (1, 1)], &[]),
+    ("S", &[(0, 0), (1, 0), (1, 1), (2, 1)], &[]),
+    ("nothing", &[], &[]),
+];
+
+/// The ring of six hexagons, five of them, and the ring of four.
+const HEXAGONS: [(&str, Pairs, Pairs); 3] = [
+    (
+        "six",
+        &[(1, 0), (2, 0), (0, 1), (2, 1), (0, 2), (1, 2)],
+        &[(1, 1)],
+    ),
+    ("five", &[(2, 0), (0, 1), (2, 1), (0, 2), (1, 2)], &[]),
+    ("four", RING, &[]),
+];
+
+/// The triangles around one, two of them, and a pair that is no cell beside a triangle.
+const TRIANGLES: [(&str, Pairs, Pairs); 3] = [
+    ("three", &[(2, -1), (-1, 2), (2, 2)], &[(1, 1)]),
+    ("two", &[(2, -1), (-1, 2)], &[]),
+    ("no cell", &[(2, 1), (1, 1)], &[]),
+];
+
 #[test]
-fn holes_of_squares(rt: HostRuntime) -> Result<(), Fail> {
-    let alloc = rt.alloc();
-    let holed = [(0, 0), (1, 0), (2, 0), (0, 1), (2, 1), (0, 2), (1, 2)];
-    assert!(rt; has_hole::<Square>(&rt, alloc, &holed, &[(1, 1)])?);
-    let ring = [(1, 0), (0, 1), (2, 1), (1, 2)];
-    assert!(rt; has_hole::<Square>(&rt, alloc, &ring, &[(1, 1)])?);
-    assert!(rt; has_hole::<Hex>(&rt, alloc, &ring, &[])?);
-    let tetrominoes = [
-        [(0, 0), (1, 0), (2, 0), (3, 0)],
-        [(0, 0), (1, 0), (2, 0), (0, 1)],
-        [(0, 0), (1, 0), (2, 0), (1, 1)],
-        [(0, 0), (1, 0), (0, 1), (1, 1)],
-        [(0, 0), (1, 0), (1, 1), (2, 1)],
-    ];
-    for shape in &tetrominoes {
-        assert!(rt; has_hole::<Square>(&rt, alloc, shape, &[])?);
+fn holes_of_small_sets(rt: HostRuntime) -> Result<(), Fail> {
+    for (row, pairs, hole) in &SQUARES {
+        has_hole::<Square>(rt.alloc(), row, pairs, hole)?;
     }
-    let two = [
-        (-1, 7),
-        (1, 7),
-        (0, 6),
-        (0, 8),
-        (2, 8),
-        (1, 9),
-        (2, 6),
-        (3, 7),
-    ];
-    assert!(rt; has_hole::<Square>(&rt, alloc, &two, &[(0, 7), (2, 7), (1, 8)])?);
-    assert!(rt; has_hole::<Square>(&rt, alloc, &[], &[])?);
+    for (row, pairs, hole) in &HEXAGONS {
+        has_hole::<Hex>(rt.alloc(), row, pairs, hole)?;
+    }
+    for (row, pairs, hole) in &TRIANGLES {
+        has_hole::<Iamond>(rt.alloc(), row, pairs, hole)?;
+    }
     Ok(())
 }
 
-/// The ring of six hexagons, the triangles around one, and a pair that is no cell beside a triangle.
-#[test]
-fn holes_of_the_other_grids(rt: HostRuntime) -> Result<(), Fail> {
-    let alloc = rt.alloc();
-    let six = [(1, 0), (2, 0), (0, 1), (2, 1), (0, 2), (1, 2)];
-    assert!(rt; has_hole::<Hex>(&rt, alloc, &six, &[(1, 1)])?);
-    assert!(rt; has_hole::<Hex>(&rt, alloc, &six[1..], &[])?);
-    let three = [(2, -1), (-1, 2), (2, 2)];
-    assert!(rt; has_hole::<Iamond>(&rt, alloc, &three, &[(1, 1)])?);
-    assert!(rt; has_hole::<Iamond>(&rt, alloc, &three[..2], &[])?);
-    assert!(rt; has_hole::<Iamond>(&rt, alloc, &[(2, 1), (1, 1)], &[])?);
-    Ok(())
-}
-
-/// A frame of 200 columns with a wall in it: its insides go across several words, and a gap opens one of them.
-#[test]
-fn holes_across_words(rt: HostRuntime) -> Result<(), Fail> {
-    let alloc = rt.alloc();
+/// A frame of 200 columns with a wall in it, and its insides.
+fn frame(alloc: Global) -> Result<(Vec<(i32, i32)>, Vec<(i32, i32)>), NoMemory> {
     let mut frame = Vec::new(alloc);
     let mut inside = Vec::new(alloc);
     for a in -100..100 {
@@ -104,11 +132,18 @@ fn holes_across_words(rt: HostRuntime) -> Result<(), Fail> {
             inside.push((a, 0))?;
         }
     }
-    assert!(rt; has_hole::<Square>(&rt, alloc, &frame, &inside)?);
-    assert!(rt; has_hole::<Hex>(&rt, alloc, &frame, &inside)?);
+    Ok((frame, inside))
+}
+
+/// The insides go across several words, and a gap opens one of them.
+#[test]
+fn holes_across_words(rt: HostRuntime) -> Result<(), Fail> {
+    let alloc = rt.alloc();
+    let (mut frame, inside) = frame(alloc)?;
+    has_hole::<Square>(alloc, "squares", &frame, &inside)?;
+    has_hole::<Hex>(alloc, "hexagons", &frame, &inside)?;
     frame.pop();
     frame.pop();
     let last = inside.len().saturating_sub(8);
-    assert!(rt; has_hole::<Square>(&rt, alloc, &frame, &inside[..last])?);
-    Ok(())
+    has_hole::<Square>(alloc, "a gap", &frame, &inside[..last])
 }

@@ -1,26 +1,42 @@
 //! Lattices turned by hand.
 use heesch_grid::{Hex, Square};
 use heesch_lattice::{Triple, is_turned};
+use heesch_made::same;
 use std::test::Fail;
 
-/// The turns of the square grid that exchange the coordinates carry (1, 0) and (0, 2) onto (2, 0) and (0, 1); four
-/// turns of the hexagonal one carry them onto (2, 0) and (1, 1). None carries a lattice onto a coarser or a finer one.
+const HIGH: Triple = Triple { p: 1, q: 2, s: 0 };
+
+const WIDE: Triple = Triple { p: 2, q: 1, s: 0 };
+
+const SLANTED: Triple = Triple { p: 2, q: 1, s: 1 };
+
+const COARSE: Triple = Triple { p: 2, q: 2, s: 0 };
+
+/// Two lattices, and the turns that carry the first onto the second. Those of the square grid that exchange the
+/// coordinates carry (1, 0) and (0, 2) onto (2, 0) and (0, 1). None carries a lattice onto a coarser or a finer one.
+const SQUARE: [(&str, Triple, Triple, &[u32]); 4] = [
+    ("exchanged", HIGH, WIDE, &[1, 3, 4, 6]),
+    ("slanted", HIGH, SLANTED, &[]),
+    ("finer", COARSE, HIGH, &[]),
+    ("coarser", HIGH, COARSE, &[]),
+];
+
 #[test]
-fn lattices_of_area_two(rt: HostRuntime) -> Result<(), Fail> {
-    let high = Triple { p: 1, q: 2, s: 0 };
-    let wide = Triple { p: 2, q: 1, s: 0 };
-    let slanted = Triple { p: 2, q: 1, s: 1 };
-    let coarse = Triple { p: 2, q: 2, s: 0 };
-    for k in 0..8 {
-        let exchanges = k == 1 || k == 3 || k == 4 || k == 6;
-        assert_eq!(rt; is_turned::<Square>(k, high, wide), exchanges);
-        assert_eq!(rt; is_turned::<Square>(k, high, slanted), false);
-        assert_eq!(rt; is_turned::<Square>(k, coarse, high), false);
-        assert_eq!(rt; is_turned::<Square>(k, high, coarse), false);
+fn turns_of_the_square_grid(_rt: HostRuntime) -> Result<(), Fail> {
+    for (row, from, to, turns) in &SQUARE {
+        for k in 0..8 {
+            same(row, is_turned::<Square>(k, *from, *to), turns.contains(&k))?;
+        }
     }
+    Ok(())
+}
+
+/// Four turns of the hexagonal grid carry them onto (2, 0) and (1, 1).
+#[test]
+fn turns_of_the_hexagonal_grid(_rt: HostRuntime) -> Result<(), Fail> {
     for k in 0..12 {
-        let slants = k == 2 || k == 5 || k == 7 || k == 10;
-        assert_eq!(rt; is_turned::<Hex>(k, high, slanted), slants);
+        let slants = [2, 5, 7, 10].contains(&k);
+        same("slanted", is_turned::<Hex>(k, HIGH, SLANTED), slants)?;
     }
     Ok(())
 }
