@@ -6,7 +6,7 @@ use heesch_cert::{Kind, Verdict};
 use heesch_grammar::{Place, Spot, brief_of, entry_of};
 use heesch_io::NoMemory;
 use heesch_line::read_line;
-use heesch_made::cells;
+use heesch_made::{cells, same};
 use heesch_text::{Line, write_entry};
 use std::alloc::Global;
 use std::collections::VecDeque;
@@ -85,23 +85,17 @@ fn taken(alloc: Global, brief: bool, lines: Vec<Line>) -> Result<Option<VecDeque
     Ok(Some(queue))
 }
 
-/// The heptomino with a hole, with these numbers behind `wall` and `bare`.
-fn holed(alloc: Global, wall: u32, bare: u32) -> Result<String, NoMemory> {
-    Ok(format!(in alloc;
-        "shape 0,0 1,0 2,0 0,1 2,1 0,2 1,2
+/// The heptomino with a hole.
+const HOLED: &str = "shape 0,0 1,0 2,0 0,1 2,1 0,2 1,2
 verdict heesch 0 nontiler 1
 coronas 0
-wall {wall} refuted
+wall 1 refuted
 empty 9
-bare {bare} same
-"
-    )?)
-}
+bare 1 same
+";
 
-/// A search with a line of every kind, and this number behind `bare`; not a true one.
-fn all_parts(alloc: Global, bare: u32) -> Result<String, NoMemory> {
-    Ok(format!(in alloc;
-        "shape 1,1
+/// A search with a line of every kind; not a true one.
+const ALL_PARTS: &str = "shape 1,1
 verdict undecided turns 1 bare 3
 coronas 1
 layer 0,0,-1
@@ -109,7 +103,7 @@ wall 2 refuted
 learn 1 : 4 7
 cut 1 : 1,1 : 2 5
 empty 8
-bare {bare} refuted
+bare 3 refuted
 empty 3
 open 2
 layer 1,2,3
@@ -119,9 +113,7 @@ learn 2 : 1
 spent
 triple 3 1 0 refuted
 empty 1 2
-"
-    )?)
-}
+";
 
 /// The lines of a text.
 fn lines_of(alloc: Global, text: &str) -> Result<Vec<Line>, Fail> {
@@ -148,74 +140,97 @@ fn rewritten(alloc: Global, text: &str) -> Result<Vec<u8>, Fail> {
 /// lines.
 #[test]
 fn entries_are_made_of_their_lines(rt: HostRuntime) -> Result<(), Fail> {
-    let alloc = rt.alloc();
-    let holed = holed(alloc, 1, 1)?;
-    let all_parts = all_parts(alloc, 3)?;
-    for text in [
-        TILING,
-        ONE_CORONA,
-        TOO_LARGE,
-        holed.as_str(),
-        all_parts.as_str(),
-    ] {
-        let out = rewritten(alloc, text)?;
-        assert_eq!(rt; out.as_slice(), text.as_bytes());
+    for text in [TILING, ONE_CORONA, TOO_LARGE, HOLED, ALL_PARTS] {
+        let out = rewritten(rt.alloc(), text)?;
+        same(text, out.as_slice(), text.as_bytes())?;
     }
     Ok(())
 }
 
-/// The numbers behind `wall`, `bare` and `end` are those of earlier lines; a tiling has a tile, a refutation doesn't
-/// end with `spent`, and a brief text has no evidence.
+/// Of an entry one part, and another in its place: the numbers behind `wall` and `bare` are those of earlier lines.
+const ALTERED: [(&str, &str, &str); 3] = [
+    (
+        HOLED,
+        "wall 1 refuted\nempty 9\nbare 1",
+        "wall 2 refuted\nempty 9\nbare 2",
+    ),
+    (HOLED, "bare 1 same", "bare 2 same"),
+    (ALL_PARTS, "bare 3 refuted", "bare 2 refuted"),
+];
+
 #[test]
-fn lines_out_of_place_are_refused(rt: HostRuntime) -> Result<(), Fail> {
-    let alloc = rt.alloc();
-    assert!(rt; rewritten(alloc, UNTILED)?.is_empty());
-    assert!(rt; rewritten(alloc, &holed(alloc, 2, 2)?)?.is_empty());
-    assert!(rt; rewritten(alloc, &holed(alloc, 1, 2)?)?.is_empty());
-    assert!(rt; rewritten(alloc, &all_parts(alloc, 2)?)?.is_empty());
-    let lines = lines_of(alloc, SPENT)?;
-    assert_eq!(rt; lead(false, lines.as_slice()), None);
-    let lines = lines_of(alloc, UNTILED)?;
-    assert_eq!(rt; lead(true, lines.as_slice()), None);
+fn numbers_out_of_place_are_refused(rt: HostRuntime) -> Result<(), Fail> {
+    for (text, old, new) in &ALTERED {
+        let altered = text.replacen(rt.alloc(), old, new, 1)?;
+        same(new, rewritten(rt.alloc(), &altered)?.len(), 0)?;
+    }
     Ok(())
 }
+
+/// Where the lines of a text lead, if each of them may stand.
+fn lead_of(alloc: Global, brief: bool, text: &str) -> Result<Option<Spot>, Fail> {
+    let lines = lines_of(alloc, text)?;
+    Ok(lead(brief, lines.as_slice()))
+}
+
+/// A tiling has a tile, a refutation doesn't end with `spent`, and a brief text has no evidence.
+#[test]
+fn lines_out_of_place_are_refused(rt: HostRuntime) -> Result<(), Fail> {
+    same("no tile", rewritten(rt.alloc(), UNTILED)?.len(), 0)?;
+    same("spent", lead_of(rt.alloc(), false, SPENT)?, None)?;
+    same("in brief", lead_of(rt.alloc(), true, UNTILED)?, None)
+}
+
+const BRIEF: &str = "shape 1,1\nverdict tiles halfturn domain 2 classes 1\n";
 
 /// An entry of a brief text has its cells and its verdict.
 #[test]
 fn brief_entries_are_their_two_lines(rt: HostRuntime) -> Result<(), Fail> {
-    let alloc = rt.alloc();
-    let mut lines = lines_of(alloc, UNTILED)?;
-    lines.pop();
-    let Some(lines) = taken(alloc, true, lines)? else {
-        panic!(rt; "the lines are those of an entry");
+    let lines = lines_of(rt.alloc(), BRIEF)?;
+    let Some(lines) = taken(rt.alloc(), true, lines)? else {
+        return Err(Fail::new("the lines are those of an entry"));
     };
     let (cells, verdict) = brief_of(lines);
-    assert_eq!(rt; cells.as_slice(), cells![1, 1].as_slice());
-    let expected = Verdict::Tiles {
+    let wanted = Verdict::Tiles {
         kind: Kind::HalfTurn,
         domain: 2,
         classes: 1,
     };
-    assert_eq!(rt; verdict, expected);
-    Ok(())
+    same("cells", cells.as_slice(), cells![1, 1].as_slice())?;
+    same("verdict", verdict, wanted)
 }
+
+/// Behind the last line, which counts so many shapes.
+macro_rules! ended {
+    ($shapes:expr) => {
+        Spot {
+            shapes: $shapes,
+            place: Place::Ended,
+        }
+    };
+}
+
+/// Between two entries, behind as many shapes as can be counted.
+const FULL: Spot = Spot {
+    shapes: u32::MAX,
+    place: Place::Between,
+};
+
+/// A spot, a count of a last line there, and where it leads.
+const ENDS: [(&str, Spot, u32, Option<Spot>); 4] = [
+    ("none", START, 0, Some(ended!(0))),
+    ("one too many", START, 1, None),
+    ("behind the end", ended!(0), 0, None),
+    ("as many as can be", FULL, u32::MAX, Some(ended!(u32::MAX))),
+];
 
 /// The last line has the number of shapes, and nothing follows it.
 #[test]
 fn the_last_line_counts(rt: HostRuntime) -> Result<(), Fail> {
-    let ended = Spot {
-        shapes: 0,
-        place: Place::Ended,
-    };
-    assert_eq!(rt; START.step(false, &Line::End { count: 0 }), Some(ended));
-    assert_eq!(rt; START.step(false, &Line::End { count: 1 }), None);
-    assert_eq!(rt; ended.step(true, &Line::End { count: 0 }), None);
-    let full = Spot {
-        shapes: u32::MAX,
-        place: Place::Between,
-    };
+    for (row, spot, count, next) in &ENDS {
+        same(row, spot.step(true, &Line::End { count: *count }), *next)?;
+        same(row, spot.step(false, &Line::End { count: *count }), *next)?;
+    }
     let shape = read_line(rt.alloc(), b"shape 1,1")?;
-    assert_eq!(rt; full.step(true, &shape), None);
-    assert!(rt; full.step(true, &Line::End { count: u32::MAX }).is_some());
-    Ok(())
+    same("one more shape", FULL.step(true, &shape), None)
 }

@@ -1,6 +1,4 @@
 //! Sources and texts of which the tests are made.
-ghost use Rattle.std.specs.Prelude.{◌<◌};
-
 use heesch_io::{MemorySource, NoMemory};
 use heesch_reader::Item;
 use heesch_text::{write_end, write_entry, write_header};
@@ -12,13 +10,11 @@ pub(crate) fn source_of(
     front: &str,
     back: &str,
     most: usize,
-) -> Result<MemorySource, NoMemory>
-    requires { 0 < most }
-{
+) -> Result<MemorySource, NoMemory> {
     let mut bytes = Vec::new(alloc);
     bytes.extend_from_slice(front.as_bytes())?;
     bytes.extend_from_slice(back.as_bytes())?;
-    Ok(MemorySource::new(bytes, most, Vec::new(alloc)))
+    Ok(MemorySource::new(bytes, most.max(1), Vec::new(alloc)))
 }
 
 /// The text of these items, and the line of the last entry among them.

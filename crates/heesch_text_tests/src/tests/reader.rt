@@ -4,7 +4,7 @@ ghost use Rattle.std.specs.Prelude.{◌+◌, ◌<◌, ◌≤◌, length, IfOk};
 use super::made::text_of;
 use heesch_io::Seq;
 use heesch_line::LineStop;
-use heesch_made::{HOLED, TRIANGLE};
+use heesch_made::{HOLED, TRIANGLE, same};
 use heesch_reader::{Item, Part, Reader};
 use std::alloc::Global;
 use std::test::Fail;
@@ -69,49 +69,54 @@ fn worked_texts_are_read_in_any_pieces(rt: HostRuntime) -> Result<(), Fail> {
     for text in [TRIANGLE, HOLED] {
         for size in [1, 7, 500] {
             let mut items = Seq::new(rt.alloc());
-            assert_eq!(rt; read(rt.alloc(), text, "", size, &mut items), Ok(()));
-            assert_eq!(rt; items.len(), 3);
+            read(rt.alloc(), text, "", size, &mut items)?;
             let (out, line) = text_of(rt.alloc(), items.as_slice())?;
-            assert_eq!(rt; out.as_slice(), text.as_bytes());
-            assert_eq!(rt; line, 2);
+            same("text", out.as_slice(), text.as_bytes())?;
+            same("items and line", (items.len(), line), (3, 2))?;
         }
     }
     Ok(())
 }
 
+const OTHER_NUMBER: &str = "heesch 1 iamond 01 turns 20000 levels 3 domain 4 size 60000000\n";
+
+/// Two texts, one behind the other, and the first line that is no line of a catalogue there, with its part.
+const FAULTS: [(&str, &str, u64, Part); 14] = [
+    ("", "", 1, Part::Header),
+    ("", OTHER_NUMBER, 1, Part::Header),
+    (HEADER, "", 2, Part::End),
+    (HEADER, "end 0", 2, Part::End),
+    (HEADER, "end 00\n", 2, Part::End),
+    (HEADER, "end  0\n", 2, Part::End),
+    (HEADER, "shape\n", 2, Part::End),
+    (HEADER, "shape  1,1\n", 2, Part::Entry),
+    (HEADER, "shape 01,1\n", 2, Part::Entry),
+    (HEADER, "shape 1,1\n", 3, Part::Entry),
+    (HEADER, "end 0\nend 0\n", 3, Part::End),
+    (TRIANGLE, "end 1\n", 8, Part::End),
+    (TRIANGLE, "e", 8, Part::End),
+    (HOLED, "shape 1,1\n", 9, Part::End),
+];
+
+/// Why two texts, one behind the other, are read no further, five bytes at a time.
+fn stop_of(alloc: Global, front: &str, back: &str) -> Option<LineStop<Part>> {
+    let mut items = Seq::new(alloc);
+    read(alloc, front, back, 5, &mut items).err()
+}
+
+const fn fault(line: u64, fault: Part) -> Option<LineStop<Part>> {
+    Some(LineStop::Fault { line, fault })
+}
+
 #[test]
 fn the_first_faulty_line_is_named(rt: HostRuntime) -> Result<(), Fail> {
-    let holed_cut = HOLED.replacen(rt.alloc(), "end 1\n", "", 1)?;
-    let other_number = "heesch 1 iamond 01 turns 20000 levels 3 domain 4 size 60000000\n";
-    for (front, backs, line, part) in [
-        ("", ["", other_number].as_slice(), 1, Part::Header),
-        (
-            HEADER,
-            ["", "end 0", "end 00\n", "end  0\n", "shape\n"].as_slice(),
-            2,
-            Part::End,
-        ),
-        (
-            HEADER,
-            ["shape  1,1\n", "shape 01,1\n"].as_slice(),
-            2,
-            Part::Entry,
-        ),
-        (HEADER, ["shape 1,1\n"].as_slice(), 3, Part::Entry),
-        (HEADER, ["end 0\nend 0\n"].as_slice(), 3, Part::End),
-        (TRIANGLE, ["end 1\n", "e"].as_slice(), 8, Part::End),
-        (HOLED, ["shape 1,1\n"].as_slice(), 9, Part::End),
-        (holed_cut.as_str(), ["end 1"].as_slice(), 8, Part::End),
-    ] {
-        for back in backs {
-            let mut items = Seq::new(rt.alloc());
-            let stop = LineStop::Fault { line, fault: part };
-            assert_eq!(rt;
-                read(rt.alloc(), front, back, 5, &mut items),
-                Err(stop),
-                "at {front}{back}"
-            );
-        }
+    for (front, back, line, part) in &FAULTS {
+        same(back, stop_of(rt.alloc(), front, back), fault(*line, *part))?;
     }
-    Ok(())
+    let unended = HOLED.replacen(rt.alloc(), "end 1\n", "", 1)?;
+    same(
+        "cut",
+        stop_of(rt.alloc(), &unended, "end 1"),
+        fault(8, Part::End),
+    )
 }

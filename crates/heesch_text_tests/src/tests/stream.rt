@@ -1,5 +1,6 @@
 //! Small catalogues, read eight bytes at a time.
 use heesch_io::{MemorySource, NoMemory, Seq};
+use heesch_made::same;
 use heesch_reader::{Item, Part, Stream, StreamStop, Taken};
 use std::alloc::Global;
 use std::test::Fail;
@@ -44,47 +45,64 @@ fn read(
     Ok(Ok(false))
 }
 
-#[test]
-fn a_catalogue_is_read_in_pieces(rt: HostRuntime) -> Result<(), Fail> {
-    let alloc = rt.alloc();
-    let mut items = Seq::new(alloc);
-    assert_eq!(rt; read(alloc, BRIEF, &[], &mut items)?, Ok(true));
-    assert_eq!(rt; items.len(), 4);
-    let lines = [2, 4];
-    let mut entries = 0;
-    for item in items.as_slice() {
+/// The lines of the brief entries among the items.
+fn lines_of(alloc: Global, items: &[Item]) -> Result<Vec<u64>, NoMemory> {
+    let mut lines = Vec::new(alloc);
+    for item in items {
         if let Item::Brief { line, .. } = item {
-            assert_eq!(rt; Some(line), lines.get(entries));
-            entries += 1;
+            lines.push(*line)?;
         }
     }
-    assert_eq!(rt; entries, 2);
-    Ok(())
+    Ok(lines)
 }
+
+#[test]
+fn a_catalogue_is_read_in_pieces(rt: HostRuntime) -> Result<(), Fail> {
+    let mut items = Seq::new(rt.alloc());
+    let found = read(rt.alloc(), BRIEF, &[], &mut items)?;
+    same("read", (found, items.len()), (Ok(true), 4))?;
+    let lines = lines_of(rt.alloc(), items.as_slice())?;
+    same("entries", lines.as_slice(), [2, 4].as_slice())
+}
+
+/// A text, the numbers of its reads that fail, why it is read no further, and how many items were appended before.
+const STOPS: [(&str, &[u64], StreamStop, usize); 4] = [
+    (
+        "",
+        &[],
+        StreamStop::NotText {
+            line: 1,
+            part: Part::Header,
+        },
+        0,
+    ),
+    (
+        CUT,
+        &[],
+        StreamStop::NotText {
+            line: 5,
+            part: Part::Entry,
+        },
+        2,
+    ),
+    (
+        FAULTY,
+        &[],
+        StreamStop::NotText {
+            line: 4,
+            part: Part::End,
+        },
+        2,
+    ),
+    (BRIEF, &[3], StreamStop::Failed, 0),
+];
 
 #[test]
 fn what_is_whole_before_a_fault_is_appended(rt: HostRuntime) -> Result<(), Fail> {
-    let alloc = rt.alloc();
-    for (text, line, part, whole) in [
-        ("", 1, Part::Header, 0),
-        (CUT, 5, Part::Entry, 2),
-        (FAULTY, 4, Part::End, 2),
-    ] {
-        let mut items = Seq::new(alloc);
-        let stop = StreamStop::NotText { line, part };
-        assert_eq!(rt; read(alloc, text, &[], &mut items)?, Err(stop), "{text}");
-        assert_eq!(rt; items.len(), whole, "{text}");
+    for (text, fails, stop, whole) in &STOPS {
+        let mut items = Seq::new(rt.alloc());
+        let found = read(rt.alloc(), text, fails, &mut items)?;
+        same(text, (found, items.len()), (Err(*stop), *whole))?;
     }
-    Ok(())
-}
-
-#[test]
-fn a_failing_source_is_told(rt: HostRuntime) -> Result<(), Fail> {
-    let alloc = rt.alloc();
-    let mut items = Seq::new(alloc);
-    assert_eq!(rt;
-        read(alloc, BRIEF, &[3], &mut items)?,
-        Err(StreamStop::Failed)
-    );
     Ok(())
 }

@@ -1,6 +1,7 @@
 //! Tallies of small catalogues, worked by hand.
 use super::made::source_of;
 use heesch_io::IoStop;
+use heesch_made::same;
 use heesch_tabulate::{Tabulated, tabulate};
 use std::alloc::Global;
 use std::test::Fail;
@@ -51,33 +52,33 @@ fn answer(alloc: Global, front: &str, back: &str) -> Result<Tabulated, IoStop> {
 #[test]
 fn a_small_catalogue_has_its_tally(rt: HostRuntime) -> Result<(), Fail> {
     let text = TALLY.as_bytes().to_vec(rt.alloc())?;
-    assert_eq!(rt;
+    same(
+        "two",
         answer(rt.alloc(), HEADER, TWO),
-        Ok(Tabulated::Tally { text })
-    );
-    Ok(())
+        Ok(Tabulated::Tally { text }),
+    )
 }
+
+const REPEATED: &str = "shape 0,0 0,0\nverdict heesch 0 nontiler 1\nend 1\n";
+
+/// Two texts, one behind the other, and the line and the number of the first fault.
+const FAULTS: [(&str, &str, u64, u32); 5] = [
+    ("", "", 1, 6),
+    (HEADER, "", 2, 6),
+    (HEADER, APART, 4, 5),
+    (HEADER, CUT, 5, 6),
+    (HEADER, REPEATED, 2, 4),
+];
 
 #[test]
 fn the_first_fault_is_told(rt: HostRuntime) -> Result<(), Fail> {
-    let cases = [
-        ("", "", 1, 6),
-        (HEADER, "", 2, 6),
-        (HEADER, APART, 4, 5),
-        (HEADER, CUT, 5, 6),
-        (
-            HEADER,
-            "shape 0,0 0,0\nverdict heesch 0 nontiler 1\nend 1\n",
-            2,
-            4,
-        ),
-    ];
-    for (front, back, line, number) in cases {
-        assert_eq!(rt;
+    for (front, back, line, number) in &FAULTS {
+        let (line, number) = (*line, *number);
+        same(
+            back,
             answer(rt.alloc(), front, back),
             Ok(Tabulated::Fault { line, number }),
-            "at {front}{back}"
-        );
+        )?;
     }
     Ok(())
 }

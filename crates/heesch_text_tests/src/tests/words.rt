@@ -2,197 +2,205 @@
 use heesch_cert::{Limits, Subject};
 use heesch_cnf::Version;
 use heesch_grid::GridName;
-use heesch_made::{LIMITS, words_of};
+use heesch_made::{LIMITS, same, words_of};
 use heesch_words::{Request, Usage, parse};
 use std::test::Fail;
 
-#[test]
-fn lists_are_asked_for(rt: HostRuntime) -> Result<(), Fail> {
-    let alloc = rt.alloc();
-    for (line, grid, n, workers) in [
-        ("list square 4", GridName::Square, 4, 1),
-        ("list square 14 --workers 64", GridName::Square, 14, 64),
-        ("list hex 12 --workers 1", GridName::Hex, 12, 1),
-        ("list iamond 18", GridName::Iamond, 18, 1),
-        ("list kite 10", GridName::Kite, 10, 1),
-    ] {
-        let words = words_of(alloc, line)?;
-        let request = Request::List { grid, n, workers };
-        assert_eq!(rt; parse(&words), Ok(request), "at {line}");
-    }
-    let words = words_of(alloc, "plain hex 7 --workers 2")?;
-    let (grid, n, workers) = (GridName::Hex, 7, 2);
-    assert_eq!(rt; parse(&words), Ok(Request::Plain { grid, n, workers }));
-    Ok(())
-}
+/// The limits that hold where no word says otherwise.
+const USUAL: Limits = Limits {
+    version: Version::Two,
+    ..LIMITS
+};
 
-#[test]
-fn classifications_are_asked_for(rt: HostRuntime) -> Result<(), Fail> {
-    let alloc = rt.alloc();
-    let version = Version::Two;
-    let usual = Limits { version, ..LIMITS };
-    let least = Limits {
-        levels: 1,
-        domain: 1,
-        ..LIMITS
-    };
-    let other = Limits {
-        turns: 50,
-        levels: 6,
-        domain: 12,
-        size: 12,
-        version,
-    };
-    let longest = Limits {
-        turns: 1_000_000,
-        ..usual
-    };
-    for (line, n, limits, workers, brief) in [
-        ("classify iamond 18", 18, usual, 1, false),
-        ("classify iamond 1 --brief --version 2", 1, usual, 1, true),
-        (
-            "classify iamond 15 --domain 1 --version 1 --levels 1",
-            15,
-            least,
-            1,
-            false,
-        ),
-        (
-            "classify iamond 1 --size 12 --brief --turns 50 --levels 6 --workers 4 --domain 12",
-            1,
-            other,
-            4,
-            true,
-        ),
-        (
-            "classify iamond 16 --turns 1000000 --size 60000000",
-            16,
-            longest,
-            1,
-            false,
-        ),
-    ] {
-        let words = words_of(alloc, line)?;
-        let request = Request::Classify {
-            grid: GridName::Iamond,
-            subject: Subject::Size { n },
-            limits,
-            workers,
-            brief,
-        };
-        assert_eq!(rt; parse(&words), Ok(request), "at {line}");
-    }
-    Ok(())
-}
+const LEAST: Limits = Limits {
+    levels: 1,
+    domain: 1,
+    ..LIMITS
+};
 
-#[test]
-fn other_forms_are_asked_for(rt: HostRuntime) -> Result<(), Fail> {
-    let alloc = rt.alloc();
-    let limits = Limits {
-        turns: 200,
-        levels: 1,
-        domain: 2,
-        ..LIMITS
-    };
-    let grid = GridName::Square;
-    let sample = |n, count, seed, workers| Request::Sample {
-        grid,
-        n,
-        count,
-        seed,
-        limits,
-        workers,
-    };
-    let outer = |subject, workers| Request::Outer {
-        grid,
-        subject,
-        limits,
-        workers,
-    };
-    for (line, request) in [
-        ("check", Request::Check { workers: 1 }),
-        ("check --workers 64", Request::Check { workers: 64 }),
-        ("table", Request::Table),
-        (
-            "sample square 8 40 1 --domain 2 --levels 1 --turns 200 --version 1",
-            sample(8, 40, 1, 1),
-        ),
-        (
-            "sample square 32 1000 18446744073709551615 --workers 4 --domain 2 --levels 1 --turns 200 --version 1",
-            sample(32, 1_000, 18_446_744_073_709_551_615, 4),
-        ),
-        (
-            "sample square 1 1 0 --turns 200 --levels 1 --domain 2 --version 1",
-            sample(1, 1, 0, 1),
-        ),
-        (
-            "classify square given --brief --turns 200 --levels 1 --domain 2 --version 1",
-            Request::Classify {
-                grid,
-                subject: Subject::Given,
-                limits,
-                workers: 1,
-                brief: true,
-            },
-        ),
-        (
-            "share square 12 2 1000 --turns 200 --levels 1 --domain 2 --version 1 --workers 3",
-            Request::Share {
-                grid,
-                n: 12,
-                i: 2,
-                k: 1_000,
-                limits,
-                workers: 3,
-            },
-        ),
-        ("join", Request::Join),
-        (
-            "outer square given --turns 200 --levels 1 --domain 2 --version 1",
-            outer(Subject::Given, 1),
-        ),
-        (
-            "outer square 12 --workers 64 --turns 200 --levels 1 --domain 2 --version 1",
-            outer(Subject::Size { n: 12 }, 64),
-        ),
-    ] {
-        let words = words_of(alloc, line)?;
-        assert_eq!(rt; parse(&words), Ok(request), "at {line}");
-    }
-    Ok(())
-}
+const OTHER: Limits = Limits {
+    turns: 50,
+    levels: 6,
+    domain: 12,
+    size: 12,
+    version: Version::Two,
+};
 
-/// Of both forms, which take the same words.
-#[test]
-fn formulas_are_asked_for(rt: HostRuntime) -> Result<(), Fail> {
-    let alloc = rt.alloc();
-    for (words, grid, level, size, version) in [
-        ("square 1", GridName::Square, 1, 60_000_000, Version::Two),
-        ("kite 6 --size 1", GridName::Kite, 6, 1, Version::Two),
-        (
-            "hex 2 --version 1 --size 60000000",
-            GridName::Hex,
-            2,
-            60_000_000,
-            Version::One,
-        ),
-    ] {
-        let formula = Request::Formula {
-            grid,
-            level,
-            size,
-            version,
-        };
-        let answer = Request::Answer {
-            grid,
-            level,
-            size,
-            version,
-        };
-        for (command, request) in [("formula", formula), ("answer", answer)] {
-            let line = format!(in alloc; "{command} {words}")?;
-            assert_eq!(rt; parse(&words_of(alloc, &line)?), Ok(request), "at {line}");
+const LONGEST: Limits = Limits {
+    turns: 1_000_000,
+    ..USUAL
+};
+
+const NARROW: Limits = Limits {
+    turns: 200,
+    levels: 1,
+    domain: 2,
+    ..LIMITS
+};
+
+macro_rules! list {
+    ($grid:ident, $n:literal, $workers:literal) => {
+        Request::List {
+            grid: GridName::$grid,
+            n: $n,
+            workers: $workers,
         }
+    };
+}
+
+macro_rules! classify {
+    ($n:literal, $limits:ident, $workers:literal, $brief:literal) => {
+        Request::Classify {
+            grid: GridName::Iamond,
+            subject: Subject::Size { n: $n },
+            limits: $limits,
+            workers: $workers,
+            brief: $brief,
+        }
+    };
+}
+
+macro_rules! sample {
+    ($n:literal, $count:literal, $seed:literal, $workers:literal) => {
+        Request::Sample {
+            grid: GridName::Square,
+            n: $n,
+            count: $count,
+            seed: $seed,
+            limits: NARROW,
+            workers: $workers,
+        }
+    };
+}
+
+macro_rules! outer {
+    ($subject:expr, $workers:literal) => {
+        Request::Outer {
+            grid: GridName::Square,
+            subject: $subject,
+            limits: NARROW,
+            workers: $workers,
+        }
+    };
+}
+
+/// A formula, or the answer to one, which takes the same words.
+macro_rules! exchange {
+    ($form:ident, $grid:ident, $level:literal, $size:literal, $version:ident) => {
+        Request::$form {
+            grid: GridName::$grid,
+            level: $level,
+            size: $size,
+            version: Version::$version,
+        }
+    };
+}
+
+/// Words, and what they ask for. Both forms of a formula take the same words.
+const WORDS: [(&str, Request); 28] = [
+    ("list square 4", list!(Square, 4, 1)),
+    ("list square 14 --workers 64", list!(Square, 14, 64)),
+    ("list hex 12 --workers 1", list!(Hex, 12, 1)),
+    ("list iamond 18", list!(Iamond, 18, 1)),
+    ("list kite 10", list!(Kite, 10, 1)),
+    (
+        "plain hex 7 --workers 2",
+        Request::Plain {
+            grid: GridName::Hex,
+            n: 7,
+            workers: 2,
+        },
+    ),
+    ("classify iamond 18", classify!(18, USUAL, 1, false)),
+    (
+        "classify iamond 1 --brief --version 2",
+        classify!(1, USUAL, 1, true),
+    ),
+    (
+        "classify iamond 15 --domain 1 --version 1 --levels 1",
+        classify!(15, LEAST, 1, false),
+    ),
+    (
+        "classify iamond 1 --size 12 --brief --turns 50 --levels 6 --workers 4 --domain 12",
+        classify!(1, OTHER, 4, true),
+    ),
+    (
+        "classify iamond 16 --turns 1000000 --size 60000000",
+        classify!(16, LONGEST, 1, false),
+    ),
+    (
+        "classify square given --brief --turns 200 --levels 1 --domain 2 --version 1",
+        Request::Classify {
+            grid: GridName::Square,
+            subject: Subject::Given,
+            limits: NARROW,
+            workers: 1,
+            brief: true,
+        },
+    ),
+    ("check", Request::Check { workers: 1 }),
+    ("check --workers 64", Request::Check { workers: 64 }),
+    ("table", Request::Table),
+    (
+        "sample square 8 40 1 --domain 2 --levels 1 --turns 200 --version 1",
+        sample!(8, 40, 1, 1),
+    ),
+    (
+        "sample square 32 1000 18446744073709551615 --workers 4 --domain 2 --levels 1 --turns 200 --version 1",
+        sample!(32, 1_000, 18_446_744_073_709_551_615, 4),
+    ),
+    (
+        "sample square 1 1 0 --turns 200 --levels 1 --domain 2 --version 1",
+        sample!(1, 1, 0, 1),
+    ),
+    (
+        "share square 12 2 1000 --turns 200 --levels 1 --domain 2 --version 1 --workers 3",
+        Request::Share {
+            grid: GridName::Square,
+            n: 12,
+            i: 2,
+            k: 1_000,
+            limits: NARROW,
+            workers: 3,
+        },
+    ),
+    ("join", Request::Join),
+    (
+        "outer square given --turns 200 --levels 1 --domain 2 --version 1",
+        outer!(Subject::Given, 1),
+    ),
+    (
+        "outer square 12 --workers 64 --turns 200 --levels 1 --domain 2 --version 1",
+        outer!(Subject::Size { n: 12 }, 64),
+    ),
+    (
+        "formula square 1",
+        exchange!(Formula, Square, 1, 60_000_000, Two),
+    ),
+    (
+        "answer square 1",
+        exchange!(Answer, Square, 1, 60_000_000, Two),
+    ),
+    (
+        "formula kite 6 --size 1",
+        exchange!(Formula, Kite, 6, 1, Two),
+    ),
+    ("answer kite 6 --size 1", exchange!(Answer, Kite, 6, 1, Two)),
+    (
+        "formula hex 2 --version 1 --size 60000000",
+        exchange!(Formula, Hex, 2, 60_000_000, One),
+    ),
+    (
+        "answer hex 2 --version 1 --size 60000000",
+        exchange!(Answer, Hex, 2, 60_000_000, One),
+    ),
+];
+
+#[test]
+fn words_ask_for_what_they_say(rt: HostRuntime) -> Result<(), Fail> {
+    for (line, request) in &WORDS {
+        let words = words_of(rt.alloc(), line)?;
+        same(line, parse(&words), Ok(*request))?;
     }
     Ok(())
 }
@@ -301,9 +309,9 @@ const OTHER_WORDS: [&str; 98] = [
 
 #[test]
 fn other_words_are_refused(rt: HostRuntime) -> Result<(), Fail> {
-    for line in OTHER_WORDS {
+    for line in &OTHER_WORDS {
         let words = words_of(rt.alloc(), line)?;
-        assert_eq!(rt; parse(&words), Err(Usage), "at {line}");
+        same(line, parse(&words), Err(Usage))?;
     }
     Ok(())
 }
