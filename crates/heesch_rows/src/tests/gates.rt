@@ -65,10 +65,25 @@ impl Drop for Hold {
 fn check_uses_its_workers_and_its_gate(rt: HostRuntime) -> Result<(), Fail> {
     let alloc = rt.alloc();
     for (made, line, turns, expires) in [
-        ("classify square given", "check --workers 2", 200_000_000, false),
+        (
+            "classify square given",
+            "check --workers 2",
+            200_000_000,
+            false,
+        ),
         ("classify square given", "check", 1_000, true),
-        ("outer square given", "check outer square given --workers 2", 200_000_000, false),
-        ("outer square given", "check outer square given", 1_000, true),
+        (
+            "outer square given",
+            "check outer square given --workers 2",
+            200_000_000,
+            false,
+        ),
+        (
+            "outer square given",
+            "check outer square given",
+            1_000,
+            true,
+        ),
     ] {
         let shapes = bytes_of(alloc, FIVE_TETROMINOES)?;
         let text = written_over(&rt, alloc, made, shapes)?;
