@@ -159,30 +159,3 @@ round_goes_on header before good after found audits result behind fit is judges 
 pub if_both : {X E : Type 0} {P Q R : X → Type 0} (r : Result X E) → ((x : X) → P x → Q x → R x) → IfOk r P → IfOk r Q → IfOk r R
 if_both (Ok x) both p q = both x p q
 if_both (Err e) both p q = tt
-
--- ---- audits of items that stand behind others
-
-audits_append : (g : Geometry) (limits : Limits) (front rest : List Item) (a b : List Bool) → length a ≡ length front → AreAudits g limits front a → AreAudits g limits rest b → AreAudits g limits (front ++ rest) (a ++ b)
-audits_append g limits [] rest [] b many own behind i holds at = behind i holds at
-audits_append g limits [] rest (x ∷ a) b many own behind i holds at = absurd cc
-audits_append g limits (item ∷ front) rest [] b many own behind i holds at = absurd cc
-audits_append g limits (item ∷ front) rest (x ∷ a) b many own behind zero holds at = λ line e there. own zero holds at line e there
-audits_append g limits (item ∷ front) rest (x ∷ a) b many own behind (suc i) holds at =
-    audits_append g limits front rest a b (omega (arith, many)) (λ j. own (suc j)) behind i holds at
-
--- where all of the first items were audited, and behind them some of the others, these are audits of them together
-pub audits_together : (header : Header) (before until : ℕ) (front rest : List Item) (a b : List Bool) → before + length a ≡ until → length a ≡ length front → AreAuditsBehind header before front a → AreAuditsBehind header until rest b → AreAuditsBehind header before (front ++ rest) (a ++ b)
-audits_together header before until front rest a b until_is all own others =
-    let few = others.few in
-    let room = others.room in
-    let both = length-append a b in
-    let items_of_both = length-append front rest in
-    let first : take (length (a ++ b)) (front ++ rest) ≡ front ++ take (length b) rest = ap (λ (n : ℕ). take n (front ++ rest)) (omega (arith, both, all)) ∙ take-append-add front rest (length b) in
-    let placed : ArePlaced header before front = subst (ArePlaced header before) (take_all (length a) front (omega (arith, all))) own.placed in
-    let behind : ArePlaced header (before + length front) (take (length b) rest) = subst (λ (n : ℕ). ArePlaced header n (take (length b) rest)) (omega (arith, until_is, all)) others.placed in
-    record {
-      few = omega (arith, both, items_of_both, all, few);
-      room = omega (arith, both, until_is, room);
-      placed = subst (ArePlaced header before) (sym first) (placed_append header before front (take (length b) rest) placed behind);
-      are = audits_append (geometry_of header.grid) header.limits front rest a b all own.are others.are;
-    }

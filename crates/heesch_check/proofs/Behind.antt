@@ -1,5 +1,5 @@
 -- A batch of items behind those that were judged, and how far reading came with it.
-use Rattle.std.proofs.Common.{◌≡◌, ◌⊎◌, inl, inr, ℕ, ◌+◌, ◌-◌, ◌<◌, ◌≤◌, arith, false, List, [], ◌∷◌, ◌++◌, length, drop, Option, Some, None, refl, sym, ap, subst, ◌∙◌, append_assoc}
+use Rattle.std.proofs.Common.{◌≡◌, ◌⊎◌, inl, inr, ℕ, ◌+◌, ◌-◌, ◌*◌, ◌<◌, ◌≤◌, arith, min, false, List, [], ◌∷◌, ◌++◌, length, drop, Option, Some, None, refl, sym, ap, subst, ◌∙◌, append_assoc}
 use Rattle.std.specs.List.{AllByRecursion}
 use Rattle.std.proofs.lemmas.List.{append-nil, length-append}
 use Rattle.heesch_cert.specs.declared.header.Header.{Header}
@@ -18,7 +18,9 @@ use Rattle.heesch_check.specs.declared.reading.Reading.{Reading}
 use Rattle.heesch_check.specs.declared.reading.Reading.TheVariants as readings
 use Rattle.heesch_check.specs.Judging.{IsFit, AreJudged}
 use Rattle.heesch_io.specs.Input.{ReadsNoFurther}
-use Rattle.heesch_check.specs.Reading.{IsAnswerOf, IsReading, Reads, Gathers, LacksItems, StopsGathering, StopsInTime, MayGather, LackRound, JudgesRound, IsPending, BeginWith, DecideNothing}
+use Rattle.heesch_check.specs.declared.ahead.Pending.{Pending}
+use Rattle.heesch_check.specs.declared.ahead.Round.{Round}
+use Rattle.heesch_check.specs.Reading.{IsAnswerOf, IsReading, IsRound, Reads, Gathers, LacksItems, StopsGathering, StopsInTime, MayGather, LackRound, JudgesRound, IsPending, BeginWith, DecideNothing}
 use Rattle.heesch_check.proofs.Leading.{IsBounded}
 use Rattle.heesch_check.proofs.Batches.{batch_settled, stop_settled, stop_decided}
 use Rattle.heesch_check.proofs.Readings.{Answers, all_right, as_reading, reading_answers, batch_fits}
@@ -81,48 +83,15 @@ lacks_items first before now found front gathered s enough h m few piece = recor
 
 -- ---- what is gathered in two steps
 
--- items gathered behind those that were
-pub gathers_on : (before middle now : Option (List ℕ)) (old mid new : Streamed) (items front after : List Item) (some enough : ℕ) (from step to : Reading) → Gathers before middle old mid items front some from step → Gathers middle now mid new front after enough step to
-    → Gathers before now old new items after enough from to
-gathers_on before middle now old mid new items front after some enough from step to r q = record {
-  more = r.more ++ q.more;
-  after_is = q.after_is ∙ ap (λ (x : List Item). x ++ q.more) r.after_is ∙ append_assoc items r.more q.more;
-  are_enough = q.are_enough;
-  from_more = λ e.
-      let on = q.from_more e in
-      let is = r.from_more on.0 in
-      (is.0, omega (arith, is.1, on.1));
-  grown = λ e.
-      let on = q.from_more e in
-      let is = r.from_more on.0 in
-      elim (q.grown e) [
-        | inl none ↦ elim (r.grown on.0) [
-          | inl alone ↦ inl (none ∙ alone)
-          | inr grows ↦ inr (omega (arith, grows, on.1))
-        ]
-        | inr grows ↦ inr (omega (arith, grows, is.1))
-      ];
-  goes_on = λ first found h. q.goes_on first found (r.goes_on first found h);
-}
-
--- items that were gathered by themselves stand behind those before them
-pub gathers_behind : (before now : Option (List ℕ)) (old new : Streamed) (front rest : List Item) (left enough : ℕ) (from to : Reading) → enough ≤ length front + left → Gathers before now old new [] rest left from to
-    → Gathers before now old new front (front ++ rest) enough from to
-gathers_behind before now old new front rest left enough from to fit q = record {
-  more = rest;
-  after_is = refl;
-  are_enough = λ e.
-      let many = q.are_enough e in
-      let both = length-append front rest in
-      omega (arith, many, both, fit);
-  from_more = q.from_more;
-  grown = λ e. elim (q.grown e) [
-    | inl none ↦ inl (ap (λ (x : List Item). front ++ x) none ∙ append-nil front)
-    | inr grows ↦ inr grows
-  ];
-  goes_on = λ first found h.
-      let alone : IsReading first before ((found ++ front) ++ []) old from = subst (λ (x : List Item). IsReading first before x old from) (sym (append-nil (found ++ front))) h in
-      subst (λ (x : List Item). IsReading first now x new to) (append_assoc found front rest) (q.goes_on first (found ++ front) alone);
+-- nothing more is gathered
+pub gathers_none : (now : Option (List ℕ)) (s : Streamed) (items : List Item) (reading : Reading) → items ≡ [] → Gathers now now s s [] items 0 reading reading
+gathers_none now s items reading none = record {
+  more = [];
+  after_is = none;
+  are_enough = λ e. omega arith;
+  from_more = λ e. (e, omega arith);
+  grown = λ e. inl none;
+  goes_on = λ first found h. subst (λ (x : List Item). IsReading first now (found ++ x) s reading) (sym none) h;
 }
 
 -- more may be gathered behind items that were gathered
@@ -255,22 +224,56 @@ pending_goes_on first now header round none n m s reading result bound full empt
       reads = subst (λ (x : List Item). IsReading first now x s readings.More) (sym (ap (λ (x : List Item). (p.found ++ round) ++ x) empty ∙ append-nil (p.found ++ round))) more;
     }
 
--- bytes are left to read, or items to judge, fewer than before
-pub pending_smaller : (first before now : Option (List ℕ)) (header : Header) (items after none : List Item) (n enough : ℕ) (old new : Streamed) (from to : Reading) → none ≡ [] → 0 < enough → to ≡ readings.More → IsPending header first before items old n from → Gathers before now old new items after enough from to
-    → 1099511627776 - new.count + length none < 1099511627776 - old.count + length items
-pending_smaller first before now header items after none n enough old new from to empty some more p r =
-    let read : HasRead first now (p.found ++ after) new = subst (λ (x : Reading). IsReading first now (p.found ++ after) new x) more (r.goes_on first p.found p.reads) in
-    let count = read.count_is in
-    let most = read.at_most in
-    let on = (r.from_more more).1 in
-    let nothing : length none ≡ 0 = ap length empty in
-    elim (r.grown more) [
-      | inl same ↦
-          let many = r.are_enough more in
-          let here = ap length same in
-          omega (arith, count, most, on, nothing, many, here, some)
-      | inr grows ↦ omega (arith, count, most, grows, nothing)
-    ]
+-- and those ahead of the next round are pending behind it
+pub pending_ahead : (first middle now : Option (List ℕ)) (header : Header) (round ahead : List Item) (n m left : ℕ) (s new : Streamed) (reading to : Reading) (result : Option Checked) → IsBounded header → header.brief ≡ false
+    → IsPending header first middle round s n reading → JudgesRound header n m round reading result → result ≡ None → Gathers middle now s new [] ahead left reading to → IsPending header first now ahead new m to
+pending_ahead first middle now header round ahead n m left s new reading to result bound full p judges is q =
+    let more = pending_more header round n m reading result judges is in
+    let behind = pending_goes_on first middle header round [] n m s reading result bound full refl p judges is in
+    pending_gathered first middle now header [] ahead m left s new readings.More to behind (subst (λ (x : Reading). Gathers middle now s new [] ahead left x to) more q)
+
+-- how much is left to read and to judge, at most so many bytes and whether there are items: nothing where no more may follow
+abbrev pub left_to_judge : Reading → (bytes items : ℕ) → ℕ
+left_to_judge readings.More bytes items = 2 * bytes + min 1 items + 1
+left_to_judge readings.End bytes items = 0
+left_to_judge (readings.Fault part) bytes items = 0
+left_to_judge (readings.TooLong line ending) bytes items = 0
+
+smaller_by : (from to : Reading) (bytes items then ahead : ℕ) → from ≡ readings.More → (to ≡ readings.More → 2 * then + min 1 ahead < 2 * bytes + min 1 items) → left_to_judge to then ahead < left_to_judge from bytes items
+smaller_by readings.More readings.More bytes items then ahead more less = let lt = less refl in omega (arith, lt)
+smaller_by readings.More readings.End bytes items then ahead more less = omega arith
+smaller_by readings.More (readings.Fault part) bytes items then ahead more less = omega arith
+smaller_by readings.More (readings.TooLong line ending) bytes items then ahead more less = omega arith
+smaller_by readings.End to bytes items then ahead more less = absurd cc
+smaller_by (readings.Fault part) to bytes items then ahead more less = absurd cc
+smaller_by (readings.TooLong line ending) to bytes items then ahead more less = absurd cc
+
+-- behind a round that was judged good less is left than before
+pub pending_smaller : (first before now : Option (List ℕ)) (header : Header) (n : ℕ) (old new : Streamed) (at_hand : Pending) (round : Round) → round.reading ≡ readings.More → IsPending header first before at_hand.items old n at_hand.reading → IsRound before now old new at_hand round
+    → left_to_judge round.ahead.reading (1099511627776 - new.count) (length round.ahead.items) < left_to_judge at_hand.reading (1099511627776 - old.count) (length at_hand.items)
+pending_smaller first before now header n old new at_hand round more p r =
+    let from = r.gathers.from_more more in
+    smaller_by at_hand.reading round.ahead.reading (1099511627776 - old.count) (length at_hand.items) (1099511627776 - new.count) (length round.ahead.items) from.0 (λ on.
+        let whole : IsReading first now ((p.found ++ round.items) ++ round.ahead.items) new round.ahead.reading =
+            r.ahead.goes_on first (p.found ++ round.items) (subst (λ (x : List Item). IsReading first r.middle x r.between round.reading) (sym (append-nil (p.found ++ round.items))) (r.gathers.goes_on first p.found p.reads)) in
+        let read : HasRead first now ((p.found ++ round.items) ++ round.ahead.items) new = subst (λ (x : Reading). IsReading first now ((p.found ++ round.items) ++ round.ahead.items) new x) on whole in
+        let count = read.count_is in
+        let most = read.at_most in
+        let then = (r.ahead.from_more on).1 in
+        let at_first = from.1 in
+        elim (r.ahead.grown on) [
+          | inr grows ↦ omega (arith, count, most, at_first, grows)
+          | inl none ↦
+              let nothing : length round.ahead.items ≡ 0 = ap length none in
+              elim (r.gathers.grown more) [
+                | inr grows ↦ omega (arith, count, most, then, grows, nothing)
+                | inl same ↦
+                    let many = r.gathers.are_enough more in
+                    let here = ap length same in
+                    let some = r.some in
+                    omega (arith, count, most, then, at_first, nothing, many, here, some)
+              ]
+        ])
 
 -- ---- the first batch, whose first item is the header
 

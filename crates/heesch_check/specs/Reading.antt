@@ -15,6 +15,8 @@ use Rattle.heesch_reader.specs.declared.progress.AtHand.TheVariants as endings
 use Rattle.heesch_reader.specs.Endings.{ending_of}
 use Rattle.heesch_io.specs.Input.{IsAllOf, ReadsNoFurther, piece_max}
 use Rattle.heesch_reader.specs.Taking.{Streamed, Begins, HasRead, IsCatalogue, HasFault, HasTooMany}
+use Rattle.heesch_check.specs.declared.ahead.Pending.{Pending}
+use Rattle.heesch_check.specs.declared.ahead.Round.{Round}
 use Rattle.heesch_check.specs.declared.answers.Checked.{Checked}
 use Rattle.heesch_check.specs.declared.answers.Checked.TheVariants as answers
 use Rattle.heesch_io.specs.declared.fault.IoStop.{IoStop}
@@ -89,6 +91,16 @@ pub record Gathers (before now : Option (List ℕ)) (old new : Streamed) (items 
   pub grown : to ≡ readings.More → (after ≡ items) ⊎ (old.count < new.count)
   pub goes_on : (first : Option (List ℕ)) (found : List Item) → IsReading first before (found ++ items) old from → IsReading first now (found ++ after) new to
 
+-- the items of a round were appended to those at hand, some at least, and then those ahead of the next by themselves: whatever was read before, they were read behind it
+pub record IsRound (before now : Option (List ℕ)) (old new : Streamed) (at_hand : Pending) (round : Round) : Type 0 where
+  pub middle : Option (List ℕ)
+  pub between : Streamed
+  pub enough : ℕ
+  pub some : 0 < enough
+  pub gathers : Gathers before middle old between at_hand.items round.items enough at_hand.reading round.reading
+  pub left : ℕ
+  pub ahead : Gathers middle now between new [] round.ahead.items left round.reading round.ahead.reading
+
 -- what was read before the last piece begins a catalogue with the items found, these ones and others, fewer than enough behind those found
 pub record LacksItems (first now : Option (List ℕ)) (found items : List Item) (enough : ℕ) : Type 0 where
   pub bytes : List ℕ
@@ -147,11 +159,11 @@ FirstReads before now old new all reading = (first : Option (List ℕ)) → HasR
 
 -- ---- what is read of the source
 
--- how many items are gathered before all of them are judged
+-- how many items are at hand at most behind those that were judged: the items of a round, and those that are read ahead
 abbrev pub round_size : ℕ
 round_size = 256
 
--- behind a header that isn't brief, good entries, and maybe an end behind all of them, there are fewer items than a round has
+-- behind a header that isn't brief, good entries, and maybe an end behind all of them, there are fewer items than may be at hand
 pub record LackRound (all : List Item) : Type 0 where
   pub header : Header
   pub entries : ℕ
@@ -162,7 +174,7 @@ pub record LackRound (all : List Item) : Type 0 where
   pub judged : AreJudged header front entries
   pub few : length round < round_size
 
--- the bytes decide nothing yet that is judged: they begin a catalogue with no whole item, or with a header, good entries, maybe an end behind all of them, and then fewer whole items than a round has
+-- the bytes decide nothing yet that is judged: they begin a catalogue with no whole item, or with a header, good entries, maybe an end behind all of them, and then fewer whole items than may be at hand
 pub record DecideNothing (bytes : List ℕ) : Type 0 where
   pub all : List Item
   pub begins : Begins bytes all

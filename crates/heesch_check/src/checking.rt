@@ -11,7 +11,7 @@ ghost use Rattle.heesch_check.specs.Judging.{HasShapes};
 ghost use Rattle.heesch_check.specs.Reading.{AnswersInTime, FaultsFirst, IsUnderway, BeginWith, IsOpened};
 ghost use Rattle.heesch_check.specs.Reading.{DecideNothing};
 
-use crate::ahead::{FIRST, round_from, round_size};
+use crate::ahead::{FIRST, Pending, most_at_hand, round_from};
 use crate::answers::Checked;
 use crate::judging::{Judge, fault_behind};
 use crate::reading::{Reading, gather, read_first};
@@ -28,22 +28,22 @@ use std::thread::Threads;
 ///
 /// `TooLong` comes where the first 2^40 bytes decide no invalid part and more follow.
 ///
-/// Entries are judged by rounds: items are gathered from as many pieces as that takes until there are 256, the input
+/// Entries are judged by rounds: items are gathered from as many pieces as that takes until there are enough, the input
 /// is at fault or ends, or as much is read as may be; the entries that are in their places are audited by the workers,
-/// each once, and the answer is that of the first item at fault. By one worker a round has 64 items. By more, the
-/// first 64 of a round are audited while the caller's thread gathers the others, which are audited beside them, so
-/// that there may be twice as many threads as workers.
+/// each once, and the answer is that of the first item at fault. By one worker a round has 64 items. By more it has
+/// 128, and while they are audited the caller's thread gathers the next 128, so that there may be one thread more than
+/// there are workers.
 ///
 /// The gate is told of each entry's number, from 0. Where one of the entries that are audited at once has the proofs
 /// of several triples, these are audited in portions, and the gate is told of the portions' numbers, from that of the
-/// first of them on. Two threads that audit the two parts of a round may tell it of the same worker.
+/// first of them on.
 ///
-/// Reading stops with the round that decides the answer, and no more is held than the items of a round and those of
-/// one piece. The free list of a size is made once, by the workers, before the first round, but where the input is at
+/// Reading stops at the latest 256 items behind those that are judged, and no more is held than these and those of one
+/// piece. The free list of a size is made once, by the workers, before the first round, but where the input is at
 /// fault with nothing whole behind its header, or with a brief entry.
 ///
 /// Errors: `Failed` only where the source's count of faults rose; `NoMemory` where memory was refused. At an error too
-/// the source has given the bytes of some pieces, front first, and no piece beyond the round at hand.
+/// the source has given the bytes of some pieces, front first, and no piece beyond the items at hand.
 pub fn check<T: Threads + Sync, R: Source, H: Gate + Sync>(
     crew: &Crew<'_, T, H>,
     source: &mut R,
@@ -204,14 +204,13 @@ fn check_behind<G: Grid + Send + Sync, T: Threads + Sync, R: Source, H: Gate + S
     ensures failed { result ≡ Err IoStop.Failed → Rose (R.faults source.old) (R.faults source.new) }
     ensures later { R.faults source.old ≤ R.faults source.new }
 {
-    let lacking = round_size(crew.workers);
-    let mut at_hand = behind_header(items);
-    let mut came_to = reading;
+    let most = most_at_hand(crew.workers);
+    let mut at_hand = Pending {
+        items: behind_header(items),
+        reading,
+    };
     'rounds: loop {
-        let entries = judge.entries;
-        let round = round_from(
-            crew, source, stream, &judge, entries, at_hand, came_to, lacking,
-        )?;
+        let round = round_from(crew, source, stream, &judge, at_hand, most)?;
         let answer = judge.judge_audited_round(
             crew.rt,
             crew.alloc,
@@ -222,7 +221,6 @@ fn check_behind<G: Grid + Send + Sync, T: Threads + Sync, R: Source, H: Gate + S
         if let Some(answer) = answer {
             return Ok(answer);
         }
-        at_hand = Seq::new(crew.alloc);
-        came_to = Reading::More;
+        at_hand = round.ahead;
     }
 }

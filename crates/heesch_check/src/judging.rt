@@ -173,23 +173,6 @@ impl<G: Grid + Send + Sync> Judge<G> {
         audits::<G, SharedHandle<'_, T>, H>(&crew, items, before, until, self.header.limits)
     }
 
-    /// Audits of the entries that stand first among the items, each in its place behind so many.
-    pub fn audits_behind<T: Threads + Sync, H: Gate + Sync>(
-        &self,
-        crew: &Crew<'_, T, H>,
-        before: u32,
-        items: &[Item],
-    ) -> Result<Vec<bool>, NoMemory>
-        requires grid { geometry_of self.now.header.grid ≡ G.geometry }
-        requires shapes { HasShapes self.now.header self.now.header.subject self.now.shapes }
-        requires limits { AreLimits self.now.header.limits }
-        requires fit { AllByRecursion IsFit items.now }
-        ensures { IfOk result (λ audits. AreAuditsBehind self.now.header before items.now audits.items) }
-    {
-        let until = self.placed(before, items);
-        self.audits_between(crew, before, until, items)
-    }
-
     /// The answer where a line begins as the last one does in an input that is longer than is read. It comes too
     /// early, with this answer, unless the entries so far are all.
     fn answer_early(&self, line: u64, early: Checked) -> Checked

@@ -5,12 +5,12 @@
 //! input of more than 2^40 bytes is too long. At 2^40 bytes an entry is judged where it is whole in them. A line
 //! that begins `end ` before all entries is an invalid part: the entry's where it breaks one off, else the end's.
 //!
-//! Entries are judged by rounds of 256. A ticket is a portion of an entry (`PortionOf`): all entries of a round are
-//! split into as many portions as the most triples of one of them, at most 64. A portion has the proofs of every so
-//! many-th triple, and the first has all else. Each portion that has a triple asks first whether the triples are
-//! those that the limits ask for, so a hostile catalogue can't have formulas computed for others. With two workers
-//! or more the first 64 items of a round are audited while the rest is read (`round_from`): in a new thread, since a
-//! source need not be `Send` and so is read by the caller's. The round is judged once.
+//! Entries are judged by rounds of 128, or of 64 by one worker. A ticket is a portion of an entry (`PortionOf`): all
+//! entries of a round are split into as many portions as the most triples of one of them, at most 64. A portion has
+//! the proofs of every so many-th triple, and the first has all else. Each portion that has a triple asks first
+//! whether the triples are those that the limits ask for, so a hostile catalogue can't have formulas computed for
+//! others. With two workers or more the items of the next round are read while a round is audited (`round_from`): the
+//! audits begin in a new thread, since a source need not be `Send` and so is read by the caller's.
 #![tactic(auto)]
 
 mod ahead;
