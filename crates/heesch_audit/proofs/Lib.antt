@@ -9,3 +9,4 @@ mod Ends
 mod Covers
 pub mod Portions
 mod Steps
+mod UpTo

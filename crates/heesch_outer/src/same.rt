@@ -1,22 +1,9 @@
-//! Copies of layers, and whether two proofs are the same.
-ghost use Rattle.std.specs.Prelude.{◌≡◌, ◌↔◌, IfOk, IsTrue};
+//! Whether two proofs are the same.
+ghost use Rattle.std.specs.Prelude.{◌≡◌, ◌↔◌, IsTrue};
 
-use heesch_cert::{Cut, Isos, Layers, Proof, Step};
+use heesch_cert::{Cut, Proof, Step};
 use heesch_cnf::{Hints, Lit};
 use heesch_grid::Cell;
-use heesch_io::{NoMemory, Seq};
-use std::alloc::Global;
-
-/// The same layers.
-pub(crate) fn copy_layers(alloc: Global, layers: &[Isos]) -> Result<Layers, NoMemory>
-    ensures { IfOk result (λ copy. copy.layers ≡ layers.now) }
-{
-    let mut copy = Seq::new(alloc);
-    for layer in layers {
-        copy.push(Seq::from_slice(alloc, layer.as_slice())?)?;
-    }
-    Ok(Layers { layers: copy })
-}
 
 fn are_same_cells(cells: &[Cell], others: &[Cell]) -> bool
     ensures { IsTrue result ↔ (cells.now ≡ others.now) }

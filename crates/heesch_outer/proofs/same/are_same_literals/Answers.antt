@@ -5,7 +5,7 @@ use Rattle.std.proofs.Math.Bool.{beq}
 use Rattle.std.proofs.lemmas.Bool.{and_from, and_parts}
 use Rattle.std.proofs.lemmas.Slice.Eq.{slice_eq-Decides}
 use Rattle.heesch_cnf.specs.declared.literal.Lit.{Lit}
-use Rattle.heesch_outer.proofs.copies.are_same_literals.Goals as goal
+use Rattle.heesch_outer.proofs.same.are_same_literals.Goals as goal
 
 same_literal : (x y : Lit) → Decides (eqb x.var y.var && beq x.positive y.positive) (x ≡ y)
 same_literal x y = (
