@@ -13,7 +13,7 @@ use Rattle.heesch_outer.specs.Outers.{IsOuters}
 use Rattle.heesch_outer_check.specs.Answers.{IsOutersChecked, IsValidOuters}
 use Rattle.heesch_outer_check.proofs.OneAnswer.{one_answer}
 use Rattle.heesch_outer_check.proofs.Written.{written_is_valid}
-use Rattle.heesch_record.proofs.Records.{readable, texts_determine}
+use Rattle.heesch_outer_check.proofs.Records.{readable, texts_determine}
 use Rattle.heesch_words.specs.declared.requests.Request.TheVariants.{CheckOuter as CheckOuterRequest, Outer as OuterRequest}
 use Rattle.heesch_words.specs.Requests.{Asks}
 use Rattle.heesch_app.specs.declared.status.Status.{Status}

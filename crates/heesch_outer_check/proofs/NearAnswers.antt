@@ -13,7 +13,7 @@ use Rattle.heesch_logs.specs.Near.{AreNearLayers, IsNearIso, IsNearProof, IsNear
 use Rattle.heesch_outer.specs.declared.answer.OuterAnswer.{OuterAnswer}
 use Rattle.heesch_outer.specs.declared.answer.OuterAnswer.TheVariants as outers
 use Rattle.heesch_outer.specs.Found.{IsNearAnswer}
-use Rattle.heesch_record.specs.Records.{HasLineForms}
+use Rattle.heesch_outer_check.specs.ReadableRecords.{HasLineForms}
 
 left : (xs ys : List Line) → AllByRecursion IsLine (xs ++ ys) → AllByRecursion IsLine xs
 left [] ys h = tt

@@ -7,14 +7,14 @@ ghost use Rattle.heesch_grid.specs.Names.{geometry_of};
 ghost use Rattle.heesch_outer.specs.Answer.{IsOuterAnswer};
 ghost use Rattle.heesch_outer_check.specs.Records.{IsGoodBlock, IsGoodRecord};
 ghost use Rattle.heesch_outer_check.specs.Rounds.{AreListed};
-ghost use Rattle.heesch_record.specs.Records.{IsReadableRecord};
+ghost use Rattle.heesch_outer_check.specs.ReadableRecords.{IsReadableRecord};
 
+use crate::record::read_record;
 use heesch_audit::{EntryAnswer, audit};
 use heesch_cert::{Header, Limits, Subject};
 use heesch_grid::{Cell, Grid};
 use heesch_io::NoMemory;
 use heesch_outer::{OuterEntry, check_outer};
-use heesch_record::read_record;
 use heesch_shape::Shape;
 use std::alloc::Global;
 use std::thread::Threads;
