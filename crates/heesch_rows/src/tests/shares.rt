@@ -33,7 +33,8 @@ fn joined<T: Threads + Sync>(
 fn shares_are_joined_to_their_catalogue(rt: HostRuntime) -> Result<(), Fail> {
     let alloc = rt.alloc();
     let mut both = written(&rt, alloc, "share square 4 1 2")?;
-    both.extend_from_slice(&written(&rt, alloc, "share square 4 2 2")?)?;
+    let second = written(&rt, alloc, "share square 4 2 2")?;
+    both.extend_from_slice(&second)?;
     let (ended, text) = joined(&rt, alloc, both)?;
     let whole = written(&rt, alloc, "classify square 4")?;
     same("both", ended, Status::Done)?;
