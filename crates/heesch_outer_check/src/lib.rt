@@ -16,7 +16,6 @@ mod blocks;
 mod checking;
 mod entry;
 mod front;
-mod handle;
 mod judging;
 pub mod laws;
 mod lines;
