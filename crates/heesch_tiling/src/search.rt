@@ -39,11 +39,7 @@ fn clear<G: Grid>(marks: &mut [u16], triple: Triple)
 }
 
 /// Whether the cells alone are a cover. Which marks stand is of no account.
-fn is_plain_cover<G: Grid>(
-    marks: &mut [u16; WINDOW_MAX],
-    cells: &[Cell],
-    triple: Triple,
-) -> bool
+fn is_plain_cover<G: Grid>(marks: &mut [u16; WINDOW_MAX], cells: &[Cell], triple: Triple) -> bool
     requires form { IsPolyform G.geometry cells.now }
     requires near { (c : Cell) → has cells.now c ≡ true → IsWithin 100000 c }
     requires small { triple.p * triple.q ≤ 64 }
