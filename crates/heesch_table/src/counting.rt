@@ -8,12 +8,12 @@ ghost use Rattle.heesch_table.specs.Entries.{entry_in, entries_of};
 ghost use Rattle.heesch_table.specs.TableSteps.{AreWithin, IsHeaded, grid_in, CountsEntries, CountsItem, CountsEntry};
 
 use crate::answers::{Counted, EntryFault};
+use crate::tally::Tally;
 use heesch_cert::Verdict;
 use heesch_grid::{Cell, Grid, GridName};
 use heesch_kite::on_grid;
 use heesch_reader::Item;
 use heesch_shape::Shape;
-use heesch_table::Tally;
 use std::alloc::Global;
 
 /// The grid of the header, if it was read or comes next.

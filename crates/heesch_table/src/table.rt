@@ -7,10 +7,10 @@ ghost use Rattle.heesch_table.specs.Texts.{tally_text};
 
 use crate::answers::Counted;
 use crate::counting::{count_entries, grid_behind};
+use crate::tally::Tally;
 use heesch_grid::GridName;
 use heesch_io::NoMemory;
 use heesch_reader::Item;
-use heesch_table::Tally;
 use std::alloc::Global;
 
 /// The grid of the header, once it was read, and the tally of the entries behind it.
