@@ -6,3 +6,9 @@ mod Parts
 mod Places
 mod Rows
 pub mod Written
+pub mod Answers
+pub mod Decimals
+pub mod Fronts
+pub mod ProofLines
+pub mod Records
+pub mod Words
