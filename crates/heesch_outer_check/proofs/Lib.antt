@@ -2,7 +2,7 @@ mod Cutting
 mod Judged
 mod NearAnswers
 pub mod OneAnswer
-mod Parts
+mod AnswerBehind
 mod Places
 mod Rows
 pub mod Written
