@@ -9,8 +9,8 @@ use Rattle.heesch_catalogue.specs.Rounds.{BeginsOne, WritesOne}
 use Rattle.heesch_cert.specs.declared.header.Subject.TheVariants.{Size, Given}
 use Rattle.heesch_check.specs.declared.answers.Checked.{Checked}
 use Rattle.heesch_check.specs.declared.answers.Checked.TheVariants as answers
-use Rattle.heesch_tabulate.specs.declared.answers.Tabulated.{Tabulated}
-use Rattle.heesch_tabulate.specs.declared.answers.Tabulated.TheVariants as tables
+use Rattle.heesch_table.specs.declared.answers.Tabulated.{Tabulated}
+use Rattle.heesch_table.specs.declared.answers.Tabulated.TheVariants as tables
 use Rattle.heesch_words.specs.declared.requests.Request.{Request}
 use Rattle.heesch_words.specs.declared.requests.Request.TheVariants.{List as ListRequest, Plain as PlainRequest, Classify as ClassifyRequest, Check as CheckRequest, CheckOuter as CheckOuterRequest, Table as TableRequest, Sample as SampleRequest, Formula as FormulaRequest, Answer as AnswerRequest, Share as ShareRequest, Join as JoinRequest, Outer as OuterRequest}
 use Rattle.heesch_words.specs.Requests.{Asks}

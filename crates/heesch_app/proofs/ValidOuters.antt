@@ -1,5 +1,5 @@
 -- What `outer` writes is a valid outer text, and a valid one passes, in the words of `check outer`.
-use Rattle.std.proofs.Common.{◌≡◌, ◌≤◌, ◌∙◌, ℕ, false, List, length, refl, sym, ap, subst, inl, inr, arith}
+use Rattle.std.proofs.Common.{◌≡◌, ◌≤◌, ◌∙◌, ℕ, false, List, length, sym, ap, subst, inl, inr, arith}
 use Rattle.std.specs.Prelude.{Option, Some}
 use Rattle.heesch_grid.specs.declared.Cell.{Cell}
 use Rattle.heesch_grid.specs.declared.GridName.{GridName}
@@ -9,13 +9,11 @@ use Rattle.heesch_cert.specs.declared.header.Subject.TheVariants.{Size, Given}
 use Rattle.heesch_cert.specs.declared.limits.Limits.{Limits}
 use Rattle.heesch_cert.specs.Limits.{AreLimits}
 use Rattle.heesch_check.specs.declared.answers.Checked.TheVariants as answers
-use Rattle.heesch_given.specs.Given.{AreGiven}
 use Rattle.heesch_outer.specs.Outers.{IsOuters}
 use Rattle.heesch_outer_check.specs.Answers.{IsOutersChecked, IsValidOuters}
 use Rattle.heesch_outer_check.proofs.OneAnswer.{one_answer}
 use Rattle.heesch_outer_check.proofs.Written.{written_is_valid}
-use Rattle.heesch_reader.specs.Taking.{input_max}
-use Rattle.heesch_record.proofs.Records.{readable, texts_determine}
+use Rattle.heesch_outer_check.proofs.Records.{readable, texts_determine}
 use Rattle.heesch_words.specs.declared.requests.Request.TheVariants.{CheckOuter as CheckOuterRequest, Outer as OuterRequest}
 use Rattle.heesch_words.specs.Requests.{Asks}
 use Rattle.heesch_app.specs.declared.status.Status.{Status}

@@ -25,10 +25,10 @@ use Rattle.heesch_parts.specs.Joined.{IsJoined}
 use Rattle.heesch_parts.proofs.AllShares.{joined_are_catalogues}
 use Rattle.heesch_check.specs.declared.answers.Checked.{Checked}
 use Rattle.heesch_check.specs.declared.answers.Checked.TheVariants as answers
-use Rattle.heesch_tabulate.specs.declared.answers.Tabulated.{Tabulated}
-use Rattle.heesch_tabulate.specs.declared.answers.Tabulated.TheVariants as told
-use Rattle.heesch_tabulate.specs.Tabulating.{IsTallied, IsTabulated}
-use Rattle.heesch_tabulate.proofs.OneTabulation.{apart}
+use Rattle.heesch_table.specs.declared.answers.Tabulated.{Tabulated}
+use Rattle.heesch_table.specs.declared.answers.Tabulated.TheVariants as told
+use Rattle.heesch_table.specs.Tabulating.{IsTallied, IsTabulated}
+use Rattle.heesch_table.proofs.OneTabulation.{apart}
 use Rattle.heesch_check.specs.Answers.{IsValid, IsChecked}
 use Rattle.heesch_check.specs.Judging.{AreGood}
 use Rattle.heesch_check.proofs.Written.{written_is_valid}

@@ -42,8 +42,8 @@ use Rattle.heesch_parts.specs.Joined.{IsJoined}
 use Rattle.heesch_parts.specs.Faults.{HasFault as HasJoinFault}
 use Rattle.heesch_io.specs.Input.{IsAllOf}
 use Rattle.heesch_reader.specs.Taking.{input_max}
-use Rattle.heesch_tabulate.specs.declared.answers.Tabulated.{Tabulated}
-use Rattle.heesch_tabulate.specs.Tabulating.{IsTabulated}
+use Rattle.heesch_table.specs.declared.answers.Tabulated.{Tabulated}
+use Rattle.heesch_table.specs.Tabulating.{IsTabulated}
 
 -- The words have one of the forms.
 abbrev pub IsAccepted : List (List ℕ) → Type 0

@@ -1,7 +1,7 @@
 -- The status and the text that come with an answer to `table`.
 use Rattle.std.specs.Prelude.{ℕ, List}
-use Rattle.heesch_tabulate.specs.declared.answers.Tabulated.{Tabulated}
-use Rattle.heesch_tabulate.specs.declared.answers.Tabulated.TheVariants.{Tally, Fault}
+use Rattle.heesch_table.specs.declared.answers.Tabulated.{Tabulated}
+use Rattle.heesch_table.specs.declared.answers.Tabulated.TheVariants.{Tally, Fault}
 use Rattle.heesch_app.specs.declared.status.Status.{Status}
 use Rattle.heesch_app.specs.declared.status.Status.TheVariants.{Done, BadInput}
 use Rattle.heesch_app.specs.Inputs.{bad_input_text}

@@ -19,7 +19,7 @@ ghost use Rattle.heesch_words.specs.declared.requests.Request.TheVariants.{Formu
 ghost use Rattle.heesch_words.specs.declared.requests.Request.TheVariants.{Answer as AnswerRequest};
 ghost use Rattle.heesch_words.specs.declared.requests.Request.TheVariants.{Outer as OuterRequest, Join as JoinRequest};
 ghost use Rattle.heesch_parts.specs.AllShares.{AreAllShares, together};
-ghost use Rattle.heesch_tabulate.specs.Tabulating.{IsTallied};
+ghost use Rattle.heesch_table.specs.Tabulating.{IsTallied};
 ghost use Rattle.heesch_words.specs.Requests.{Asks};
 ghost use Rattle.heesch_app.specs.Outputs.{IsAccepted, IsOutput, IsBegunOutput, HasOneText, Reads, ReadsToEnd};
 ghost use Rattle.heesch_app.specs.Outputs.{AreReading, Writes, WritesPrefix, AsksForCatalogue, IsCatalogued};

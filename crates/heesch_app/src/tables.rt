@@ -9,7 +9,7 @@ use crate::Status;
 use crate::bad_input::bad_input;
 use crate::reply::Reply;
 use heesch_io::{IoStop, Source};
-use heesch_tabulate::{Tabulated, tabulate};
+use heesch_table::{Tabulated, tabulate};
 use std::alloc::Global;
 
 /// The tally of the catalogue that the source's bytes are, or their first fault.

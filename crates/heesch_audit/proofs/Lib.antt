@@ -4,8 +4,9 @@ mod Plain
 mod Proofs
 mod Listed
 pub mod Bounded
-pub mod Parts
+mod Parts
 mod Ends
 mod Covers
 pub mod Portions
 mod Steps
+mod UpTo

@@ -1,37 +1,17 @@
 //! Parts 5 and 7, the layers of coronas.
-ghost use Rattle.std.specs.Prelude.{◌≤◌, ◌↔◌, true, IsTrue, IfOk, IfSome, length};
+ghost use Rattle.std.specs.Prelude.{◌≤◌, ◌↔◌, IsTrue, IfOk, IfSome, length};
 ghost use Rattle.heesch_cert.specs.TrueEntry.{FreeHolds, OpenShows};
 ghost use Rattle.heesch_audit.specs.Bounds.{HasFewLayers};
 ghost use Rattle.heesch_audit.specs.Near.{IsNearEvidence, IsNearWider};
 ghost use Rattle.heesch_audit.specs.Shapes.{IsCanonicalShape};
-ghost use Rattle.heesch_audit.specs.Spelling.{SpellCoronas};
-ghost use Rattle.heesch_logs.specs.Near.{AreNearLayers};
 
 use crate::audited::Audited;
+use crate::spelling::spell_coronas;
 use heesch_cert::{Evidence, Layers};
 use heesch_grid::Grid;
 use heesch_io::NoMemory;
-use heesch_logs::{are_coronas, are_spelled};
 use heesch_shape::Shape;
 use std::alloc::Global;
-
-/// Whether the layers spell coronas, hole-free ones where `hole_free`.
-fn spell_coronas<G: Grid>(
-    alloc: Global,
-    shape: &Shape<G>,
-    layers: &Layers,
-    hole_free: bool,
-) -> Result<bool, NoMemory>
-    requires shape { IsCanonicalShape G.geometry shape.now }
-    requires near { AreNearLayers layers.now.layers }
-    requires few { length layers.now.layers ≤ 6 }
-    ensures { IfOk result (λ yes. IsTrue yes ↔ SpellCoronas G.geometry shape.now hole_free layers.now.layers) }
-{
-    if !are_spelled(shape, layers.layers.as_slice()) {
-        return Ok(false);
-    }
-    are_coronas(alloc, shape, layers, hole_free)
-}
 
 /// Part 7: whether the wider layers, where there are any, are coronas, holes allowed, so spelled.
 pub(crate) fn is_open<G: Grid>(
@@ -46,7 +26,7 @@ pub(crate) fn is_open<G: Grid>(
 {
     match wider {
         None => Ok(true),
-        Some(layers) => spell_coronas(alloc, shape, layers, false),
+        Some(layers) => spell_coronas(alloc, shape, layers, 0),
     }
 }
 
@@ -64,10 +44,11 @@ impl<'a, G: Grid> Audited<'a, G> {
         match &self.entry.evidence {
             Evidence::Cover { .. } => Ok(true),
             Evidence::Search { free, .. } => {
-                if free.layers.len() != self.entry.verdict.first_number() as usize {
+                let count = self.entry.verdict.first_number();
+                if free.layers.len() != count as usize {
                     return Ok(false);
                 }
-                spell_coronas(self.alloc, self.shape, free, true)
+                spell_coronas(self.alloc, self.shape, free, count)
             }
         }
     }

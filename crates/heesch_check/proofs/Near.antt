@@ -59,10 +59,10 @@ steps_near [] f = none_yet IsNearStep
 steps_near (steps.Learn clause hints ∷ done) f = one_more IsNearStep (steps.Learn clause hints) done tt (steps_near done f.1)
 steps_near (steps.Cut cut ∷ done) f = one_more IsNearStep (steps.Cut cut) done (each (IsWithin 100000) (IsWithin 100000) (λ c h. h) cut.hole f.0.1.each) (steps_near done f.1)
 
-proof_near : (p : Proof) → Fit (proof_lines p) → IsNearProof p
+pub proof_near : (p : Proof) → Fit (proof_lines p) → IsNearProof p
 proof_near p f = steps_near p.steps (left (map step_line p.steps) (last_line p.last ∷ []) f)
 
-layers_near : (layers : List (List Iso)) → Fit (layer_lines layers) → AreNearLayers layers
+pub layers_near : (layers : List (List Iso)) → Fit (layer_lines layers) → AreNearLayers layers
 layers_near [] f = none_yet (All IsNearIso)
 layers_near (layer ∷ layers) f = one_more (All IsNearIso) layer layers (each IsPlace IsNearIso place_near layer f.0.each) (layers_near layers f.1)
 

@@ -4,7 +4,7 @@ use std::thread::Threads;
 
 /// The runtime behind a reference. A job of the pool that holds the runtime holds it so: its `Job` gets no proof while
 /// it holds a reference to a type that isn't `Copy`.
-pub(crate) struct SharedHandle<'a, T> {
+pub struct SharedHandle<'a, T> {
     pub rt: &'a T,
 }
 

@@ -23,7 +23,7 @@ use std::alloc::Global;
 use std::thread::Threads;
 
 /// How many shapes may be given.
-const GIVEN_MAX: u32 = 10_000;
+pub const GIVEN_MAX: u32 = 10_000;
 
 /// The answer where this part is at fault behind so many good entries.
 pub(crate) fn fault_behind(entries: u32, part: Part) -> Checked

@@ -24,3 +24,5 @@ mod rounds;
 
 pub use answers::{Checked, write_checked};
 pub use checking::check;
+pub use handle::SharedHandle;
+pub use judging::GIVEN_MAX;

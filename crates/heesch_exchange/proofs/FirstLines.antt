@@ -2,7 +2,7 @@
 use Rattle.std.proofs.Common.{◌≡◌, ◌≢◌, ◌∙◌, ◌⊎◌, ℕ, ◌≤◌, ◌<◌, Bool, true, false, List, [], ◌∷◌, ◌++◌, length, length-append, refl, ap, sym, subst, arith, append_assoc, append-nil, eqb-true, inl, inr}
 use Rattle.std.specs.Prelude.{◌==◌}
 use Rattle.std.proofs.lemmas.Bool.{eq-eqb}
-use Rattle.heesch_dimacs.proofs.Bytes.{all_append, cut_same}
+use Rattle.heesch_exchange.proofs.Bytes.{all_append, cut_same}
 use Rattle.heesch_line.specs.Forms.{HasNoNewline}
 use Rattle.heesch_exchange.specs.Answers.{HasEndedLine}
 use Rattle.heesch_exchange.specs.Shapes.{HasFirstLine, IsEndless, IsInTime}

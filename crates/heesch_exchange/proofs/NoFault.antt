@@ -17,10 +17,10 @@ use Rattle.heesch_cert.specs.Proofs.{IsTooLarge}
 use Rattle.heesch_cert.proofs.Exactly.{too_large_exactly}
 use Rattle.heesch_cnf.specs.declared.literal.Lit.{Lit}
 use Rattle.heesch_cnf.specs.declared.version.Version.{Version}
-use Rattle.heesch_dimacs.specs.declared.model.ModelStop.TheVariants.{NotText}
-use Rattle.heesch_dimacs.specs.Models.{IsModel, IsModelText, ended}
-use Rattle.heesch_dimacs.specs.Stops.{Stops}
-use Rattle.heesch_dimacs.proofs.Bytes.{cut_same}
+use Rattle.heesch_exchange.specs.declared.model_text.ModelStop.TheVariants.{NotText}
+use Rattle.heesch_exchange.specs.Models.{IsModel, IsModelText, ended}
+use Rattle.heesch_exchange.specs.Stops.{Stops}
+use Rattle.heesch_exchange.proofs.Bytes.{cut_same}
 use Rattle.heesch_line.proofs.OneList.{cells_tell}
 use Rattle.heesch_shape.specs.Faults.{IsFault}
 use Rattle.heesch_exchange.specs.Answers.{HasEndedLine, IsAnswer, HasAnswerFault, IsModelFault, IsUnended}

@@ -1,10 +1,10 @@
 -- A text has one first fault at most as a model text over the variables.
 use Rattle.std.proofs.Common.{◌≡◌, ◌≢◌, ◌∙◌, ◌⊎◌, ℕ, ◌+◌, ◌<◌, List, [], ◌∷◌, ◌++◌, length, refl, sym, ap, subst, arith, append_assoc, inl, inr}
 use Rattle.std.specs.List.{AllByRecursion}
-use Rattle.heesch_dimacs.specs.declared.model.ModelStop.TheVariants.{NotText, Stranger}
-use Rattle.heesch_dimacs.specs.Models.{ended, text_of, IsModelText}
-use Rattle.heesch_dimacs.specs.Stops.{GoesOn, MayGoOn, IsReached, Stops}
-use Rattle.heesch_dimacs.proofs.Bytes.{cut_same}
+use Rattle.heesch_exchange.specs.declared.model_text.ModelStop.TheVariants.{NotText, Stranger}
+use Rattle.heesch_exchange.specs.Models.{ended, text_of, IsModelText}
+use Rattle.heesch_exchange.specs.Stops.{GoesOn, MayGoOn, IsReached, Stops}
+use Rattle.heesch_exchange.proofs.Bytes.{cut_same}
 use Rattle.heesch_line.specs.Forms.{HasNoNewline}
 use Rattle.heesch_exchange.specs.Answers.{IsModelFault}
 

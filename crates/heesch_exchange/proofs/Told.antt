@@ -20,10 +20,10 @@ use Rattle.heesch_cert.specs.TrueEntry.{Spells}
 use Rattle.heesch_cnf.specs.declared.literal.Lit.{Lit}
 use Rattle.heesch_cnf.specs.declared.version.Version.{Version}
 use Rattle.heesch_cnf.specs.Clauses.{Satisfies, assignment_of}
-use Rattle.heesch_dimacs.specs.declared.model.ModelStop.TheVariants.{NotText, Stranger}
-use Rattle.heesch_dimacs.specs.Formulas.{clause_text}
-use Rattle.heesch_dimacs.specs.Models.{IsModel, ended, text_of}
-use Rattle.heesch_dimacs.specs.Stops.{Stops, IsReached}
+use Rattle.heesch_exchange.specs.declared.model_text.ModelStop.TheVariants.{NotText, Stranger}
+use Rattle.heesch_exchange.specs.ClauseTexts.{clause_text}
+use Rattle.heesch_exchange.specs.Models.{IsModel, ended, text_of}
+use Rattle.heesch_exchange.specs.Stops.{Stops, IsReached}
 use Rattle.heesch_line.specs.Forms.{HasNoNewline}
 use Rattle.heesch_line.specs.declared.stops.LineStop.{LineStop}
 use Rattle.heesch_line.specs.declared.stops.LineStop.TheVariants.{Fault, NoMemory}

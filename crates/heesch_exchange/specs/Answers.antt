@@ -10,10 +10,10 @@ use Rattle.heesch_cert.specs.TrueEntry.{Spells}
 use Rattle.heesch_cnf.specs.declared.literal.Lit.{Lit}
 use Rattle.heesch_cnf.specs.declared.version.Version.{Version}
 use Rattle.heesch_cnf.specs.Clauses.{Satisfies, assignment_of}
-use Rattle.heesch_dimacs.specs.declared.model.ModelStop.TheVariants as model_stops
-use Rattle.heesch_dimacs.specs.Formulas.{IsFirstFalse}
-use Rattle.heesch_dimacs.specs.Models.{IsModel}
-use Rattle.heesch_dimacs.specs.Stops.{Stops}
+use Rattle.heesch_exchange.specs.declared.model_text.ModelStop.TheVariants as model_stops
+use Rattle.heesch_exchange.specs.ClauseTexts.{IsFirstFalse}
+use Rattle.heesch_exchange.specs.Models.{IsModel}
+use Rattle.heesch_exchange.specs.Stops.{Stops}
 use Rattle.heesch_line.specs.Forms.{HasNoNewline}
 use Rattle.heesch_text.specs.Catalogue.{coronas_text}
 use Rattle.heesch_line.specs.declared.stops.LineStop.{LineStop}

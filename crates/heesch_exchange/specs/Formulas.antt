@@ -4,7 +4,7 @@ use Rattle.heesch_grid.specs.Corona.{HasCoronas}
 use Rattle.heesch_grid.specs.Geometry.{Geometry}
 use Rattle.heesch_cnf.specs.declared.version.Version.{Version}
 use Rattle.heesch_cnf.specs.Clauses.{Satisfies}
-use Rattle.heesch_dimacs.specs.Formulas.{clause_text}
+use Rattle.heesch_exchange.specs.ClauseTexts.{clause_text}
 use Rattle.heesch_line.specs.declared.stops.LineStop.{LineStop}
 use Rattle.heesch_line.specs.declared.stops.LineStop.TheVariants.{Fault, NoMemory}
 use Rattle.heesch_exchange.specs.Shapes.{HasFirstLine, HasFormula, IsEndless, IsInTime, IsShapeFault}

@@ -4,10 +4,11 @@ ghost use Rattle.heesch_grid.specs.Names.{geometry_of};
 ghost use Rattle.heesch_exchange.specs.Answers.{IsAnswer, IsAnswerStop, false_text};
 
 use crate::asked::Asked;
+use crate::falsity::first_false;
+use crate::lines::cut_line;
 use crate::model::values_of;
 use crate::shapes::{TOO_LONG, encode_line, first_line, is_late};
 use heesch_cnf::Version;
-use heesch_dimacs::{cut_line, first_false};
 use heesch_grid::{Grid, GridName};
 use heesch_io::NoMemory;
 use heesch_kite::on_grid;

@@ -4,9 +4,9 @@ ghost use Rattle.heesch_grid.specs.Names.{geometry_of};
 ghost use Rattle.heesch_exchange.specs.Formulas.{IsFormula, IsFormulaStop};
 
 use crate::asked::Asked;
+use crate::clauses::write_flat_cnf;
 use crate::shapes::{TOO_LONG, encode_line, first_line, is_late};
 use heesch_cnf::Version;
-use heesch_dimacs::write_flat_cnf;
 use heesch_grid::{Grid, GridName};
 use heesch_kite::on_grid;
 use heesch_line::LineStop;

@@ -1,9 +1,9 @@
 //! The model text behind the line of a shape.
 ghost use Rattle.std.specs.Prelude.{◌≡◌, IfOk, IfErr};
-ghost use Rattle.heesch_dimacs.specs.Models.{IsModel};
+ghost use Rattle.heesch_exchange.specs.Models.{IsModel};
 ghost use Rattle.heesch_exchange.specs.Answers.{IsModelStop};
 
-use heesch_dimacs::{ModelStop, read_model};
+use crate::model_text::{ModelStop, read_model};
 use heesch_io::Seq;
 use heesch_line::LineStop;
 use std::alloc::Global;

@@ -6,8 +6,8 @@ ghost use Rattle.heesch_exchange.specs.Shapes.{HasFirstLine, IsEndless, IsInTime
 ghost use Rattle.heesch_exchange.specs.Shapes.{IsLineStop, IsCellsStop, IsShapeStop, EncodesLine};
 
 use crate::asked::Asked;
+use crate::lines::cut_line;
 use heesch_cert::Cells;
-use heesch_dimacs::cut_line;
 use heesch_encode::{EncodeStop, FlatEncoded, encode_flat};
 use heesch_given::canonical_of;
 use heesch_grid::Grid;

@@ -1,6 +1,7 @@
--- Sets of cells between two corners, by a mark for each cell between them.
-use Rattle.std.specs.Prelude.{ℕ, ◌+◌, ◌*◌, ◌-ℤ◌, ◌≤ℤ◌, nat_abs, int_le, Bool, false, ◌&&◌, List, slice_index_or}
+-- Corners with cells between them, and sets of cells by a mark for each cell between two corners.
+use Rattle.std.specs.Prelude.{◌≡◌, ℕ, ◌+◌, ◌*◌, ◌-ℤ◌, ◌≤ℤ◌, nat_abs, int_le, Bool, true, false, ◌&&◌, List, slice_index_or}
 use Rattle.heesch_grid.specs.declared.Cell.{Cell}
+use Rattle.heesch_grid.specs.Cells.{has}
 
 -- both coordinates lie between those of the two corners, which count
 pub record IsBetween (low high c : Cell) : Type 0 where
@@ -13,6 +14,12 @@ pub record IsBetween (low high c : Cell) : Type 0 where
 abbrev pub is_between : Cell → Cell → Cell → Bool
 is_between low high c =
     (int_le low.a c.a && int_le c.a high.a) && (int_le low.b c.b && int_le c.b high.b)
+
+-- the new corners have between them what lies between the old ones, and some cells, and are the least that do
+pub record Span (low high : Cell) (cells : List Cell) (new_low new_high : Cell) : Type 0 where
+  pub old : (c : Cell) → IsBetween low high c → IsBetween new_low new_high c
+  pub new : (c : Cell) → has cells c ≡ true → IsBetween new_low new_high c
+  pub least : (from to : Cell) → IsBetween from to low → IsBetween from to high → ((c : Cell) → has cells c ≡ true → IsBetween from to c) → IsBetween from to new_low × IsBetween from to new_high
 
 -- the place of a cell, row by row from `low` on, where a row has `wide` cells
 abbrev pub place_from : Cell → ℕ → Cell → ℕ

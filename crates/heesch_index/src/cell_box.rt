@@ -13,15 +13,26 @@ use heesch_io::NoMemory;
 /// A box has fewer cells than this.
 const CELLS_MAX: u64 = 0x1_0000_0000;
 
-/// Two opposite corners of a box, which lie in it.
+/// Two opposite corners of a box, which lie in it. If `low` lies past `high`, no cell lies between them.
 #[derive(Clone, Copy)]
-pub(crate) struct Corners {
+pub struct Corners {
     pub low: Cell,
     pub high: Cell,
 }
 
 impl Corners {
-    ghost use Rattle.heesch_index.specs.Boxes.{Span};
+    ghost use Rattle.heesch_index.specs.Marking.{Span};
+
+    /// The corners of the box that has this cell alone. It takes a constant time.
+    pub fn at(cell: Cell) -> Corners
+        ensures low { result.low ≡ cell }
+        ensures high { result.high ≡ cell }
+    {
+        Corners {
+            low: cell,
+            high: cell,
+        }
+    }
 
     /// The corners between which no cell lies.
     fn none() -> Corners {
@@ -56,8 +67,8 @@ impl Corners {
         }
     }
 
-    /// The corners of the least box that has these cells too.
-    fn with_all(self, cells: &[Cell]) -> Corners
+    /// The corners of the least box that has these cells too, in any order. The cost is their number.
+    pub fn with_all(self, cells: &[Cell]) -> Corners
         ensures { Span self.low self.high cells.now result.low result.high }
     {
         let mut corners = self;

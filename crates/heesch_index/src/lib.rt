@@ -5,7 +5,8 @@
 //! fails takes its numbers out again.
 //!
 //! A `CellTable` is made at once of sets that lie near one another: it has a place for each cell of the box around
-//! them, and a look-up is by arithmetic. `CellMarks` are one set, by a mark for each cell of a box.
+//! them, and a look-up is by arithmetic. `CellMarks` are one set, by a mark for each cell of a box. `Corners` are of
+//! the least box that has some cells.
 #![tactic(auto)]
 
 mod cell_box;
@@ -16,6 +17,7 @@ mod parts;
 mod sets;
 mod table;
 
+pub use cell_box::Corners;
 pub use index::CellIndex;
 pub use marks::CellMarks;
 pub use sets::CellSets;

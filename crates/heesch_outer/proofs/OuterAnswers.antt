@@ -19,13 +19,14 @@ use Rattle.heesch_cert.specs.Limits.{AreLimits}
 use Rattle.heesch_cert.specs.Proofs.{RefutesCoronas, IsTooLarge}
 use Rattle.heesch_cert.proofs.Exactly.{too_large_exactly}
 use Rattle.heesch_cert.specs.TrueEntry.{FormFits, FreeHolds, WallHolds, IsTrueEntry, first_number}
+use Rattle.heesch_audit.proofs.Bounded.{search_form}
 use Rattle.heesch_audit.proofs.Canonical.{form_of}
 use Rattle.heesch_outer.specs.declared.answer.OuterAnswer.{OuterAnswer}
 use Rattle.heesch_outer.specs.declared.answer.OuterAnswer.TheVariants.{Tiles, Unknown, More, Same, Spent}
 use Rattle.heesch_outer.specs.Answer.{FitsOuter, IsBeyondWall, IsOuterAnswer, IsSearched}
-use Rattle.heesch_outer.specs.Found.{IsFound, IsNearAnswer}
+use Rattle.heesch_outer.specs.Found.{IsNearAnswer}
 use Rattle.heesch_outer.specs.Statements.{TellsNumber}
-use Rattle.heesch_outer.proofs.Entries.{found_of, layers_near, proof_near, steps_near}
+use Rattle.heesch_outer.proofs.Entries.{layers_near, level_of, proof_near, steps_near}
 use Rattle.heesch_outer.proofs.OuterRight.{outer_answers_are_right}
 
 -- behind a wall that another search is needed beyond, an answer is one of that search
@@ -48,11 +49,13 @@ module _ (g : Geometry) (limits : Limits) (entry : Entry) (true_entry : IsTrueEn
   pub count_in : length free.layers ≡ first_number entry.verdict
   count_in = (subst (FreeHolds g entry.cells entry.verdict) is true_entry.free).0
 
-  -- what was found, and the wall
-  pub found_in : IsFound g limits entry.cells free.layers
-  found_in = found_of g limits entry.cells free proof bare wider triples entry.verdict true_entry.shape form (subst (FreeHolds g entry.cells entry.verdict) is true_entry.free)
+  -- one corona more was sought
+  pub level_in : length free.layers + 1 ≤ limits.levels
+  level_in =
+      let fits = (search_form g limits entry.cells entry.verdict free (WallRefuted proof) bare wider triples).0 form in
+      subst (λ n. n + 1 ≤ limits.levels) (sym count_in) (level_of limits proof bare wider entry.verdict fits.1)
 
-  pub wall_in : RefutesCoronas limits.version g entry.cells (length free.layers + 1) limits.size proof
+  wall_in : RefutesCoronas limits.version g entry.cells (length free.layers + 1) limits.size proof
   wall_in = subst (λ n. RefutesCoronas limits.version g entry.cells (n + 1) limits.size proof) (sym count_in) (subst (WallHolds g limits entry.cells entry.verdict) is true_entry.wall)
 
   fits_beyond : (answer : OuterAnswer) (verdict : Verdict) → FormFits g limits entry.cells verdict evidence → FitsOuter g limits entry.cells verdict evidence answer ↔ IsBeyondWall g limits entry.cells (first_number verdict) proof bare answer
@@ -76,9 +79,6 @@ module _ (g : Geometry) (limits : Limits) (entry : Entry) (true_entry : IsTrueEn
       let a = answer_beyond answer in
       let b = beyond_searched g limits entry.cells (length free.layers) proof bare answer other in
       ((λ x. b.0 (a.0 x)), (λ x. a.1 (b.1 x)))
-
-  pub level_in : length free.layers + 1 ≤ limits.levels
-  level_in = found_in.level
 
   -- the formula of the wall isn't too large
   pub fits_in : IsGrid g → ¬ IsTooLarge limits.version g entry.cells (length free.layers + 1) limits.size

@@ -37,6 +37,7 @@ pub record AreOuterEntries (g : Geometry) (limits : Limits) (shapes : List (List
 abbrev pub IsReadable : OuterEntry → Type 0
 IsReadable e = AllByRecursion IsLine (entry_lines e.entry) × AllByRecursion IsLine (answer_lines e.answer)
 
+-- each of these can be read so
 abbrev pub AreReadable : List OuterEntry → Type 0
 AreReadable es = AllByRecursion IsReadable es
 

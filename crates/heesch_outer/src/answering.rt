@@ -1,6 +1,5 @@
 //! The outer number of an entry's shape.
-ghost use Rattle.std.specs.Prelude.{◌≡◌, ◌≤◌, ◌+◌, IfOk};
-ghost use Rattle.heesch_audit.specs.Shapes.{AreCanonical};
+ghost use Rattle.std.specs.Prelude.{◌≤◌, ◌+◌, IfOk};
 ghost use Rattle.heesch_cert.specs.Limits.{AreLimits};
 ghost use Rattle.heesch_cert.specs.Proofs.{IsTooLarge};
 ghost use Rattle.heesch_cert.specs.TrueEntry.{IsTrueEntry, first_number};
@@ -11,22 +10,14 @@ ghost use Rattle.heesch_outer.specs.Proofs.{LeavesOuterOpen};
 ghost use Rattle.heesch_outer.specs.Statements.{TellsNumber};
 
 use crate::OuterAnswer;
+use crate::shaped::shape_of;
 use heesch_cert::{Bare, Entry, Evidence, Limits, Wall};
-use heesch_grid::{Cell, Grid};
+use heesch_grid::Grid;
 use heesch_io::NoMemory;
 use heesch_levels::LevelAnswer;
 use heesch_search::level_up_to;
 use heesch_shape::Shape;
 use std::alloc::Global;
-
-/// The shape of the cells, which are the canonical list of a polyform of 1 to 32 cells.
-fn shape_of<G: Grid>(cells: &[Cell]) -> Shape<G>
-    requires { AreCanonical G.geometry cells.now }
-    ensures same { result ≡ cells.now }
-    ensures canonical { IsCanonicalListOf G.geometry result result }
-{
-    Shape::<G>::of(cells).unwrap()
-}
 
 /// What a search for h + 1 outer coronas ends with, where the corona formula isn't too large.
 fn search_outer<G: Grid>(

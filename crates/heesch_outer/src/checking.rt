@@ -1,32 +1,32 @@
 //! The check of an answer.
-ghost use Rattle.std.specs.Prelude.{◌≡◌, ◌↔◌, ◌+◌, length, IfOk, IsTrue};
+ghost use Rattle.std.specs.Prelude.{◌≡◌, ◌≤◌, ◌↔◌, ◌+◌, IfOk, IsTrue};
+ghost use Rattle.heesch_audit.specs.Shapes.{IsCanonicalShape};
 ghost use Rattle.heesch_cert.specs.Limits.{AreLimits};
-ghost use Rattle.heesch_cert.specs.Proofs.{RefutesCoronas};
 ghost use Rattle.heesch_cert.specs.TrueEntry.{IsTrueEntry};
 ghost use Rattle.heesch_levels.specs.UpTo.{HasCutsUpTo};
-ghost use Rattle.heesch_logs.specs.Near.{IsNearProof};
-ghost use Rattle.heesch_outer.specs.Answer.{IsOuterAnswer, IsSearched};
-ghost use Rattle.heesch_outer.specs.Found.{IsFound, IsNearAnswer};
+ghost use Rattle.heesch_logs.specs.Near.{AreNearLayers, IsNearProof};
+ghost use Rattle.heesch_outer.specs.Answer.{IsOuterAnswer, IsSearched, SpellsOuterCoronas};
+ghost use Rattle.heesch_outer.specs.Found.{IsNearAnswer};
 ghost use Rattle.heesch_outer.specs.Proofs.{EndsOuter};
 
 use crate::OuterAnswer;
-use crate::copies::is_same_proof;
-use crate::parts::{ended_entry, part_holds};
-use crate::sought::Sought;
-use heesch_audit::ProofEnd;
-use heesch_cert::{Bare, Entry, Evidence, Limits, Proof, Step, Verdict, Wall};
+use crate::same::is_same_proof;
+use crate::shaped::shape_of;
+use heesch_audit::{ProofEnd, ends_coronas, spell_coronas};
+use heesch_cert::{Bare, Entry, Evidence, Layers, Limits, Proof, Step, Verdict, Wall};
 use heesch_grid::Grid;
 use heesch_io::NoMemory;
+use heesch_shape::Shape;
 use std::alloc::Global;
 use std::thread::Threads;
 
 /// Whether each cut of the proof has level at most h.
-fn has_cuts_up_to(proof: &Proof, h: usize) -> bool
+fn has_cuts_up_to(proof: &Proof, h: u32) -> bool
     ensures { IsTrue result ↔ HasCutsUpTo h proof.now }
 {
     for step in proof.steps.as_slice() {
         if let Step::Cut { cut } = step {
-            if cut.level as usize > h {
+            if cut.level > h {
                 return false;
             }
         }
@@ -44,39 +44,67 @@ fn is_same_by(answer: &OuterAnswer, wall: &Proof) -> bool
     }
 }
 
-impl<'a, T: Threads + Sync> Sought<'a, T> {
-    /// Whether the proof is outer for the number of the layers, and refutes or is spent, as asked.
-    fn is_ended_outer<G: Grid>(&self, end: ProofEnd, proof: &Proof) -> Result<bool, NoMemory>
-        requires limits { AreLimits self.now.limits }
-        requires found { IsFound G.geometry self.now.limits self.now.cells.now self.now.free.now }
-        requires near { IsNearProof proof.now }
-        ensures { IfOk result
-            (λ yes. IsTrue yes ↔ EndsOuter end G.geometry self.now.limits self.now.cells.now
-            (length self.now.free.now) proof.now) }
-    {
-        if !has_cuts_up_to(proof, self.free.len()) {
-            return Ok(false);
-        }
-        let entry = ended_entry(self.alloc, self.cells, self.free, end, proof)?;
-        part_holds::<G, T>(self.rt, self.alloc, &entry, self.limits, 6)
+/// Whether the layers are h + 1 outer coronas.
+fn are_outer<G: Grid>(
+    alloc: Global,
+    shape: &Shape<G>,
+    h: u32,
+    layers: &Layers,
+) -> Result<bool, NoMemory>
+    requires shape { IsCanonicalShape G.geometry shape.now }
+    requires level { h ≤ 5 }
+    requires near { AreNearLayers layers.now.layers }
+    ensures { IfOk result (λ yes. IsTrue yes ↔ SpellsOuterCoronas G.geometry shape.now (h + 1) layers.now) }
+{
+    if layers.layers.len() != h as usize + 1 {
+        return Ok(false);
     }
+    spell_coronas(alloc, shape, layers, h)
+}
 
-    /// Whether a search of its own may end with the answer.
-    fn is_searched<G: Grid>(&self, answer: &OuterAnswer) -> Result<bool, NoMemory>
-        requires limits { AreLimits self.now.limits }
-        requires found { IsFound G.geometry self.now.limits self.now.cells.now self.now.free.now }
-        requires wall { RefutesCoronas self.now.limits.version G.geometry self.now.cells.now
-            (length self.now.free.now + 1) self.now.limits.size self.now.wall.now }
-        requires near { IsNearAnswer answer.now }
-        ensures { IfOk result
-            (λ yes. IsTrue yes ↔ IsSearched G.geometry self.now.limits self.now.cells.now
-            (length self.now.free.now) answer.now) }
-    {
-        match answer {
-            OuterAnswer::Tiles | OuterAnswer::Unknown => Ok(false),
-            OuterAnswer::More { layers } => self.are_outer::<G>(layers),
-            OuterAnswer::Same { proof } => self.is_ended_outer::<G>(ProofEnd::Refuted, proof),
-            OuterAnswer::Spent { proof } => self.is_ended_outer::<G>(ProofEnd::Spent, proof),
+/// Whether the proof is outer for h, and refutes or is spent, as asked.
+fn is_ended_outer<G: Grid>(
+    alloc: Global,
+    shape: &Shape<G>,
+    h: u32,
+    limits: Limits,
+    end: ProofEnd,
+    proof: &Proof,
+) -> Result<bool, NoMemory>
+    requires shape { IsCanonicalShape G.geometry shape.now }
+    requires level { h ≤ 5 }
+    requires limits { AreLimits limits }
+    requires near { IsNearProof proof.now }
+    ensures { IfOk result (λ yes. IsTrue yes ↔ EndsOuter end G.geometry limits shape.now h proof.now) }
+{
+    if !has_cuts_up_to(proof, h) {
+        return Ok(false);
+    }
+    ends_coronas(alloc, shape, limits, h + 1, end, proof)
+}
+
+/// Whether a search for h + 1 outer coronas may end with the answer.
+fn is_searched<G: Grid>(
+    alloc: Global,
+    shape: &Shape<G>,
+    h: u32,
+    limits: Limits,
+    answer: &OuterAnswer,
+) -> Result<bool, NoMemory>
+    requires shape { IsCanonicalShape G.geometry shape.now }
+    requires level { h ≤ 5 }
+    requires limits { AreLimits limits }
+    requires near { IsNearAnswer answer.now }
+    ensures { IfOk result (λ yes. IsTrue yes ↔ IsSearched G.geometry limits shape.now h answer.now) }
+{
+    match answer {
+        OuterAnswer::Tiles | OuterAnswer::Unknown => Ok(false),
+        OuterAnswer::More { layers } => are_outer(alloc, shape, h, layers),
+        OuterAnswer::Same { proof } => {
+            is_ended_outer(alloc, shape, h, limits, ProofEnd::Refuted, proof)
+        }
+        OuterAnswer::Spent { proof } => {
+            is_ended_outer(alloc, shape, h, limits, ProofEnd::Spent, proof)
         }
     }
 }
@@ -89,10 +117,10 @@ impl<'a, T: Threads + Sync> Sought<'a, T> {
 /// Condition: the limits lie in their ranges, the entry is true under them, and the answer's translations and the
 /// cells of its cuts' holes lie within 100,000 of 0. Its turns and numbers may be any.
 ///
-/// Proofs and layers are copied, and looked at as parts of an entry by `audit`, which has its cost; for More it checks
-/// the wall's proof once more.
+/// The layers and the proofs of the entry aren't looked at again, and none is copied. The cost is that of
+/// `spell_coronas` or of `ends_coronas` of `heesch_audit`, at level h + 1.
 pub fn check_outer<G: Grid, T: Threads + Sync>(
-    rt: &T,
+    _rt: &T,
     alloc: Global,
     entry: &Entry,
     answer: &OuterAnswer,
@@ -106,13 +134,7 @@ pub fn check_outer<G: Grid, T: Threads + Sync>(
     if let Verdict::Tiles { .. } = entry.verdict {
         return Ok(matches!(answer, OuterAnswer::Tiles));
     }
-    let Evidence::Search {
-        free,
-        wall,
-        bare,
-        ..
-    } = &entry.evidence
-    else {
+    let Evidence::Search { wall, bare, .. } = &entry.evidence else {
         return Ok(false);
     };
     let Wall::Refuted { proof } = wall else {
@@ -121,13 +143,6 @@ pub fn check_outer<G: Grid, T: Threads + Sync>(
     if let Bare::Same = bare {
         return Ok(is_same_by(answer, proof));
     }
-    let sought = Sought {
-        rt,
-        alloc,
-        cells: entry.cells.as_slice(),
-        free: free.layers.as_slice(),
-        wall: proof,
-        limits,
-    };
-    sought.is_searched::<G>(answer)
+    let shape = shape_of::<G>(entry.cells.as_slice());
+    is_searched(alloc, &shape, entry.verdict.first_number(), limits, answer)
 }

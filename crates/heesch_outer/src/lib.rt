@@ -10,12 +10,11 @@ mod answer;
 mod answering;
 mod answers;
 mod checking;
-mod copies;
 pub mod laws;
 mod outers;
-mod parts;
 mod record;
-mod sought;
+mod same;
+mod shaped;
 
 pub use answer::OuterAnswer;
 pub use answering::outer;

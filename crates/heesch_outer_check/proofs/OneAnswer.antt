@@ -16,8 +16,8 @@ use Rattle.heesch_check.proofs.Blocks.{block_split}
 use Rattle.heesch_outer.specs.declared.answers.OuterEntry.{OuterEntry}
 use Rattle.heesch_outer.specs.Answer.{IsOuterAnswer}
 use Rattle.heesch_outer.specs.Outers.{record_text}
-use Rattle.heesch_record.specs.Records.{IsReadableRecord}
-use Rattle.heesch_record.specs.Statements.{TextsDetermineRecords, TrueRecordsAreReadable}
+use Rattle.heesch_outer_check.specs.ReadableRecords.{IsReadableRecord}
+use Rattle.heesch_outer_check.specs.RecordStatements.{TextsDetermineRecords, TrueRecordsAreReadable}
 use Rattle.heesch_outer_check.specs.Records.{AreRecords, IsGoodBlock, IsGoodRecord}
 use Rattle.heesch_outer_check.specs.Answers.{IsOutersChecked, IsTooLong, Tells}
 use Rattle.heesch_outer_check.specs.Rounds.{IsAnswerBehind}

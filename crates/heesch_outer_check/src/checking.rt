@@ -10,10 +10,9 @@ ghost use Rattle.heesch_outer_check.specs.Answers.{IsOutersChecked, Tells};
 ghost use Rattle.heesch_outer_check.specs.Rounds.{AreListed, CanBeListed, IsAnswerBehind, JudgesRound, most_of};
 
 use crate::blocks::{begins_shape, from_place, next_round, up_to_place};
-use crate::judging::GIVEN_MAX;
 use crate::rounds::{answers_of, leading};
 use heesch_cert::{Header, Subject};
-use heesch_check::Checked;
+use heesch_check::{Checked, GIVEN_MAX};
 use heesch_grid::Grid;
 use heesch_io::NoMemory;
 use heesch_kite::on_grid;

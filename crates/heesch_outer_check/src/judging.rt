@@ -7,20 +7,18 @@ ghost use Rattle.heesch_grid.specs.Names.{geometry_of};
 ghost use Rattle.heesch_outer.specs.Answer.{IsOuterAnswer};
 ghost use Rattle.heesch_outer_check.specs.Records.{IsGoodBlock, IsGoodRecord};
 ghost use Rattle.heesch_outer_check.specs.Rounds.{AreListed};
-ghost use Rattle.heesch_record.specs.Records.{IsReadableRecord};
+ghost use Rattle.heesch_outer_check.specs.ReadableRecords.{IsReadableRecord};
 
+use crate::record::read_record;
 use heesch_audit::{EntryAnswer, audit};
 use heesch_cert::{Header, Limits, Subject};
+use heesch_check::GIVEN_MAX;
 use heesch_grid::{Cell, Grid};
 use heesch_io::NoMemory;
 use heesch_outer::{OuterEntry, check_outer};
-use heesch_record::read_record;
 use heesch_shape::Shape;
 use std::alloc::Global;
 use std::thread::Threads;
-
-/// How many shapes may be given.
-pub(crate) const GIVEN_MAX: u32 = 10_000;
 
 /// Whether a shape of these cells may stand behind so many records.
 fn is_in_place<G: Grid>(subject: Subject, shapes: &[Shape<G>], before: u32, cells: &[Cell]) -> bool

@@ -5,9 +5,9 @@ ghost use Rattle.heesch_cert.specs.Limits.{AreLimits};
 ghost use Rattle.heesch_grid.specs.Names.{geometry_of};
 ghost use Rattle.heesch_outer_check.specs.Rounds.{AreAnswers, AreListed};
 
-use crate::handle::SharedHandle;
 use crate::judging::is_good;
 use heesch_cert::Header;
+use heesch_check::SharedHandle;
 use heesch_grid::Grid;
 use heesch_io::{NoMemory, Seq};
 use heesch_pool::{Answer, Crew, Gate, Job};

@@ -1,16 +1,19 @@
 -- Orientations that are moved: the placements that have a target.
-use Rattle.std.proofs.Common.{◌≡◌, refl, sym, ap, ◌∙◌, subst, ℕ, ◌+◌, ◌*◌, ◌<◌, ◌≤◌, true, false, Bool, List, [], ◌∷◌, ◌++◌, map, length, take, get_or, inl, inr, ℤ, pos, neg_ℤ, ◌+ℤ◌, ◌-ℤ◌, ◌*ℤ◌, ◌≤ℤ◌, nat_abs, Contains, arith, true≢false}
+use Rattle.std.proofs.Common.{◌≡◌, refl, sym, ap, ◌∙◌, subst, ℕ, ◌+◌, ◌<◌, ◌≤◌, true, false, Bool, List, [], ◌∷◌, ◌++◌, map, length, take, get_or, inl, inr, ℤ, pos, ◌+ℤ◌, ◌-ℤ◌, neg_ℤ, ◌*ℤ◌, ◌≤ℤ◌, ◌<ℤ◌, ◌&&◌, nat_abs, Contains, arith, true≢false}
 use Rattle.std.specs.List.{list_any}
 use Rattle.std.proofs.lemmas.Int.{ints}
-use Rattle.std.proofs.lemmas.Bool.{or_cases, cases_lt}
+use Rattle.std.proofs.lemmas.Bool.{and_parts, or_cases, cases_lt}
 use Rattle.std.proofs.lemmas.List.Elements.{All-contains, Contains-append_cases, Contains-append_left, Contains-append_right}
 use Rattle.std.proofs.lemmas.List.{take_more, length-append, get_or_append_left, get_or_push}
-use Rattle.heesch_grid.specs.Listing.{ListsExactly}
+use Rattle.std.specs.Prelude.{IsTrue, int_lt}
+use Rattle.std.specs.Ordering.{int_eq}
+use Rattle.std.specs.Cmp.{signed_Decides}
+use Rattle.heesch_grid.specs.Listing.{IsRising, ListsExactly}
 use Rattle.heesch_grid.proofs.Images.{wider, turn_within}
 use Rattle.heesch_shape.proofs.Loops.{has_more}
 use Rattle.heesch_grid.specs.declared.Cell.{Cell}
 use Rattle.heesch_grid.specs.declared.isometries.Iso.{Iso}
-use Rattle.heesch_grid.specs.Cells.{cell, same_cell, cells_before, has, IsCellListOf}
+use Rattle.heesch_grid.specs.Cells.{cell, cell_before, same_cell, cells_before, has, IsCellListOf}
 use Rattle.heesch_grid.specs.Geometry.{Geometry, IsGrid, apply, image}
 use Rattle.heesch_grid.specs.Integers.{mul_add, mul_sub}
 use Rattle.heesch_grid.specs.Pairs.{Cell-eta, has-true, same_cell-true}
@@ -19,8 +22,8 @@ use Rattle.heesch_grid.specs.Vectors.{AreUnitsOf, IsWithin, plus, minus}
 use Rattle.heesch_grid.proofs.CellFacts.{has-is, meet-true, meet-is}
 use Rattle.heesch_grid.proofs.ListFacts.{any_member, member_any, no_member, member_here, member_cases}
 use Rattle.heesch_grid.proofs.WindowFacts.{member_map, map_member}
-use Rattle.heesch_index.specs.Marking.{Marked, is_marked}
-use Rattle.heesch_place.specs.Found.{Adds, FromOne, IsMoved, AreTurned, AreOrientations, IsMovedOver, IsInSquare, IsPlacementOver}
+use Rattle.heesch_index.specs.Marking.{IsBetween, Marked, Span, is_marked}
+use Rattle.heesch_place.specs.Found.{Adds, FromOne, IsMoved, AreTurned, AreOrientations, IsMovedOver, IsInRows, IsPlacementOver}
 use Rattle.heesch_place.specs.Steps.{IsFirstOf}
 use Rattle.heesch_place.proofs.Gathering.{adds_one, adds_nothing, adds_same, any_default, member_at}
 use Rattle.heesch_place.proofs.Moves.{moved_list, image_list, one_step, head_of, must_be_units, leads}
@@ -215,8 +218,45 @@ module _ (g : Geometry) (targets : Marked) (first : Cell) (t : List Cell) (x s :
         meets = subst (λ zs. list_any (is_marked targets) zs ≡ true) (sym is') (member_any (is_marked targets) (map (plus s) t) (plus s c.0) (member_map (plus s) t c.0 c.1) c.2);
       }) (λ tile h. tile_is tile h ∙ sym is')
 
--- ---- all orientations and all first cells near 0
-module _ (g : Geometry) (shape targets : List Cell) (marks : Marked) (orientations : List (List Cell)) (most : ℕ) (is : AreOrientations g shape orientations) (marked : (c : Cell) → is_marked marks c ≡ has targets c) where
+-- ---- all orientations and all first cells of a box
+
+-- the corners of the least box that has 0 and the targets
+module _ (targets : List Cell) (from to low high : Cell) (from_is : from ≡ cell (pos 0) (pos 0)) (to_is : to ≡ cell (pos 0) (pos 0)) (span : Span from to targets low high) where
+  pub zero_between : IsBetween low high (cell (pos 0) (pos 0))
+  zero_between =
+      let fa = ap (λ z. z.a) from_is in
+      let fb = ap (λ z. z.b) from_is in
+      let ta = ap (λ z. z.a) to_is in
+      let tb = ap (λ z. z.b) to_is in
+      span.old (cell (pos 0) (pos 0)) (record { a_low = omega (arith, ints, fa); a_high = omega (arith, ints, ta); b_low = omega (arith, ints, fb); b_high = omega (arith, ints, tb) })
+
+  pub corners_near : (n : ℕ) → ((c : Cell) → has targets c ≡ true → IsWithin n c) → IsWithin n low × IsWithin n high
+  corners_near n near =
+      let least = cell (neg_ℤ (pos n)) (neg_ℤ (pos n)) in
+      let greatest = cell (pos n) (pos n) in
+      let zero : IsBetween least greatest (cell (pos 0) (pos 0)) = record { a_low = omega (arith, ints); a_high = omega (arith, ints); b_low = omega (arith, ints); b_high = omega (arith, ints) } in
+      let both = span.least least greatest (subst (IsBetween least greatest) (sym from_is) zero) (subst (IsBetween least greatest) (sym to_is) zero)
+      (λ c h. let w = near c h in record { a_low = w.a_low; a_high = w.a_high; b_low = w.b_low; b_high = w.b_high }) in
+      let l = both.0 in
+      let h = both.1 in
+      (record { a_low = l.a_low; a_high = l.a_high; b_low = l.b_low; b_high = l.b_high }, record { a_low = h.a_low; a_high = h.a_high; b_low = h.b_low; b_high = h.b_high })
+
+-- no cell lies below the first one
+rows_after : (c d : Cell) → IsTrue (cell_before c d) → c.b ≤ℤ d.b
+rows_after c d t = elim (or_cases (int_lt c.b d.b) (int_eq c.b d.b && int_lt c.a d.a) t) [
+  | inl l ↦ omega (arith, ints, l)
+  | inr e ↦ omega (arith, ints, (signed_Decides c.b d.b).0 (and_parts (int_eq c.b d.b) (int_lt c.a d.a) e).0)
+]
+
+no_row_below : (xs : List Cell) (x c : Cell) → IsRising cell_before xs → IsFirstOf xs x → Contains xs c → x.b ≤ℤ c.b
+no_row_below xs x c rising first m =
+    let all : IsRising cell_before (x ∷ first.rest) = subst (IsRising cell_before) first.is rising in
+    elim (member_cases x first.rest c (subst (λ zs. Contains zs c) first.is m)) [
+      | inl e ↦ let same = ap (λ z. z.b) e in omega (arith, ints, same)
+      | inr k ↦ rows_after x c (All-contains (λ y. IsTrue (cell_before x y)) first.rest c all.0 k)
+    ]
+
+module _ (g : Geometry) (shape targets : List Cell) (marks : Marked) (orientations : List (List Cell)) (is : AreOrientations g shape orientations) (marked : (c : Cell) → is_marked marks c ≡ has targets c) where
   pub over_only : (tile : List Cell) (first : Cell) → FromOne (IsMovedOver g marks first) orientations tile → IsPlacementOver g shape targets tile
   over_only tile first h =
       let d = any_member (is_marked marks) tile h.gives.meets in
@@ -229,48 +269,52 @@ module _ (g : Geometry) (shape targets : List Cell) (marks : Marked) (orientatio
   begins_with [] c m = absurd (no_member c m)
   begins_with (x ∷ xs) c m = (x, record { rest = xs; is = refl })
 
-  pub over_every : (near far : ℕ) → near + far ≡ most → ((c : Cell) → has targets c ≡ true → IsWithin near c) → ((t : List Cell) (first c : Cell) → Contains orientations t → IsFirstOf t first → has t c ≡ true → IsWithin far (minus first c)) → (tile : List Cell) → IsPlacementOver g shape targets tile → (first : Cell) × IsWithin most first × FromOne (IsMovedOver g marks first) orientations tile
-  over_every near far sum within reach tile h =
-      let o = is.every tile h.placement in
-      let t = o.source in
-      let s = scaled g o.gives.units in
-      let d = meet-true targets tile h.meets in
-      let c = map_member (plus s) t d.0 (subst (λ zs. Contains zs d.0) o.gives.is d.2) in
-      let x = begins_with t c.0 c.1 in
-      let w = within d.0 (has-is targets d.0 d.1) in
-      let r = reach t x.0 c.0 o.inside x.1 (has-is t c.0 c.1) in
-      let ea = ap (λ z. z.a) c.2 in
-      let eb = ap (λ z. z.b) c.2 in (
-        plus s x.0,
-        record {
-          a_low = omega (arith, ints, w.a_low, r.a_low, ea, sum);
-          a_high = omega (arith, ints, w.a_high, r.a_high, ea, sum);
-          b_low = omega (arith, ints, w.b_low, r.b_low, eb, sum);
-          b_high = omega (arith, ints, w.b_high, r.b_high, eb, sum);
-        },
-        record {
-          source = t;
-          inside = o.inside;
-          gives = record {
-            moved = o.gives;
-            begins = record { rest = map (plus s) x.1.rest; is = o.gives.is ∙ ap (map (plus s)) x.1.is };
-            meets = member_any (is_marked marks) tile d.0 d.2 (marked d.0 ∙ has-is targets d.0 d.1);
-          };
-        },
-      )
+  -- the placements begin at most so far from the targets, and in no row above them
+  module _ (from to : Cell) (far : ℕ) (within : (c : Cell) → has targets c ≡ true → IsBetween from to c) (reach : (t : List Cell) (first c : Cell) → Contains orientations t → IsFirstOf t first → has t c ≡ true → IsWithin far (minus first c)) where
+    record Begins (tile : List Cell) : Type 0 where
+      first : Cell
+      a_low : (from.a -ℤ pos far) ≤ℤ first.a
+      a_high : first.a ≤ℤ (to.a +ℤ pos far)
+      b_low : (from.b -ℤ pos far) ≤ℤ first.b
+      b_high : first.b ≤ℤ to.b
+      one : FromOne (IsMovedOver g marks first) orientations tile
 
-  -- a coordinate near 0 by its place in a row
-  placed_at : (z : ℤ) → neg_ℤ (pos most) ≤ℤ z → z ≤ℤ pos most → (i : ℕ) × (i < 2 * most + 1) × (neg_ℤ (pos most) +ℤ pos i ≡ z)
-  placed_at z low high = (nat_abs (z +ℤ pos most), omega (arith, ints, low, high), omega (arith, ints, low, high))
+    over_every : (tile : List Cell) → IsPlacementOver g shape targets tile → Begins tile
+    over_every tile h =
+        let o = is.every tile h.placement in
+        let t = o.source in
+        let s = scaled g o.gives.units in
+        let d = meet-true targets tile h.meets in
+        let c = map_member (plus s) t d.0 (subst (λ zs. Contains zs d.0) o.gives.is d.2) in
+        let x = begins_with t c.0 c.1 in
+        let begins : IsFirstOf tile (plus s x.0) = record { rest = map (plus s) x.1.rest; is = o.gives.is ∙ ap (map (plus s)) x.1.is } in
+        let w = within d.0 (has-is targets d.0 d.1) in
+        let r = reach t x.0 c.0 o.inside x.1 (has-is t c.0 c.1) in
+        let ea = ap (λ z. z.a) c.2 in
+        let eb = ap (λ z. z.b) c.2 in
+        let below = no_row_below tile (plus s x.0) d.0 h.placement.is_list.rising begins d.2 in
+        record {
+          first = plus s x.0;
+          a_low = omega (arith, ints, w.a_low, r.a_low, ea);
+          a_high = omega (arith, ints, w.a_high, r.a_high, ea);
+          b_low = omega (arith, ints, w.b_low, r.b_low, eb);
+          b_high = omega (arith, ints, w.b_high, below);
+          one = record { source = t; inside = o.inside; gives = record { moved = o.gives; begins = begins; meets = member_any (is_marked marks) tile d.0 d.2 (marked d.0 ∙ has-is targets d.0 d.1) } };
+        }
 
-  -- what all rows have are the placements over the targets
-  pub rows_over : (old new : List (List Cell)) (near far : ℕ) → near + far ≡ most → ((c : Cell) → has targets c ≡ true → IsWithin near c) → ((t : List Cell) (first c : Cell) → Contains orientations t → IsFirstOf t first → has t c ≡ true → IsWithin far (minus first c)) → Adds (IsInSquare g marks orientations most) old new → Adds (IsPlacementOver g shape targets) old new
-  rows_over old new near far sum within reach a =
-      adds_same (IsInSquare g marks orientations most) (IsPlacementOver g shape targets) old new
-      (λ tile h. over_only tile (cell (neg_ℤ (pos most) +ℤ pos h.2.0) (neg_ℤ (pos most) +ℤ pos h.0)) h.2.2)
-      (λ tile h.
-      let f = over_every near far sum within reach tile h in
-      let i = placed_at f.0.a f.1.a_low f.1.a_high in
-      let j = placed_at f.0.b f.1.b_low f.1.b_high in
-      (j.0, j.1, (i.0, i.1, subst (λ c. FromOne (IsMovedOver g marks c) orientations tile) (sym (Cell-eta (cell (neg_ℤ (pos most) +ℤ pos i.0) (neg_ℤ (pos most) +ℤ pos j.0)) f.0 i.2 j.2)) f.2)))
-      a
+    -- a coordinate by its place from the low one on
+    placed_from : (low z : ℤ) (n : ℕ) → low ≤ℤ z → z <ℤ (low +ℤ pos n) → (i : ℕ) × (i < n) × (low +ℤ pos i ≡ z)
+    placed_from low z n above less = (nat_abs (z -ℤ low), omega (arith, ints, above, less), omega (arith, ints, above, less))
+
+    -- what all rows have are the placements over the targets
+    pub rows_over : (low : Cell) (wide tall : ℕ) (old new : List (List Cell)) → low.a ≡ from.a -ℤ pos far → low.b ≡ from.b -ℤ pos far → (to.a +ℤ pos far) <ℤ (low.a +ℤ pos wide) → to.b <ℤ (low.b +ℤ pos tall)
+        → Adds (IsInRows g marks orientations low wide tall) old new → Adds (IsPlacementOver g shape targets) old new
+    rows_over low wide tall old new a_is b_is a_room b_room a =
+        adds_same (IsInRows g marks orientations low wide tall) (IsPlacementOver g shape targets) old new
+        (λ tile h. over_only tile (cell (low.a +ℤ pos h.2.0) (low.b +ℤ pos h.0)) h.2.2)
+        (λ tile h.
+        let f = over_every tile h in
+        let i = placed_from low.a f.first.a wide (omega (arith, ints, a_is, f.a_low)) (omega (arith, ints, a_room, f.a_high)) in
+        let j = placed_from low.b f.first.b tall (omega (arith, ints, b_is, f.b_low)) (omega (arith, ints, b_room, f.b_high)) in
+        (j.0, j.1, (i.0, i.1, subst (λ c. FromOne (IsMovedOver g marks c) orientations tile) (sym (Cell-eta (cell (low.a +ℤ pos i.0) (low.b +ℤ pos j.0)) f.first i.2 j.2)) f.one)))
+        a

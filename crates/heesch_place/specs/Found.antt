@@ -1,5 +1,5 @@
 -- Lists to which is added what other lists give, and where the placements of a level come from.
-use Rattle.std.specs.Prelude.{◌≡◌, ℕ, ◌+◌, ◌*◌, ◌⊎◌, ◌<◌, Bool, true, not, ◌&&◌, List, pos, neg_ℤ, ◌+ℤ◌, ◌*ℤ◌, Contains, map, length, slice_index_or, []}
+use Rattle.std.specs.Prelude.{◌≡◌, ℕ, ◌⊎◌, ◌<◌, Bool, true, not, ◌&&◌, List, pos, ◌+ℤ◌, ◌*ℤ◌, Contains, map, length, slice_index_or, []}
 use Rattle.std.specs.List.{list_any}
 use Rattle.heesch_grid.specs.declared.Cell.{Cell}
 use Rattle.heesch_grid.specs.Cells.{cell, has, meet, IsCellListOf}
@@ -59,17 +59,13 @@ pub record IsMovedOver (g : Geometry) (targets : Marked) (first : Cell) (orienta
   pub begins : IsFirstOf tile first
   pub meets : list_any (is_marked targets) tile ≡ true
 
--- the first cell of the row of this number, of those that lie within `most` of 0
-abbrev pub row_start : ℕ → ℕ → Cell
-row_start most row = cell (neg_ℤ (pos most)) (neg_ℤ (pos most) +ℤ pos row)
-
 -- the tile is an orientation, moved over a target and beginning in the row of so many cells from `low` on
 abbrev pub IsInRow : Geometry → Marked → List (List Cell) → Cell → ℕ → List Cell → Type 0
 IsInRow g targets orientations low wide tile = (i : ℕ) × (i < wide) × FromOne (IsMovedOver g targets (cell (low.a +ℤ pos i) low.b)) orientations tile
 
--- the tile is an orientation, moved over a target and beginning within `most` of 0
-abbrev pub IsInSquare : Geometry → Marked → List (List Cell) → ℕ → List Cell → Type 0
-IsInSquare g targets orientations most tile = (row : ℕ) × (row < 2 * most + 1) × IsInRow g targets orientations (row_start most row) (2 * most + 1) tile
+-- the tile is an orientation, moved over a target and beginning in one of so many rows, each of so many cells, from `low` on
+abbrev pub IsInRows : Geometry → Marked → List (List Cell) → Cell → (wide tall : ℕ) → List Cell → Type 0
+IsInRows g targets orientations low wide tall tile = (row : ℕ) × (row < tall) × IsInRow g targets orientations (cell low.a (low.b +ℤ pos row)) wide tile
 
 -- the tile is a placement that has one of the targets
 pub record IsPlacementOver (g : Geometry) (shape targets tile : List Cell) : Type 0 where

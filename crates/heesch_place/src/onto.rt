@@ -1,14 +1,14 @@
 //! Placements that have one of some cells.
-ghost use Rattle.std.specs.Prelude.{◌≡◌, ℕ, ◌+◌, ◌*◌, ◌<◌, ◌≤◌, pos, ◌+ℤ◌, ◌≤ℤ◌};
+ghost use Rattle.std.specs.Prelude.{◌≡◌, ℕ, ◌+◌, ◌*◌, ◌<◌, ◌≤◌, pos, ◌+ℤ◌, ◌-ℤ◌, ◌≤ℤ◌};
 ghost use Rattle.std.specs.Prelude.{true, List, Contains, OnOk, IfOk};
 ghost use Rattle.std.specs.List.{list_any};
 ghost use Rattle.heesch_grid.specs.declared.Cell.{Cell};
 ghost use Rattle.heesch_grid.specs.Cells.{cell, cells_before, has};
 ghost use Rattle.heesch_grid.specs.Listing.{ListsExactly};
 ghost use Rattle.heesch_grid.specs.Vectors.{IsWithin, minus, plus};
-ghost use Rattle.heesch_index.specs.Marking.{is_marked};
+ghost use Rattle.heesch_index.specs.Marking.{IsBetween, is_marked};
 ghost use Rattle.heesch_place.specs.Found.{Adds, FromOne, IsMovedOver};
-ghost use Rattle.heesch_place.specs.Found.{row_start, IsInRow, IsInSquare, IsPlacementOver};
+ghost use Rattle.heesch_place.specs.Found.{IsInRow, IsInRows, IsPlacementOver};
 ghost use Rattle.heesch_place.specs.Steps.{IsFirstOf};
 
 use crate::lists::{add, listed_tiles};
@@ -16,7 +16,7 @@ use crate::prototile::Prototile;
 use crate::turned::first_of;
 use heesch_grid::moves::{difference, moved, units_of};
 use heesch_grid::{Cell, Grid, Iso};
-use heesch_index::CellMarks;
+use heesch_index::{CellMarks, Corners};
 use heesch_io::NoMemory;
 use heesch_shape::Shape;
 use std::alloc::Global;
@@ -94,17 +94,16 @@ fn along(low: Cell, far: u32) -> Cell
     }
 }
 
-/// Where the row of this number begins, of those that lie within `most` of 0.
-fn row_start(most: u32, row: u32) -> Cell
-    requires most { most ≤ 110000 }
-    requires row { row ≤ 2 * most }
-    ensures is { result ≡ row_start most row }
+/// The cell so many rows above this one.
+fn above(low: Cell, rows: u32) -> Cell
+    requires low { IsWithin 110000 low }
+    requires rows { (low.b +ℤ pos rows) ≤ℤ pos 110000 }
+    ensures is { result ≡ cell low.a (low.b +ℤ pos rows) }
     ensures within { IsWithin 110000 result }
 {
-    let most = most as i32;
     Cell {
-        a: -most,
-        b: row as i32 - most,
+        a: low.a,
+        b: low.b + rows as i32,
     }
 }
 
@@ -137,21 +136,31 @@ fn widened(radius: u32, c: Cell) -> u32
     radius.max(c.a.unsigned_abs()).max(c.b.unsigned_abs())
 }
 
-/// Adds the same for each first cell within `most` of 0.
+/// Rows of cells, one above another: `tall` rows, each of `wide` cells, from the cell `low` on.
+#[derive(Clone, Copy)]
+struct Rows {
+    low: Cell,
+    wide: u32,
+    tall: u32,
+}
+
+/// Adds the same for each first cell of the rows.
 fn add_rows<G: Grid>(
     all: &mut Vec<Shape<G>>,
     orientations: &[Shape<G>],
-    most: u32,
+    rows: Rows,
     targets: &CellMarks,
 ) -> Result<(), NoMemory>
     requires near { (t : List Cell) (c : Cell) → Contains orientations.now t → has t c ≡ true → IsWithin 5000 c }
-    requires most { most ≤ 110000 }
+    requires low { IsWithin 110000 rows.low }
+    requires wide { (rows.low.a +ℤ pos rows.wide) ≤ℤ pos 200000 }
+    requires tall { (rows.low.b +ℤ pos rows.tall) ≤ℤ pos 110001 }
     ensures { OnOk result
-        (Adds (IsInSquare G.geometry targets.now orientations.now most) all.old.items all.new.items) }
+        (Adds (IsInRows G.geometry targets.now orientations.now rows.low rows.wide rows.tall)
+        all.old.items all.new.items) }
 {
-    let wide = 2 * most + 1;
-    for row in 0..wide {
-        add_row(all, orientations, row_start(most, row), wide, targets)?;
+    for row in 0..rows.tall {
+        add_row(all, orientations, above(rows.low, row), rows.wide, targets)?;
     }
     Ok(())
 }
@@ -192,10 +201,51 @@ fn reach<G: Grid>(tiles: &[Shape<G>]) -> u32
     reach
 }
 
+/// The cell that has both coordinates less by so much.
+fn before(c: Cell, far: u32) -> Cell
+    requires cell { IsWithin 100000 c }
+    requires far { far ≤ 10000 }
+    ensures { result ≡ cell (c.a -ℤ pos far) (c.b -ℤ pos far) }
+{
+    Cell {
+        a: c.a - far as i32,
+        b: c.b - far as i32,
+    }
+}
+
+/// How many numbers there are from the one to the other.
+fn extent(low: i32, high: i32) -> u32
+    requires order { low ≤ℤ high }
+    requires few { high ≤ℤ (low +ℤ pos 300000) }
+    ensures { (low +ℤ pos result) ≡ (high +ℤ pos 1) }
+{
+    high.abs_diff(low) + 1
+}
+
+/// The rows of a box that has (0, 0), each longer by `far` on both sides, with `far` more rows below them.
+fn rows_around(corners: Corners, far: u32) -> Rows
+    requires low { IsWithin 100000 corners.low }
+    requires high { IsWithin 100000 corners.high }
+    requires zero { IsBetween corners.low corners.high (cell (pos 0) (pos 0)) }
+    requires far { far ≤ 10000 }
+    ensures low_a { result.low.a ≡ (corners.low.a -ℤ pos far) }
+    ensures low_b { result.low.b ≡ (corners.low.b -ℤ pos far) }
+    ensures wide { (result.low.a +ℤ pos result.wide) ≡ ((corners.high.a +ℤ pos far) +ℤ pos 1) }
+    ensures tall { (result.low.b +ℤ pos result.tall) ≡ (corners.high.b +ℤ pos 1) }
+{
+    let low = before(corners.low, far);
+    Rows {
+        low,
+        wide: extent(low.a, corners.high.a) + far,
+        tall: extent(low.b, corners.high.b),
+    }
+}
+
 /// The placements that have one of the targets, each once, in the order of their cell lists.
 ///
 /// For each cell that may be the first of such a placement, and each orientation, it looks among
-/// marks of the targets for the cells. Tiles come in their order, so that the sort is one walk.
+/// marks of the targets for the cells. Such cells lie in the least box that has (0, 0) and the targets,
+/// widened by the reach of the orientations. Tiles come in their order, so that the sort is one walk.
 pub(crate) fn placements_over<G: Grid>(
     alloc: Global,
     prototile: &Prototile<G>,
@@ -207,8 +257,10 @@ pub(crate) fn placements_over<G: Grid>(
 {
     let orientations = prototile.orientations();
     let marks = CellMarks::of(alloc, targets)?;
-    let most = radius(targets) + reach(orientations);
+    let zero = Cell { a: 0, b: 0 };
+    let corners = Corners::at(zero).with_all(targets);
+    let rows = rows_around(corners, reach(orientations));
     let mut all = Vec::new(alloc);
-    add_rows(&mut all, orientations, most, &marks)?;
+    add_rows(&mut all, orientations, rows, &marks)?;
     Ok(listed_tiles(all))
 }

@@ -4,3 +4,6 @@ pub mod Steps
 pub mod Texts
 pub mod Statements
 pub mod Holed
+pub mod Entries
+pub mod TableSteps
+pub mod Tabulating

@@ -38,14 +38,13 @@ fn clear<G: Grid>(marks: &mut [u16], triple: Triple)
     marks.fill(0);
 }
 
-/// Whether the cells alone are a cover.
-fn is_plain_cover<G: Grid>(cells: &[Cell], triple: Triple) -> bool
+/// Whether the cells alone are a cover. Which marks stand is of no account.
+fn is_plain_cover<G: Grid>(marks: &mut [u16; WINDOW_MAX], cells: &[Cell], triple: Triple) -> bool
     requires form { IsPolyform G.geometry cells.now }
     requires near { (c : Cell) → has cells.now c ≡ true → IsWithin 100000 c }
     requires small { triple.p * triple.q ≤ 64 }
     ensures { (result ≡ true) ↔ IsPeriodicCover G.geometry cells.now triple (no_move ∷ []) }
 {
-    let mut marks = [0; WINDOW_MAX];
     let marks = &mut marks[..window_size::<G>(triple)];
     clear::<G>(marks, triple);
     mark_tile::<G>(marks, cells, triple, NO_MOVE) && is_full::<G>(marks, triple)
@@ -131,8 +130,14 @@ fn first_marked_shift<G: Grid>(
     None
 }
 
-/// The first shift by which the cells and their image under the half-turn are a cover.
-fn first_shift<G: Grid>(cells: &[Cell], triple: Triple) -> Option<Cell>
+/// The first shift by which the cells and their image under the half-turn are a cover. Which marks stand is of no
+/// account.
+fn first_shift<G: Grid>(
+    base: &mut [u16; WINDOW_MAX],
+    marks: &mut [u16; WINDOW_MAX],
+    cells: &[Cell],
+    triple: Triple,
+) -> Option<Cell>
     requires form { IsPolyform G.geometry cells.now }
     requires near { (c : Cell) → has cells.now c ≡ true → IsWithin 100000 c }
     requires small { triple.p * triple.q ≤ 64 }
@@ -140,13 +145,11 @@ fn first_shift<G: Grid>(cells: &[Cell], triple: Triple) -> Option<Cell>
     ensures none { IfNone result ((v : Cell) → ¬ IsTurnedShift G.geometry cells.now triple v) }
 {
     let count = window_size::<G>(triple);
-    let mut base = [0; WINDOW_MAX];
     let base = &mut base[..count];
     clear::<G>(base, triple);
     if !mark_tile::<G>(base, cells, triple, NO_MOVE) {
         return None;
     }
-    let mut marks = [0; WINDOW_MAX];
     first_marked_shift::<G>(base, &mut marks[..count], cells, triple)
 }
 
@@ -170,8 +173,9 @@ fn by_translation<G: Grid>(shape: &Shape<G>) -> Option<Triple>
 {
     let cells = shape.cells();
     let area = area_of::<G>(cells.len() as u32)?;
+    let mut marks = [0; WINDOW_MAX];
     for triple in triples(area) {
-        if is_plain_cover::<G>(cells, triple) {
+        if is_plain_cover::<G>(&mut marks, cells, triple) {
             return Some(triple);
         }
     }
@@ -187,8 +191,10 @@ fn by_half_turn<G: Grid>(shape: &Shape<G>) -> Option<Plain>
 {
     let cells = shape.cells();
     let area = area_of::<G>(2 * cells.len() as u32)?;
+    let mut base = [0; WINDOW_MAX];
+    let mut marks = [0; WINDOW_MAX];
     for triple in triples(area) {
-        if let Some(v) = first_shift::<G>(cells, triple) {
+        if let Some(v) = first_shift::<G>(&mut base, &mut marks, cells, triple) {
             return Some(Plain::HalfTurn {
                 triple,
                 da: v.a,

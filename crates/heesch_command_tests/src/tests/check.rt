@@ -3,6 +3,7 @@ ghost use Rattle.std.specs.Prelude.{◌≤◌};
 
 use heesch_check::{Checked, check, write_checked};
 use heesch_io::{IoStop, MemorySource, NoMemory};
+use heesch_made::same;
 use heesch_pool::{Crew, Open};
 use std::alloc::Global;
 use std::test::Fail;
@@ -10,25 +11,20 @@ use std::thread::Threads;
 
 const HEADER: &str = "heesch 1 iamond 1 turns 20000 levels 3 domain 4 size 60000000\n";
 
+const LARGE: &str = "heesch 1 iamond 15 turns 20000 levels 3 domain 4 size 60000000\n";
+
+const BRIEF: &str = "brief 1 iamond 1 turns 20000 levels 3 domain 4 size 60000000\n";
+
+const GIVEN: &str = "heesch 1 iamond given turns 20000 levels 3 domain 4 size 60000000\n";
+
 const SHAPE: &str = "shape 1,1\nverdict tiles halfturn domain 2 classes 1\nlattice 1 1 0\n";
 
 const TILES: &str = "tile 0 0 0 class 1 by 0 0 0\ntile 3 0 0 class 1 by 1 0 -1\n";
 
 const END: &str = "end 1\n";
 
-const LARGE: &str = "heesch 1 iamond 15 turns 20000 levels 3 domain 4 size 60000000\n";
-
-const BRIEF: &str = "shape 1,1\nverdict tiles halfturn domain 2 classes 1\n";
-
-const GIVEN: &str = "heesch 1 iamond given turns 20000 levels 3 domain 4 size 60000000\n";
-
-/// The answer of a text that comes in pieces of at most 5 bytes.
-fn answer_of<T: Threads + Sync>(rt: &T, alloc: Global, text: &str) -> Result<Checked, IoStop> {
-    answer_by(rt, alloc, text, 1)
-}
-
-/// The same by so many workers.
-fn answer_by<T: Threads + Sync>(
+/// The answer of a text that comes in pieces of at most 5 bytes, by so many workers.
+fn answer_of<T: Threads + Sync>(
     rt: &T,
     alloc: Global,
     text: &str,
@@ -41,6 +37,54 @@ fn answer_by<T: Threads + Sync>(
     };
     let mut source = MemorySource::new(bytes, 5, Vec::new(alloc));
     check(&Crew::new(rt, alloc, workers, &Open), &mut source)
+}
+
+/// Pieces of a text, and its answer.
+type Row<'a> = (&'a [&'a str], Checked);
+
+const ROWS: [Row; 11] = [
+    (&[HEADER, SHAPE, TILES, END], Checked::Valid { count: 1 }),
+    (&[HEADER, SHAPE, END], Checked::InvalidEntry { number: 1 }),
+    (
+        &[HEADER, SHAPE, TILES, "shape 1,1 2,2\n"],
+        Checked::InvalidEntry { number: 2 },
+    ),
+    (
+        &[HEADER, "shape 1,1 2,2\n", SHAPE],
+        Checked::InvalidEntry { number: 1 },
+    ),
+    (&[HEADER, SHAPE, TILES, END, END], Checked::InvalidEnd),
+    (&[HEADER, SHAPE, TILES, "end 1"], Checked::InvalidEnd),
+    (&[HEADER, "end 0\n"], Checked::InvalidEnd),
+    (&[BRIEF, SHAPE, TILES, END], Checked::InvalidHeader),
+    (&[LARGE, "xyz\n"], Checked::InvalidEnd),
+    (
+        &[
+            LARGE,
+            "shape 1,1\nverdict tiles halfturn domain 2 classes 1\n",
+            "shape 1,1\nverdict tiles halfturn domain 2 classes 1\n",
+        ],
+        Checked::InvalidEntry { number: 1 },
+    ),
+    (&[], Checked::InvalidHeader),
+];
+
+/// The text of these pieces.
+fn joined(alloc: Global, pieces: &[&str]) -> Result<String, NoMemory> {
+    let mut text = String::new(alloc);
+    for piece in pieces {
+        text.push_str(piece)?;
+    }
+    Ok(text)
+}
+
+#[test]
+fn the_first_invalid_part_is_told(rt: HostRuntime) -> Result<(), Fail> {
+    for (pieces, answer) in &ROWS {
+        let text = joined(rt.alloc(), pieces)?;
+        same(&text, answer_of(&rt, rt.alloc(), &text, 1), Ok(*answer))?;
+    }
+    Ok(())
 }
 
 /// A text of given shapes, 300 times the single triangle, where entries of these numbers, from 0, lack a line.
@@ -57,111 +101,52 @@ fn rounds(alloc: Global, faulty: &[u32], end: &str) -> Result<String, NoMemory> 
     Ok(text)
 }
 
-#[test]
-fn the_single_triangle_is_valid(rt: HostRuntime) -> Result<(), Fail> {
-    let alloc = rt.alloc();
-    let text = format!(in alloc; "{HEADER}{SHAPE}{TILES}{END}")?;
-    assert_eq!(rt;
-        answer_of(&rt, alloc, &text),
-        Ok(Checked::Valid { count: 1 })
-    );
-    Ok(())
-}
-
-#[test]
-fn the_first_invalid_part_is_told(rt: HostRuntime) -> Result<(), Fail> {
-    let alloc = rt.alloc();
-    let brief = "brief 1 iamond 1 turns 20000 levels 3 domain 4 size 60000000\n";
-    let second = "shape 1,1 2,2\n";
-    for (text, answer) in [
-        (
-            format!(in alloc; "{HEADER}{SHAPE}{END}")?,
-            Checked::InvalidEntry { number: 1 },
-        ),
-        (
-            format!(in alloc; "{HEADER}{SHAPE}{TILES}{second}")?,
-            Checked::InvalidEntry { number: 2 },
-        ),
-        (
-            format!(in alloc; "{HEADER}{second}{SHAPE}")?,
-            Checked::InvalidEntry { number: 1 },
-        ),
-        (
-            format!(in alloc; "{HEADER}{SHAPE}{TILES}{END}{END}")?,
-            Checked::InvalidEnd,
-        ),
-        (
-            format!(in alloc; "{HEADER}{SHAPE}{TILES}end 1")?,
-            Checked::InvalidEnd,
-        ),
-        (format!(in alloc; "{HEADER}end 0\n")?, Checked::InvalidEnd),
-        (
-            format!(in alloc; "{brief}{SHAPE}{TILES}{END}")?,
-            Checked::InvalidHeader,
-        ),
-        (format!(in alloc; "{LARGE}xyz\n")?, Checked::InvalidEnd),
-        (
-            format!(in alloc; "{LARGE}{BRIEF}{BRIEF}")?,
-            Checked::InvalidEntry { number: 1 },
-        ),
-        (format!(in alloc; "")?, Checked::InvalidHeader),
-    ] {
-        assert_eq!(rt; answer_of(&rt, alloc, &text), Ok(answer), "{text}");
-    }
-    Ok(())
-}
+/// The numbers of the entries that lack a line, the text of the end, and the answer.
+const ROUNDS: [(&[u32], &str, Checked); 5] = [
+    (&[], "end 300\n", Checked::Valid { count: 300 }),
+    (
+        &[270, 299],
+        "end 300\n",
+        Checked::InvalidEntry { number: 271 },
+    ),
+    (&[200, 3], "end 300\n", Checked::InvalidEntry { number: 4 }),
+    (&[], "end 301\n", Checked::InvalidEnd),
+    (&[299], "shape 0\n", Checked::InvalidEntry { number: 300 }),
+];
 
 #[test]
 fn the_least_invalid_entry_of_a_round_is_told(rt: HostRuntime) -> Result<(), Fail> {
-    let alloc = rt.alloc();
-    for (faulty, end, answer) in [
-        ([].as_slice(), "end 300\n", Checked::Valid { count: 300 }),
-        (
-            [270, 299].as_slice(),
-            "end 300\n",
-            Checked::InvalidEntry { number: 271 },
-        ),
-        (
-            [200, 3].as_slice(),
-            "end 300\n",
-            Checked::InvalidEntry { number: 4 },
-        ),
-        ([].as_slice(), "end 301\n", Checked::InvalidEnd),
-        (
-            [299].as_slice(),
-            "shape 0\n",
-            Checked::InvalidEntry { number: 300 },
-        ),
-    ] {
-        let text = rounds(alloc, faulty, end)?;
-        assert_eq!(rt; answer_by(&rt, alloc, &text, 3), Ok(answer));
+    for (faulty, end, answer) in &ROUNDS {
+        let text = rounds(rt.alloc(), faulty, end)?;
+        same(end, answer_of(&rt, rt.alloc(), &text, 3), Ok(*answer))?;
     }
     Ok(())
 }
+
+/// An answer of each kind.
+const ANSWERS: [Checked; 4] = [
+    Checked::Valid { count: 108 },
+    Checked::InvalidEntry { number: 3 },
+    Checked::InvalidEnd,
+    Checked::InvalidHeader,
+];
+
+const LINES: &[u8] = b"valid 108\ninvalid entry 3\ninvalid end\ninvalid header\n";
 
 #[test]
 fn the_line_of_an_answer_is_written(rt: HostRuntime) -> Result<(), Fail> {
     let mut text = Vec::new(rt.alloc());
-    write_checked(Checked::Valid { count: 108 }, &mut text)?;
-    write_checked(Checked::InvalidEntry { number: 3 }, &mut text)?;
-    write_checked(Checked::InvalidEnd, &mut text)?;
-    write_checked(Checked::InvalidHeader, &mut text)?;
-    assert_eq!(rt;
-        text.as_slice(),
-        b"valid 108\ninvalid entry 3\ninvalid end\ninvalid header\n".as_slice()
-    );
-    Ok(())
+    for answer in &ANSWERS {
+        write_checked(*answer, &mut text)?;
+    }
+    same("lines", text.as_slice(), LINES)
 }
 
 #[test]
 fn a_failing_source_is_told(rt: HostRuntime) -> Result<(), Fail> {
     let alloc = rt.alloc();
-    let mut fails = Vec::new(alloc);
-    fails.push(3)?;
-    let mut source = MemorySource::new(HEADER.as_bytes().to_vec(alloc)?, 5, fails);
-    assert_eq!(rt;
-        check(&Crew::new(&rt, alloc, 1, &Open), &mut source),
-        Err(IoStop::Failed)
-    );
-    Ok(())
+    let bytes = HEADER.as_bytes().to_vec(alloc)?;
+    let mut source = MemorySource::new(bytes, 5, [3].to_vec(alloc)?);
+    let found = check(&Crew::new(&rt, alloc, 1, &Open), &mut source);
+    same("the third call", found, Err(IoStop::Failed))
 }

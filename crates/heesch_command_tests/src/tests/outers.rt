@@ -3,7 +3,7 @@ use heesch_cert::Limits;
 use heesch_cnf::Version;
 use heesch_grid::GridName;
 use heesch_io::{IoStop, MemorySink};
-use heesch_made::LIMITS;
+use heesch_made::{LIMITS, same};
 use heesch_outer::write_outers_of_size;
 use heesch_pool::{Crew, Open};
 use std::test::Fail;
@@ -28,13 +28,13 @@ fn an_outer_text_has_no_header(rt: HostRuntime) -> Result<(), Fail> {
     let alloc = rt.alloc();
     let mut sink = MemorySink::new(alloc, 1000, 1000, Vec::new(alloc))?;
     let crew = Crew::new(&rt, alloc, 2, &Open);
-    let written = write_outers_of_size(&crew, GridName::Iamond, 1, NARROW, &mut sink);
-    assert_eq!(rt; written, Ok(()));
-    assert_eq!(rt; sink.calls, 2);
-    let mut text = RECORD.to_vec(alloc)?;
-    text.extend_from_slice(b"end 1\n")?;
-    assert_eq!(rt; sink.held.as_slice(), text.as_slice());
-    Ok(())
+    let ended = write_outers_of_size(&crew, GridName::Iamond, 1, NARROW, &mut sink);
+    same("ended", (ended, sink.calls), (Ok(()), 2))?;
+    same(
+        "end",
+        sink.held.as_slice().strip_prefix(RECORD),
+        Some(b"end 1\n".as_slice()),
+    )
 }
 
 #[test]
@@ -42,8 +42,7 @@ fn a_sink_that_fails_holds_the_records_before(rt: HostRuntime) -> Result<(), Fai
     let alloc = rt.alloc();
     let mut sink = MemorySink::new(alloc, 1000, 1000, [2].to_vec(alloc)?)?;
     let crew = Crew::new(&rt, alloc, 1, &Open);
-    let written = write_outers_of_size(&crew, GridName::Iamond, 1, NARROW, &mut sink);
-    assert_eq!(rt; written, Err(IoStop::Failed));
-    assert_eq!(rt; sink.held.as_slice(), RECORD);
-    Ok(())
+    let ended = write_outers_of_size(&crew, GridName::Iamond, 1, NARROW, &mut sink);
+    same("ended", ended, Err(IoStop::Failed))?;
+    same("held", sink.held.as_slice(), RECORD)
 }

@@ -2,7 +2,7 @@
 use heesch_cert::Limits;
 use heesch_cnf::Version;
 use heesch_grid::GridName;
-use heesch_made::LIMITS;
+use heesch_made::{LIMITS, same};
 use heesch_pool::{Crew, Open};
 use heesch_sample::sample;
 use std::test::Fail;
@@ -33,17 +33,17 @@ undecided turns 0
 undecided size 0
 ";
 
+const USUAL: Limits = Limits {
+    version: Version::Two,
+    ..LIMITS
+};
+
 #[test]
 fn single_squares(rt: HostRuntime) -> Result<(), Fail> {
-    let alloc = rt.alloc();
-    let limits = Limits {
-        version: Version::Two,
-        ..LIMITS
-    };
-    let grid = GridName::Square;
-    let text = sample(&Crew::new(&rt, alloc, 1, &Open), grid, 1, 3, 5, limits)?;
-    assert_eq!(rt; text.as_slice(), THREE);
-    let text = sample(&Crew::new(&rt, alloc, 2, &Open), grid, 1, 514, 5, limits)?;
-    assert_eq!(rt; text.as_slice(), MANY);
-    Ok(())
+    let one = Crew::new(&rt, rt.alloc(), 1, &Open);
+    let text = sample(&one, GridName::Square, 1, 3, 5, USUAL)?;
+    same("three", text.as_slice(), THREE)?;
+    let two = Crew::new(&rt, rt.alloc(), 2, &Open);
+    let text = sample(&two, GridName::Square, 1, 514, 5, USUAL)?;
+    same("many", text.as_slice(), MANY)
 }

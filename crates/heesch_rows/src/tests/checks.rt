@@ -1,8 +1,8 @@
 //! `heesch check`: whether a catalogue is valid, else its first invalid part.
-use super::running::{first_other, written, written_over};
+use super::running::{all_run, written, written_over};
 use heesch_app::Status;
 use heesch_io::{MemorySource, NoMemory};
-use heesch_made::{HOLED, TRIANGLE, tetrominoes};
+use heesch_made::{HOLED, TRIANGLE, same, tetrominoes};
 use std::alloc::Global;
 use std::test::Fail;
 
@@ -43,58 +43,57 @@ fn valid_catalogues_are_valid(rt: HostRuntime) -> Result<(), Fail> {
         ("check", holed.as_str(), Status::Done, "valid 1\n"),
         ("check", all.as_str(), Status::Done, "valid 5\n"),
     ];
-    assert_eq!(rt; first_other(&rt, alloc, &rows)?, None);
-    Ok(())
+    all_run(&rt, alloc, &rows)
 }
+
+/// The tetrominoes of a catalogue, from 0, what stands behind them, and what is told.
+const PARTS: [(&[usize], &str, &str); 9] = [
+    (&[0, 2, 3, 4], "end 5\n", "invalid entry 2\n"),
+    (&[1, 0, 2, 3, 4], "end 5\n", "invalid entry 1\n"),
+    (&[0, 1, 2, 3], "end 5\n", "invalid end\n"),
+    (&[0, 1, 2, 3], "end 4\n", "invalid end\n"),
+    (&[0, 1, 2, 3, 4, 4], "end 6\n", "invalid entry 6\n"),
+    (&[0, 1, 2, 3, 4], "end 5", "invalid end\n"),
+    (&[0, 1, 2, 3, 4], "end 5\nend 5\n", "invalid end\n"),
+    (&[0, 1, 2, 3, 4], "en", "invalid entry 5\n"),
+    (&[0, 1], "shape ", "invalid entry 3\n"),
+];
 
 #[test]
 fn the_first_invalid_part_is_told(rt: HostRuntime) -> Result<(), Fail> {
     let alloc = rt.alloc();
-    let end = "end 5\n";
-    for (numbers, end, line) in [
-        ([0, 2, 3, 4].as_slice(), end, "invalid entry 2\n"),
-        ([1, 0, 2, 3, 4].as_slice(), end, "invalid entry 1\n"),
-        ([0, 1, 2, 3].as_slice(), end, "invalid end\n"),
-        ([0, 1, 2, 3].as_slice(), "end 4\n", "invalid end\n"),
-        (
-            [0, 1, 2, 3, 4, 4].as_slice(),
-            "end 6\n",
-            "invalid entry 6\n",
-        ),
-        ([0, 1, 2, 3, 4].as_slice(), "end 5", "invalid end\n"),
-        (
-            [0, 1, 2, 3, 4].as_slice(),
-            "end 5\nend 5\n",
-            "invalid end\n",
-        ),
-        ([0, 1, 2, 3, 4].as_slice(), "en", "invalid entry 5\n"),
-        ([0, 1].as_slice(), "shape ", "invalid entry 3\n"),
-    ] {
+    for (numbers, end, line) in &PARTS {
         let text = tetrominoes(alloc, HEADER, numbers, end)?;
-        let rows = [("check", text.as_str(), Status::Invalid, line)];
-        assert_eq!(rt; first_other(&rt, alloc, &rows)?, None);
+        all_run(
+            &rt,
+            alloc,
+            &[("check", text.as_str(), Status::Invalid, *line)],
+        )?;
     }
     Ok(())
 }
 
-/// Catalogues with small limits are checked, by several workers too.
+/// Words of catalogues with small limits, and what is told of what they write.
+const WRITTEN: [(&str, &str); 2] = [
+    (
+        "classify square 7 --domain 1 --levels 1 --turns 1",
+        "valid 108\n",
+    ),
+    (
+        "classify kite 3 --domain 6 --levels 1 --turns 200",
+        "valid 4\n",
+    ),
+];
+
+/// By several workers too.
 #[test]
 fn what_classify_wrote_is_valid(rt: HostRuntime) -> Result<(), Fail> {
     let alloc = rt.alloc();
-    for (words, line) in [
-        (
-            "classify square 7 --domain 1 --levels 1 --turns 1",
-            "valid 108\n",
-        ),
-        (
-            "classify kite 3 --domain 6 --levels 1 --turns 200",
-            "valid 4\n",
-        ),
-    ] {
+    for (words, line) in &WRITTEN {
         let text = written(&rt, alloc, words)?;
         let source = MemorySource::new(text, 4096, Vec::new(alloc));
         let told = written_over(&rt, alloc, "check --workers 2", source)?;
-        assert_eq!(rt; told.as_slice(), line.as_bytes(), "{words}");
+        same(words, told.as_slice(), line.as_bytes())?;
     }
     Ok(())
 }

@@ -3,6 +3,7 @@ use super::FIVE_TETROMINOES;
 use super::running::{bytes_of, room, run_past, written_over};
 use heesch_app::Status;
 use heesch_io::MemorySource;
+use heesch_made::same;
 use heesch_pool::Gate;
 use std::sync::atomic::{AtomicU64, Ordering};
 use std::test::Fail;
@@ -59,41 +60,46 @@ impl Drop for Hold {
     }
 }
 
+/// Words that write a text of five entries, words that check it, how many turns the gate holds at most, and whether it
+/// expires.
+const ROWS: [(&str, &str, u64, bool); 4] = [
+    (
+        "classify square given",
+        "check --workers 2",
+        200_000_000,
+        false,
+    ),
+    ("classify square given", "check", 1_000, true),
+    (
+        "outer square given",
+        "check outer square given --workers 2",
+        200_000_000,
+        false,
+    ),
+    (
+        "outer square given",
+        "check outer square given",
+        1_000,
+        true,
+    ),
+];
+
 /// Two workers audit five entries, each once: one of them comes to another entry while the gate holds the first. One
 /// worker alone lets the gate expire.
 #[test]
 fn check_uses_its_workers_and_its_gate(rt: HostRuntime) -> Result<(), Fail> {
     let alloc = rt.alloc();
-    for (made, line, turns, expires) in [
-        (
-            "classify square given",
-            "check --workers 2",
-            200_000_000,
-            false,
-        ),
-        ("classify square given", "check", 1_000, true),
-        (
-            "outer square given",
-            "check outer square given --workers 2",
-            200_000_000,
-            false,
-        ),
-        (
-            "outer square given",
-            "check outer square given",
-            1_000,
-            true,
-        ),
-    ] {
-        let shapes = bytes_of(alloc, FIVE_TETROMINOES)?;
-        let text = written_over(&rt, alloc, made, shapes)?;
-        let gate = Hold::new(turns);
+    for (made, line, turns, expires) in &ROWS {
+        let text = written_over(&rt, alloc, made, bytes_of(alloc, FIVE_TETROMINOES)?)?;
         let source = MemorySource::new(text, 4096, Vec::new(alloc));
+        let gate = Hold::new(*turns);
         let (status, sink) = run_past(&rt, alloc, line, source, room(alloc, 100)?, &gate)?;
-        assert_eq!(rt; status, Status::Done, "{line}");
-        assert_eq!(rt; sink.held.as_slice(), b"valid 5\n".as_slice(), "{line}");
-        assert_eq!(rt; gate.others(), 4, "{line}");
-        assert_eq!(rt; gate.has_expired(), expires, "{line}");
+        same(
+            line,
+            (status, gate.others(), gate.has_expired()),
+            (Status::Done, 4, *expires),
+        )?;
+        same(line, sink.held.as_slice(), b"valid 5\n".as_slice())?;
     }
     Ok(())
 }

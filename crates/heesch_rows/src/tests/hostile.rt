@@ -1,10 +1,12 @@
 //! `heesch` over altered catalogues and failing sources.
 use super::checks::{CORONA, holed};
-use super::running::{first_other, room, run_over};
+use super::running::{all_run, ends_with, room};
 use heesch_app::Status;
 use heesch_io::MemorySource;
-use heesch_made::TRIANGLE;
+use heesch_made::{TRIANGLE, same};
+use std::alloc::Global;
 use std::test::Fail;
+use std::thread::Threads;
 
 /// What `check` tells of the first bytes of the catalogue of the triangle, where these are fewer than so many.
 const FRONTS: [(usize, &str); 6] = [
@@ -24,13 +26,11 @@ fn every_front_of_a_catalogue_is_invalid(rt: HostRuntime) -> Result<(), Fail> {
     for (until, line) in FRONTS {
         for len in from..until {
             let front = str::from_utf8(&bytes[..len.min(bytes.len())])?;
-            let rows = [("check", front, Status::Invalid, line)];
-            assert_eq!(rt; first_other(&rt, alloc, &rows)?, None, "{len}");
+            all_run(&rt, alloc, &[("check", front, Status::Invalid, line)])?;
         }
         from = until;
     }
-    assert_eq!(rt; from, bytes.len());
-    Ok(())
+    same("bytes", from, bytes.len())
 }
 
 const SQUARE: &str = "heesch 1 square 1 turns 20000 levels 3 domain 4 size 60000000
@@ -50,52 +50,74 @@ const HEADER: &str = "invalid header\n";
 
 const ENTRY: &str = "invalid entry 1\n";
 
-/// Of a valid text one part, in a line that says what stands in it, in a tiling, in a refutation or in a corona, and
-/// another in its place.
+/// Of a valid text one part, in a line that says what stands in it, in a tiling or in a corona, another in its place,
+/// and what is told.
+const ALTERED: [(&str, &str, &str, &str); 20] = [
+    (SQUARE, "heesch 1", "brief 1", HEADER),
+    (TRIANGLE, "iamond 1 turns", "iamond 16 turns", HEADER),
+    (TRIANGLE, "iamond 1 turns", "kite 1 turns", HEADER),
+    (TRIANGLE, "60000000", "60000001", HEADER),
+    (TRIANGLE, "shape 1,1", "shape 1,1 1,1", ENTRY),
+    (TRIANGLE, "shape 1,1", MANY_CELLS, ENTRY),
+    (
+        TRIANGLE,
+        "halfturn domain 2",
+        "halfturn domain 4294967295",
+        ENTRY,
+    ),
+    (TRIANGLE, "classes 1", "classes 4294967296", ENTRY),
+    (TRIANGLE, "domain 4 size", "domain 1 size", ENTRY),
+    (TRIANGLE, "lattice 1 1 0", "lattice 1 4097 0", ENTRY),
+    (TRIANGLE, "tile 3 0 0", "tile 3 100001 0", ENTRY),
+    (TRIANGLE, "tile 3 0 0", "tile 12 0 0", ENTRY),
+    (TRIANGLE, "tile 3 0 0", "tile 3 100000 100000", ENTRY),
+    (TRIANGLE, "0 0 0 class 1", "0 0 0 class 0", ENTRY),
+    (TRIANGLE, "tile 3 0 0 class 1 by 1 0 -1\n", "", ENTRY),
+    (TRIANGLE, "by 1 0 -1", "by 3 0 0", ENTRY),
+    (TRIANGLE, "tile 0 0 0", "tile 0 0  0", ENTRY),
+    (TRIANGLE, "by 0 0 0", "by 0 0 -0", ENTRY),
+    (SQUARE, "tile 0 0 0", "tile 8 0 0", ENTRY),
+    (CORONA, " 1,0,1\n", "\n", ENTRY),
+];
+
+/// The same of the heptomino with a hole: in its header and in its refutation.
+const ALTERED_HOLED: [(&str, &str, &str); 9] = [
+    ("2 square given", "1 kite given", HEADER),
+    ("empty 9", "empty 8", ENTRY),
+    ("empty 9", "empty 0", ENTRY),
+    ("empty 9", "empty 4294967295", ENTRY),
+    ("empty 9", "empty 9 9", ENTRY),
+    ("empty 9", "cut 1 : 1,1 :\nempty 9", ENTRY),
+    ("bare 1 same", "bare 2 same", ENTRY),
+    ("bare 1 same\n", "", ENTRY),
+    ("nontiler 1", "nontiler 2", ENTRY),
+];
+
+/// `check` tells this of the text with the new part for the old one.
+fn is_found<T: Threads + Sync>(
+    rt: &T,
+    alloc: Global,
+    text: &str,
+    part: (&str, &str),
+    told: &str,
+) -> Result<(), Fail> {
+    let altered = text.replacen(alloc, part.0, part.1, 1)?;
+    all_run(
+        rt,
+        alloc,
+        &[("check", altered.as_str(), Status::Invalid, told)],
+    )
+}
+
 #[test]
 fn an_altered_line_is_found(rt: HostRuntime) -> Result<(), Fail> {
     let alloc = rt.alloc();
+    for (text, old, new, told) in &ALTERED {
+        is_found(&rt, alloc, text, (*old, *new), told)?;
+    }
     let holed = holed(alloc)?;
-    let holed = holed.as_str();
-    for (text, old, new, told) in [
-        (SQUARE, "heesch 1", "brief 1", HEADER),
-        (TRIANGLE, "iamond 1 turns", "iamond 16 turns", HEADER),
-        (TRIANGLE, "iamond 1 turns", "kite 1 turns", HEADER),
-        (TRIANGLE, "60000000", "60000001", HEADER),
-        (holed, "2 square given", "1 kite given", HEADER),
-        (TRIANGLE, "shape 1,1", "shape 1,1 1,1", ENTRY),
-        (TRIANGLE, "shape 1,1", MANY_CELLS, ENTRY),
-        (
-            TRIANGLE,
-            "halfturn domain 2",
-            "halfturn domain 4294967295",
-            ENTRY,
-        ),
-        (TRIANGLE, "classes 1", "classes 4294967296", ENTRY),
-        (TRIANGLE, "domain 4 size", "domain 1 size", ENTRY),
-        (TRIANGLE, "lattice 1 1 0", "lattice 1 4097 0", ENTRY),
-        (TRIANGLE, "tile 3 0 0", "tile 3 100001 0", ENTRY),
-        (TRIANGLE, "tile 3 0 0", "tile 12 0 0", ENTRY),
-        (TRIANGLE, "tile 3 0 0", "tile 3 100000 100000", ENTRY),
-        (TRIANGLE, "0 0 0 class 1", "0 0 0 class 0", ENTRY),
-        (TRIANGLE, "tile 3 0 0 class 1 by 1 0 -1\n", "", ENTRY),
-        (TRIANGLE, "by 1 0 -1", "by 3 0 0", ENTRY),
-        (TRIANGLE, "tile 0 0 0", "tile 0 0  0", ENTRY),
-        (TRIANGLE, "by 0 0 0", "by 0 0 -0", ENTRY),
-        (SQUARE, "tile 0 0 0", "tile 8 0 0", ENTRY),
-        (holed, "empty 9", "empty 8", ENTRY),
-        (holed, "empty 9", "empty 0", ENTRY),
-        (holed, "empty 9", "empty 4294967295", ENTRY),
-        (holed, "empty 9", "empty 9 9", ENTRY),
-        (holed, "empty 9", "cut 1 : 1,1 :\nempty 9", ENTRY),
-        (holed, "bare 1 same", "bare 2 same", ENTRY),
-        (holed, "bare 1 same\n", "", ENTRY),
-        (holed, "nontiler 1", "nontiler 2", ENTRY),
-        (CORONA, " 1,0,1\n", "\n", ENTRY),
-    ] {
-        let altered = text.replacen(alloc, old, new, 1)?;
-        let rows = [("check", altered.as_str(), Status::Invalid, told)];
-        assert_eq!(rt; first_other(&rt, alloc, &rows)?, None, "{new} for {old}");
+    for (old, new, told) in &ALTERED_HOLED {
+        is_found(&rt, alloc, &holed, (*old, *new), told)?;
     }
     Ok(())
 }
@@ -107,13 +129,12 @@ fn a_source_that_fails_gets_no_answer(rt: HostRuntime) -> Result<(), Fail> {
     for call in 1..=26 {
         let bytes = TRIANGLE.as_bytes().to_vec(alloc)?;
         let source = MemorySource::new(bytes, 8, [call].to_vec(alloc)?);
-        let (status, sink) = run_over(&rt, alloc, "check", source, room(alloc, 100)?)?;
-        if call <= 25 {
-            assert_eq!(rt; status, Status::ReadFault, "{call}");
-            assert_eq!(rt; sink.calls, 0, "{call}");
+        let wanted = if call <= 25 {
+            (Status::ReadFault, "")
         } else {
-            assert_eq!(rt; sink.held.as_slice(), b"valid 1\n".as_slice());
-        }
+            (Status::Done, "valid 1\n")
+        };
+        ends_with(&rt, alloc, "check", source, room(alloc, 100)?, wanted)?;
     }
     Ok(())
 }

@@ -2,11 +2,13 @@
 use super::FIVE_TETROMINOES;
 use super::running::{bytes_of, room, written};
 use heesch_app::{Status, run};
-use heesch_io::{Failed, MemorySink, MemorySource, Sink, Source};
-use heesch_made::{TRIANGLE, words_of};
+use heesch_io::{Failed, MemorySink, MemorySource, NoMemory, Sink, Source};
+use heesch_made::{TRIANGLE, same, words_of};
 use heesch_pool::Open;
+use std::alloc::Global;
 use std::sync::atomic::{AtomicU64, Ordering};
 use std::test::Fail;
+use std::thread::Threads;
 
 /// A source that notes the time of its last call, on a clock that it shares with a sink.
 #[derive(Drop)]
@@ -47,42 +49,60 @@ impl<'a> Sink for TimedSink<'a> {
     }
 }
 
-/// Of each command that reads, the first write comes behind the last read.
+/// How the words over an input ended, and the times of the last read and of the first write.
+fn timed<T: Threads + Sync>(
+    rt: &T,
+    alloc: Global,
+    line: &str,
+    input: &str,
+) -> Result<(Status, u64, u64), NoMemory> {
+    let clock = AtomicU64::new(0);
+    let words = words_of(alloc, line)?;
+    let mut source = TimedSource {
+        source: bytes_of(alloc, input)?,
+        clock: &clock,
+        last: 0,
+    };
+    let mut sink = TimedSink {
+        sink: room(alloc, 10_000)?,
+        clock: &clock,
+        first: u64::MAX,
+    };
+    let status = run(rt, alloc, &words, &mut source, &mut sink, &Open);
+    Ok((status, source.last, sink.first))
+}
+
+/// The first write of the words comes behind their last read, and there are both.
+fn reads_before_it_writes<T: Threads + Sync>(
+    rt: &T,
+    alloc: Global,
+    line: &str,
+    input: &str,
+) -> Result<(), Fail> {
+    let (status, last, first) = timed(rt, alloc, line, input)?;
+    same(line, status, Status::Done)?;
+    same(line, 0 < last && last < first && first < u64::MAX, true)
+}
+
+/// Each command that reads, but `join`, with an input.
+const COMMANDS: [(&str, &str); 7] = [
+    ("classify square given", FIVE_TETROMINOES),
+    ("outer square given", FIVE_TETROMINOES),
+    ("check", TRIANGLE),
+    ("check outer square given", "end 0\n"),
+    ("table", TRIANGLE),
+    ("formula square 1", "0,0\n"),
+    (
+        "answer square 1",
+        "0,0\ns SATISFIABLE\nv 1 2 3 4 5 6 7 8 0\n",
+    ),
+];
+
 #[test]
 fn every_command_reads_before_it_writes(rt: HostRuntime) -> Result<(), Fail> {
-    let alloc = rt.alloc();
-    let share = written(&rt, alloc, "share square 4 1 1")?;
-    let share = str::from_utf8(&share)?;
-    for (line, input) in [
-        ("classify square given", FIVE_TETROMINOES),
-        ("outer square given", FIVE_TETROMINOES),
-        ("check", TRIANGLE),
-        ("check outer square given", "end 0\n"),
-        ("table", TRIANGLE),
-        ("join", share),
-        ("formula square 1", "0,0\n"),
-        (
-            "answer square 1",
-            "0,0\ns SATISFIABLE\nv 1 2 3 4 5 6 7 8 0\n",
-        ),
-    ] {
-        let clock = AtomicU64::new(0);
-        let words = words_of(alloc, line)?;
-        let mut source = TimedSource {
-            source: bytes_of(alloc, input)?,
-            clock: &clock,
-            last: 0,
-        };
-        let mut sink = TimedSink {
-            sink: room(alloc, 10_000)?,
-            clock: &clock,
-            first: u64::MAX,
-        };
-        let status = run(&rt, alloc, &words, &mut source, &mut sink, &Open);
-        assert_eq!(rt; status, Status::Done, "{line}");
-        assert!(rt; source.last > 0, "{line}");
-        assert!(rt; source.last < sink.first, "{line}");
-        assert!(rt; sink.first < u64::MAX, "{line}");
+    for (line, input) in &COMMANDS {
+        reads_before_it_writes(&rt, rt.alloc(), line, input)?;
     }
-    Ok(())
+    let share = written(&rt, rt.alloc(), "share square 4 1 1")?;
+    reads_before_it_writes(&rt, rt.alloc(), "join", str::from_utf8(&share)?)
 }

@@ -1,9 +1,10 @@
 //! Runs of the program over a source and a sink in memory.
 use heesch_app::{Status, run};
 use heesch_io::{MemorySink, MemorySource, NoMemory};
-use heesch_made::words_of;
+use heesch_made::{same, words_of};
 use heesch_pool::{Gate, Open};
 use std::alloc::Global;
+use std::test::Fail;
 use std::thread::Threads;
 
 /// A run: its words, what the source gives, how it has to end, and what the sink has to hold then.
@@ -86,6 +87,29 @@ pub(crate) fn first_other<T: Threads + Sync>(
         }
     }
     Ok(None)
+}
+
+/// All of these rows run so; a test fails where one doesn't, and tells what happened.
+pub(crate) fn all_run<T: Threads + Sync>(rt: &T, alloc: Global, rows: &[Row]) -> Result<(), Fail> {
+    same("run", first_other(rt, alloc, rows)?, None)
+}
+
+/// The words over a source and a sink end so, and the sink holds the text then, if they write any.
+pub(crate) fn ends_with<T: Threads + Sync>(
+    rt: &T,
+    alloc: Global,
+    line: &str,
+    source: MemorySource,
+    sink: MemorySink,
+    wanted: (Status, &str),
+) -> Result<(), Fail> {
+    let (ended, sink) = run_over(rt, alloc, line, source, sink)?;
+    same(
+        line,
+        (ended, sink.calls == 0),
+        (wanted.0, wanted.1.is_empty()),
+    )?;
+    same(line, sink.held.as_slice(), wanted.1.as_bytes())
 }
 
 /// A source of these bytes, which gives at most 5 a call.

@@ -1,17 +1,17 @@
 //! Searches over the tables of small polyforms with known Heesch numbers, whose advice the judge has to take: else the
 //! solver is asked in its place, and no clause says so.
-ghost use Rattle.std.specs.Prelude.{◌≡◌, ◌<◌, ◌≤◌, ◌^◌, length};
+ghost use Rattle.std.specs.Prelude.{length};
 ghost use Rattle.heesch_chart.specs.Sizes.{AdvisesOn};
 ghost use Rattle.heesch_grid.specs.Polyform.{IsCanonicalListOf};
 ghost use Rattle.heesch_judge.specs.Judged.{IsSourceOf};
 
-use super::made::{CROSSING, HOLED};
+use super::made::{CROSSING, HOLED, is_by};
 use heesch_chart::{Advice, search_level};
 use heesch_cnf::ClauseSource;
 use heesch_grid::{Cell, Grid, Hex, Iamond, Square};
 use heesch_judge::{has_no_cut, is_spent_up_to, refutes_up_to, spells_up_to};
 use heesch_levels::layers_of;
-use heesch_made::{canonical_of, cells};
+use heesch_made::{canonical_of, cells, same};
 use heesch_numbers::CoronaSource;
 use heesch_shape::Shape;
 use std::alloc::Global;
@@ -59,9 +59,10 @@ fn advised<G: Grid>(
     level: u32,
     free_levels: u32,
     turns: u32,
-) -> Result<Advice, Fail>
-    requires level { (1 ≤ level) × (level ≤ 6) }
-{
+) -> Result<Advice, Fail> {
+    if level < 1 || level > 6 {
+        return Err(Fail::new("no level"));
+    }
     let shape = canonical_of::<G>(cells)?;
     let Ok(source) = CoronaSource::of(alloc, &shape, level, 60_000_000) else {
         return Err(Fail::new("no formula"));
@@ -75,38 +76,52 @@ fn advised<G: Grid>(
     Ok(advice)
 }
 
-/// Whether the level is refuted, with cuts or without, and a model with holes stands beside the cuts.
-fn is_refuted(advice: &Advice, has_cuts: bool) -> bool {
+/// The advice in a word. A model with holes stands beside cuts, and nowhere else.
+fn word_of(advice: &Advice) -> &'static str {
     match advice {
-        Advice::Refuted { proof, holed } => {
-            has_no_cut(proof) != has_cuts && holed.is_some() == has_cuts
-        }
-        _ => false,
+        Advice::Coronas { .. } => "coronas",
+        Advice::Refuted { proof, holed } => match (has_no_cut(proof), holed.is_some()) {
+            (true, false) => "refuted",
+            (false, true) => "refuted with cuts",
+            _ => "refuted otherwise",
+        },
+        Advice::Spent { .. } => "spent",
+        Advice::GaveUp => "gave up",
     }
 }
 
-#[test]
-fn square_with_holes_alone(rt: HostRuntime) -> Result<(), Fail> {
-    let alloc = rt.alloc();
-    let advice = advised::<Square>(alloc, &CROSSING, 1, 1, 20_000)?;
-    assert!(rt; is_refuted(&advice, true));
-    let advice = advised::<Square>(alloc, &CROSSING, 1, 0, 20_000)?;
-    assert!(rt; matches!(advice, Advice::Coronas { .. }));
-    let advice = advised::<Square>(alloc, &CROSSING, 2, 0, 20_000)?;
-    assert!(rt; is_refuted(&advice, false));
-    Ok(())
+/// Cells, the level, as many of its first levels that have no holes, the turns, and the advice.
+type Row<'a> = (&'a [Cell], u32, u32, u32, &'static str);
+
+/// The heptomino that can be surrounded with holes alone, and one of Heesch number 1. So many steps hold and are new,
+/// and leave the formula open.
+const SQUARES: [Row; 6] = [
+    (&CROSSING, 1, 1, 20_000, "refuted with cuts"),
+    (&CROSSING, 1, 0, 20_000, "coronas"),
+    (&CROSSING, 2, 0, 20_000, "refuted"),
+    (&CROSSING, 1, 1, 1, "spent"),
+    (&CROSSING, 1, 1, 2, "spent"),
+    (&ONCE, 1, 1, 20_000, "coronas"),
+];
+
+const TRIANGLES: Row = (&ONCE_OF_TRIANGLES, 1, 1, 20_000, "coronas");
+
+const HEXAGONS: Row = (&cells![0, 0], 2, 2, 20_000, "coronas");
+
+/// The search advises what the row has.
+fn is_advised<G: Grid>(alloc: Global, row: &Row) -> Result<(), Fail> {
+    let (cells, level, free_levels, turns, word) = row;
+    let advice = advised::<G>(alloc, cells, *level, *free_levels, *turns)?;
+    same("advice", word_of(&advice), *word)
 }
 
 #[test]
-fn shapes_with_coronas(rt: HostRuntime) -> Result<(), Fail> {
-    let alloc = rt.alloc();
-    let advice = advised::<Square>(alloc, &ONCE, 1, 1, 20_000)?;
-    assert!(rt; matches!(advice, Advice::Coronas { .. }));
-    let advice = advised::<Iamond>(alloc, &ONCE_OF_TRIANGLES, 1, 1, 20_000)?;
-    assert!(rt; matches!(advice, Advice::Coronas { .. }));
-    let advice = advised::<Hex>(alloc, &cells![0, 0], 2, 2, 20_000)?;
-    assert!(rt; matches!(advice, Advice::Coronas { .. }));
-    Ok(())
+fn searches_are_advised(rt: HostRuntime) -> Result<(), Fail> {
+    for row in &SQUARES {
+        is_advised::<Square>(rt.alloc(), row)?;
+    }
+    is_advised::<Iamond>(rt.alloc(), &TRIANGLES)?;
+    is_advised::<Hex>(rt.alloc(), &HEXAGONS)
 }
 
 /// No tile covers the cell that the shape encloses: its clause, the 9th, is empty.
@@ -114,23 +129,7 @@ fn shapes_with_coronas(rt: HostRuntime) -> Result<(), Fail> {
 fn square_with_a_hole(rt: HostRuntime) -> Result<(), Fail> {
     let advice = advised::<Square>(rt.alloc(), &HOLED, 1, 1, 20_000)?;
     let Advice::Refuted { proof, .. } = &advice else {
-        panic!(rt; "not refuted");
+        return Err(Fail::new("not refuted"));
     };
-    assert_eq!(rt; proof.steps.len(), 0);
-    let Some(last) = &proof.last else {
-        panic!(rt; "no last line");
-    };
-    assert_eq!(rt; last.as_slice(), [9].as_slice());
-    Ok(())
-}
-
-/// So many steps hold and are new, and leave the formula open.
-#[test]
-fn spent(rt: HostRuntime) -> Result<(), Fail> {
-    let alloc = rt.alloc();
-    for turns in [1, 2] {
-        let advice = advised::<Square>(alloc, &CROSSING, 1, 1, turns)?;
-        assert!(rt; matches!(advice, Advice::Spent { .. }));
-    }
-    Ok(())
+    is_by(proof, 9)
 }

@@ -1,10 +1,8 @@
 //! Formulas of small polyforms, by numbers that another program gave.
-ghost use Rattle.std.specs.Prelude.{◌≤◌};
-
 use heesch_cnf::{Formula, Lit, Version};
 use heesch_encode::{EncodeStop, encode};
 use heesch_grid::{Cell, Grid, Hex, Iamond, Square};
-use heesch_made::{canonical_of, cells, lit};
+use heesch_made::{canonical_of, cells, lits, same};
 use std::alloc::Global;
 use std::test::Fail;
 
@@ -19,81 +17,132 @@ fn has_clause(formula: &Formula, place: usize, literals: &[Lit]) -> bool {
     clause.is_some_and(|clause| clause.as_slice() == literals)
 }
 
-/// The formula of the single square at level 2 fits in 168 literals and not in 167.
-#[test]
-fn single_square(rt: HostRuntime) -> Result<(), Fail> {
-    let square = canonical_of::<Square>(&cells![0, 0])?;
-    let encoded = encode(rt.alloc(), &square, 2, 168, Version::One)?;
-    assert_eq!(rt; encoded.universe.count(), 24);
-    assert_eq!(rt; sizes(&encoded.formula), (24, 80, 168));
-    assert!(rt; has_clause(&encoded.formula, 8, &[lit(-1), lit(9)]));
-    let less = encode(rt.alloc(), &square, 2, 167, Version::One);
-    assert_eq!(rt; less.err(), Some(EncodeStop::TooLarge));
-    let owned = encode(rt.alloc(), &square, 2, 168, Version::Two)?;
-    assert_eq!(rt; sizes(&owned.formula), (24, 80, 168));
-    Ok(())
-}
+/// A formula's sizes, or why there is none.
+type Sizes = Result<(u32, usize, u64), EncodeStop>;
 
-/// Both formulas of the domino at level 1; the second fits in 170 literals and not in 169.
-#[test]
-fn domino(rt: HostRuntime) -> Result<(), Fail> {
-    let domino = canonical_of::<Square>(&cells![0, 0; 1, 0])?;
-    let first = encode(rt.alloc(), &domino, 1, 118, Version::One)?;
-    assert_eq!(rt; sizes(&first.formula), (24, 52, 118));
-    let second = encode(rt.alloc(), &domino, 1, 170, Version::Two)?;
-    assert_eq!(rt; second.universe.count(), 24);
-    assert_eq!(rt; sizes(&second.formula), (44, 78, 170));
-    for (place, literals) in [
-        (0, [lit(1), lit(5), lit(6), lit(7)].as_slice()),
-        (10, &[lit(-1), lit(-25)]),
-        (12, &[lit(-5), lit(25)]),
-        (17, &[lit(-7), lit(26)]),
-    ] {
-        assert!(rt;
-            has_clause(&second.formula, place, literals),
-            "clause {place}"
-        );
+/// Squares, a level, as many literals, a version, and the sizes.
+const SIZES: [(&[Cell], u32, u32, Version, Sizes); 6] = [
+    (&cells![0, 0], 2, 168, Version::One, Ok((24, 80, 168))),
+    (
+        &cells![0, 0],
+        2,
+        167,
+        Version::One,
+        Err(EncodeStop::TooLarge),
+    ),
+    (&cells![0, 0], 2, 168, Version::Two, Ok((24, 80, 168))),
+    (&cells![0, 0; 1, 0], 1, 118, Version::One, Ok((24, 52, 118))),
+    (&cells![0, 0; 1, 0], 1, 170, Version::Two, Ok((44, 78, 170))),
+    (
+        &cells![0, 0; 1, 0],
+        1,
+        169,
+        Version::Two,
+        Err(EncodeStop::TooLarge),
+    ),
+];
+
+/// The formula of these cells, and how many variables its universe has. A test fails where the level or the size is out
+/// of range.
+fn encoded<G: Grid>(
+    alloc: Global,
+    cells: &[Cell],
+    level: u32,
+    size: u32,
+    version: Version,
+) -> Result<Result<(Formula, u32), EncodeStop>, Fail> {
+    if level < 1 || level > 6 || size < 1 || size > 60_000_000 {
+        return Err(Fail::new("out of range"));
     }
-    let less = encode(rt.alloc(), &domino, 1, 169, Version::Two);
-    assert_eq!(rt; less.err(), Some(EncodeStop::TooLarge));
-    Ok(())
-}
-
-/// How many variables, clauses and literals the formula of these cells has.
-fn counts<G: Grid>(alloc: Global, cells: &[Cell], level: u32) -> Result<(u32, usize, u64), Fail>
-    requires { (1 ≤ level) × (level ≤ 6) }
-{
     let shape = canonical_of::<G>(cells)?;
-    let encoded = encode(alloc, &shape, level, 60_000_000, Version::One)?;
-    let (_, clauses, literals) = sizes(&encoded.formula);
-    Ok((encoded.universe.count(), clauses, literals))
+    match encode(alloc, &shape, level, size, version) {
+        Ok(encoded) => {
+            let count = encoded.universe.count();
+            Ok(Ok((encoded.formula, count)))
+        }
+        Err(stop) => Ok(Err(stop)),
+    }
 }
 
-/// Variables, clauses and literals of small shapes of the three grids.
+/// What is told of a formula.
+fn told(encoded: &Result<(Formula, u32), EncodeStop>) -> Sizes {
+    match encoded {
+        Ok((formula, _)) => Ok(sizes(formula)),
+        Err(stop) => Err(*stop),
+    }
+}
+
+/// The formulas of the single square and of the domino fit in as many literals, and not in one less.
 #[test]
-fn small_shapes(rt: HostRuntime) -> Result<(), Fail> {
-    let alloc = rt.alloc();
-    let bent = cells![0, 0; 1, 0; 0, 1];
-    for (cells, level, count) in [
-        (bent.as_slice(), 1, (64, 418, 911)),
-        (&bent, 2, (288, 3967, 16673)),
-        (&bent[..2], 3, (344, 2932, 12712)),
-    ] {
-        assert_eq!(rt; counts::<Square>(alloc, cells, level)?, count);
+fn formulas_have_their_sizes(rt: HostRuntime) -> Result<(), Fail> {
+    for (cells, level, size, version, wanted) in &SIZES {
+        let encoded = encoded::<Square>(rt.alloc(), cells, *level, *size, *version)?;
+        same("sizes", told(&encoded), *wanted)?;
     }
-    for (cells, level, count) in [
-        (bent.as_slice(), 3, (324, 3936, 16179)),
-        (&bent[..2], 2, (144, 926, 3192)),
-    ] {
-        assert_eq!(rt; counts::<Hex>(alloc, cells, level)?, count);
+    Ok(())
+}
+
+/// Squares, a level, a version, the place of a clause, from 0, and its literals.
+const CLAUSES: [(&[Cell], u32, Version, usize, &[i32]); 5] = [
+    (&cells![0, 0], 2, Version::One, 8, &[-1, 9]),
+    (&cells![0, 0; 1, 0], 1, Version::Two, 0, &[1, 5, 6, 7]),
+    (&cells![0, 0; 1, 0], 1, Version::Two, 10, &[-1, -25]),
+    (&cells![0, 0; 1, 0], 1, Version::Two, 12, &[-5, 25]),
+    (&cells![0, 0; 1, 0], 1, Version::Two, 17, &[-7, 26]),
+];
+
+/// Each universe has 24 variables, also where the formula has more.
+#[test]
+fn formulas_have_their_clauses(rt: HostRuntime) -> Result<(), Fail> {
+    for (cells, level, version, place, numbers) in &CLAUSES {
+        let encoded = encoded::<Square>(rt.alloc(), cells, *level, 60_000_000, *version)?;
+        let (formula, count) = encoded?;
+        let literals = lits(rt.alloc(), numbers)?;
+        let found = (has_clause(&formula, *place, literals.as_slice()), count);
+        same("clause", found, (true, 24))?;
     }
-    let strip = cells![1, 1; 2, 2; 4, 1; 1, 4];
-    for (cells, level, count) in [
-        (strip.as_slice(), 2, (108, 873, 2988)),
-        (&strip[..3], 2, (288, 3280, 14530)),
-        (&strip[..2], 3, (330, 2804, 12176)),
-    ] {
-        assert_eq!(rt; counts::<Iamond>(alloc, cells, level)?, count);
+    Ok(())
+}
+
+/// Cells, a level, and how many variables of the universe, clauses and literals the formula has.
+type Row<'a> = (&'a [Cell], u32, (u32, usize, u64));
+
+const SQUARES: [Row; 3] = [
+    (&cells![0, 0; 1, 0; 0, 1], 1, (64, 418, 911)),
+    (&cells![0, 0; 1, 0; 0, 1], 2, (288, 3967, 16673)),
+    (&cells![0, 0; 1, 0], 3, (344, 2932, 12712)),
+];
+
+const HEXAGONS: [Row; 2] = [
+    (&cells![0, 0; 1, 0; 0, 1], 3, (324, 3936, 16179)),
+    (&cells![0, 0; 1, 0], 2, (144, 926, 3192)),
+];
+
+const TRIANGLES: [Row; 3] = [
+    (&cells![1, 1; 2, 2; 4, 1; 1, 4], 2, (108, 873, 2988)),
+    (&cells![1, 1; 2, 2; 4, 1], 2, (288, 3280, 14530)),
+    (&cells![1, 1; 2, 2], 3, (330, 2804, 12176)),
+];
+
+/// The formula has as many variables, clauses and literals as the row.
+fn has_counts<G: Grid>(alloc: Global, row: &Row) -> Result<(), Fail> {
+    let (cells, level, counts) = row;
+    let (formula, count) = encoded::<G>(alloc, cells, *level, 60_000_000, Version::One)??;
+    let (_, clauses, literals) = sizes(&formula);
+    same("counts", (count, clauses, literals), *counts)
+}
+
+/// Of the three grids.
+#[test]
+fn formulas_of_small_shapes(rt: HostRuntime) -> Result<(), Fail> {
+    for row in &SQUARES {
+        has_counts::<Square>(rt.alloc(), row)?;
+    }
+    for row in &HEXAGONS {
+        has_counts::<Hex>(rt.alloc(), row)?;
+    }
+    for row in &TRIANGLES {
+        has_counts::<Iamond>(rt.alloc(), row)?;
     }
     Ok(())
 }

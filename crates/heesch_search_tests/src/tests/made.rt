@@ -1,9 +1,10 @@
 //! Limits and polyforms that several modules try.
-use heesch_cert::Limits;
+use heesch_cert::{Limits, Proof};
 use heesch_grid::{Cell, Iso};
 use heesch_io::Seq;
-use heesch_made::{LIMITS, cells, isos};
+use heesch_made::{LIMITS, cells, isos, same};
 use std::alloc::{AllocError, Global};
+use std::test::Fail;
 
 /// The limits under which nothing but one corona is sought.
 pub(crate) const LEAST: Limits = Limits {
@@ -27,4 +28,13 @@ pub(crate) const AROUND: [Iso; 12] = isos![
 /// A copy of the items.
 pub(crate) fn seq<T: Copy>(alloc: Global, items: &[T]) -> Result<Seq<T>, AllocError> {
     Ok(Seq::from_vec(Vec::from_slice(alloc, items)?))
+}
+
+/// The proof has no step, and this hint alone in its last line; a test fails where it hasn't.
+pub(crate) fn is_by(proof: &Proof, hint: u32) -> Result<(), Fail> {
+    same("steps", proof.steps.len(), 0)?;
+    let Some(last) = &proof.last else {
+        return Err(Fail::new("no last line"));
+    };
+    same("hints", last.as_slice(), [hint].as_slice())
 }

@@ -3,7 +3,7 @@ ghost use Rattle.std.specs.Prelude.{◌≡◌, ◌≤◌, [], IfOk};
 ghost use Rattle.heesch_grid.specs.Polyform.{IsCanonicalListOf};
 ghost use Rattle.heesch_outer.specs.Found.{IsNearAnswer};
 
-use super::made::{CROSSING, HOLED, LEAST, seq};
+use super::made::{CROSSING, HOLED, LEAST, is_by, seq};
 use heesch_audit::{EntryAnswer, audit, is_near};
 use heesch_cert::{
     Bare, Classes, Cut, Entry, Evidence, Kind, Layers, Limits, Phase, Proof, Step, Tiling, Verdict,
@@ -13,7 +13,7 @@ use heesch_grid::{Cell, Grid, Iamond, Square};
 use heesch_io::Seq;
 use heesch_lattice::Triple;
 use heesch_levels::{LevelAnswer, WallAnswer, level, wall};
-use heesch_made::{canonical_of, cells, isos, members};
+use heesch_made::{canonical_of, cells, isos, members, same};
 use heesch_outer::{OuterAnswer, check_outer, outer};
 use heesch_shape::Shape;
 use std::alloc::Global;
@@ -119,15 +119,10 @@ fn enclosed_cell(rt: HostRuntime) -> Result<(), Fail> {
         None,
     )?;
     let answer = checked_answer::<Square, _>(&rt, alloc, &entry, &with_cut(alloc, 9)?, LEAST)?;
-    match &answer {
-        OuterAnswer::Same { proof } => {
-            assert!(rt; proof.steps.is_empty());
-            let last = proof.last.as_ref().ok_or("no last line")?;
-            assert_eq!(rt; last.as_slice(), [9].as_slice());
-        }
-        _ => assert!(rt; false),
-    }
-    Ok(())
+    let OuterAnswer::Same { proof } = &answer else {
+        return Err(Fail::new("another answer"));
+    };
+    is_by(proof, 9)
 }
 
 /// The layers of h hole-free coronas.
@@ -200,16 +195,14 @@ fn count_outer<G: Grid, T: Threads + Sync>(
 #[test]
 fn surrounded_with_holes(rt: HostRuntime) -> Result<(), Fail> {
     let shape: Shape<Square> = canonical_of(&CROSSING)?;
-    assert_eq!(rt; count_outer(&rt, rt.alloc(), &shape, 0)?, 1);
-    Ok(())
+    same("outer number", count_outer(&rt, rt.alloc(), &shape, 0)?, 1)
 }
 
 /// One that can be surrounded twice, but then never without a hole, has outer number 2.
 #[test]
 fn surrounded_twice(rt: HostRuntime) -> Result<(), Fail> {
     let shape: Shape<Square> = canonical_of(&HOOKED)?;
-    assert_eq!(rt; count_outer(&rt, rt.alloc(), &shape, 1)?, 2);
-    Ok(())
+    same("outer number", count_outer(&rt, rt.alloc(), &shape, 1)?, 2)
 }
 
 /// A triangle for which nothing is sought.
@@ -233,8 +226,7 @@ fn unknown_number(rt: HostRuntime) -> Result<(), Fail> {
         None,
     )?;
     let answer = checked_answer::<Iamond, _>(&rt, alloc, &entry, &OuterAnswer::Tiles, limits)?;
-    assert!(rt; matches!(&answer, OuterAnswer::Unknown));
-    Ok(())
+    same("unknown", matches!(&answer, OuterAnswer::Unknown), true)
 }
 
 /// A square tiles.
@@ -259,6 +251,5 @@ fn square_that_tiles(rt: HostRuntime) -> Result<(), Fail> {
         evidence: Evidence::Cover { tiling, classes },
     };
     let answer = checked_answer::<Square, _>(&rt, alloc, &entry, &OuterAnswer::Unknown, LEAST)?;
-    assert!(rt; matches!(&answer, OuterAnswer::Tiles));
-    Ok(())
+    same("tiles", matches!(&answer, OuterAnswer::Tiles), true)
 }

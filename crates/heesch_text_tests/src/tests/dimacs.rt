@@ -1,7 +1,7 @@
 //! Clause texts and model texts worked by hand.
 use heesch_cnf::{FlatFormula, Formula, is_clause};
-use heesch_dimacs::ModelStop::{NotText, Stranger};
-use heesch_dimacs::{ModelStop, first_false, read_model, write_cnf, write_flat_cnf};
+use heesch_exchange::ModelStop::{NotText, Stranger};
+use heesch_exchange::{ModelStop, first_false, read_model, write_cnf, write_flat_cnf};
 use heesch_io::Seq;
 use heesch_made::{lits, same};
 use std::alloc::Global;

@@ -2,7 +2,7 @@
 use super::made::source_of;
 use heesch_io::IoStop;
 use heesch_made::same;
-use heesch_tabulate::{Tabulated, tabulate};
+use heesch_table::{Tabulated, tabulate};
 use std::alloc::Global;
 use std::test::Fail;
 

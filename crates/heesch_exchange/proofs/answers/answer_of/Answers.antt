@@ -1,6 +1,6 @@
 use Rattle.std.proofs.Common.{◌≡◌, ◌∙◌, ℕ, List, [], ◌++◌, ap, sym, subst, inl, inr}
 use Rattle.heesch_cnf.specs.Clauses.{assignment_of}
-use Rattle.heesch_dimacs.specs.Models.{IsModel}
+use Rattle.heesch_exchange.specs.Models.{IsModel}
 use Rattle.heesch_text.specs.Catalogue.{coronas_text}
 use Rattle.heesch_exchange.specs.Answers.{HasEndedLine, IsAnswerStop, IsModelStop, false_text}
 use Rattle.heesch_exchange.proofs.FirstLines.{alone, as_line, in_time_of}

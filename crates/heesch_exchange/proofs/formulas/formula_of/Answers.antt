@@ -1,5 +1,5 @@
 use Rattle.std.proofs.Common.{◌∙◌, ℕ, List, ◌++◌, ap, refl, inr}
-use Rattle.heesch_dimacs.specs.Formulas.{clause_text}
+use Rattle.heesch_exchange.specs.ClauseTexts.{clause_text}
 use Rattle.heesch_exchange.specs.Formulas.{IsFormulaStop}
 use Rattle.heesch_exchange.proofs.Told.{not_empty, empty_is, as_error, formula_late, formula_stop, encoded_as, second_line, is_formula}
 use Rattle.heesch_exchange.proofs.formulas.formula_of.Goals as goal

@@ -39,7 +39,7 @@ search_outer-requires g c =
     record {
       limits = c.requires.limits;
       level = omega (arith, level, most, count);
-      canonical = c.shape_of-shape.ensures.canonical;
+      canonical = c.shape_of-shape.ensures.canonical.canonical;
       fits = subst (λ cells. ¬ IsTooLarge a.limits.version geometry cells (c.first_number.result + 1) a.limits.size) (sym shape)
           (subst (λ n. ¬ IsTooLarge a.limits.version geometry a.entry.now.cells (n + 1) a.limits.size) (sym count) (fits_in geometry a.limits a.entry.now c.requires.entry s.free proof s.bare s.wider s.triples is g.met.G.Grid.laws));
     }

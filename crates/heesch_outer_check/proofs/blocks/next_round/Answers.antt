@@ -1,7 +1,7 @@
 use Rattle.std.proofs.Common.{[], ◌∷◌, ◌∙◌, ◌+◌, ap, arith, drop, length, length-append, subst, sym}
 use Rattle.heesch_outer_check.specs.Rounds.{AreBlocks}
 use Rattle.heesch_outer_check.proofs.Cutting.{next_block}
-use Rattle.heesch_outer_check.proofs.Parts.{further_within}
+use Rattle.heesch_outer_check.proofs.AnswerBehind.{further_within}
 use Rattle.heesch_outer_check.proofs.blocks.next_round.Goals as goal
 
 pub loop-count-preserved : goal.loop-count-preserved

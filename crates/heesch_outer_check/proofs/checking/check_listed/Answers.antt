@@ -2,7 +2,7 @@ use Rattle.std.proofs.Common.{◌≡◌, ◌+◌, arith, rules, subst, sym}
 use Rattle.std.proofs.lemmas.Result.{IfOk-weaker}
 use Rattle.heesch_outer_check.specs.Answers.{IsInvalidRecord}
 use Rattle.heesch_outer_check.specs.Rounds.{JudgesRound}
-use Rattle.heesch_outer_check.proofs.Parts.{bad_tells, behind_tells, further_within, goes_on}
+use Rattle.heesch_outer_check.proofs.AnswerBehind.{bad_tells, behind_tells, further_within, goes_on}
 use Rattle.heesch_outer_check.proofs.checking.check_listed.Goals as goal
 
 pub returns-in-Bad : goal.returns-in-Bad

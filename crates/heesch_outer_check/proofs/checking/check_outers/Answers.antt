@@ -1,6 +1,6 @@
 use Rattle.std.proofs.Common.{◌∙◌, ◌+◌, ap, arith, subst, sym}
 use Rattle.heesch_outer_check.specs.Answers.{IsTooLong}
-use Rattle.heesch_outer_check.proofs.Parts.{too_long}
+use Rattle.heesch_outer_check.proofs.AnswerBehind.{too_long}
 use Rattle.heesch_reader.specs.Input.{newlines}
 use Rattle.heesch_outer_check.proofs.checking.check_outers.Goals as goal
 

@@ -2,8 +2,8 @@ use Rattle.std.proofs.Common.{◌≡◌, sym, subst, true≢false}
 use Rattle.std.specs.Prelude.{IfSome}
 use Rattle.std.proofs.lemmas.Result.{IfOk-weaker}
 use Rattle.heesch_outer.specs.Outers.{record_text}
-use Rattle.heesch_record.specs.Records.{IsReadableRecord}
-use Rattle.heesch_record.proofs.Records.{readable, texts_determine}
+use Rattle.heesch_outer_check.specs.ReadableRecords.{IsReadableRecord}
+use Rattle.heesch_outer_check.proofs.Records.{readable, texts_determine}
 use Rattle.heesch_outer_check.proofs.OneAnswer.{read_tells, unread_not_good}
 use Rattle.heesch_outer_check.proofs.judging.is_good.Goals as goal
 

@@ -1,9 +1,48 @@
-use Rattle.std.proofs.Common.{[], ◌+◌, refl, subst}
+use Rattle.std.proofs.Common.{[], subst, arith}
+use Rattle.std.proofs.lemmas.Int.{ints}
 use Rattle.heesch_grid.specs.Cells.{cells_before}
-use Rattle.heesch_place.specs.Found.{Adds, IsInSquare, IsPlacementOver}
+use Rattle.heesch_grid.specs.Vectors.{IsWithin}
+use Rattle.heesch_place.specs.Found.{Adds, IsInRows, IsPlacementOver}
 use Rattle.heesch_place.proofs.Gathering.{lists_added}
-use Rattle.heesch_place.proofs.Moving.{rows_over}
+use Rattle.heesch_place.proofs.Moving.{corners_near, rows_over, zero_between}
+use Rattle.heesch_place.proofs.onto.placements_over.Given as given
 use Rattle.heesch_place.proofs.onto.placements_over.Goals as goal
+use Rattle.heesch_place.proofs.onto.placements_over.Goals.{After-with_all-corners}
+
+-- the corners lie as near 0 as the targets
+near : (g : given.Over) (c : After-with_all-corners g) → IsWithin 100000 c.with_all-corners.result.low × IsWithin 100000 c.with_all-corners.result.high
+near g c = corners_near c.args.targets.now c.at.result.low c.at.result.high c.with_all-corners.result.low c.with_all-corners.result.high c.at.ensures.low c.at.ensures.high c.with_all-corners.ensures 100000 c.requires
+
+pub rows_around-rows-requires-clause-low : goal.rows_around-rows-requires-clause-low
+rows_around-rows-requires-clause-low g c = (near g (goal.at.rows_around-rows-requires-clause-low g c).After-with_all-corners).0
+
+pub rows_around-rows-requires-clause-high : goal.rows_around-rows-requires-clause-high
+rows_around-rows-requires-clause-high g c = (near g (goal.at.rows_around-rows-requires-clause-high g c).After-with_all-corners).1
+
+pub rows_around-rows-requires-clause-zero : goal.rows_around-rows-requires-clause-zero
+rows_around-rows-requires-clause-zero g c =
+    zero_between c.args.targets.now c.at.result.low c.at.result.high c.with_all-corners.result.low c.with_all-corners.result.high c.at.ensures.low c.at.ensures.high c.with_all-corners.ensures
+
+pub add_rows-requires-clause-low : goal.add_rows-requires-clause-low
+add_rows-requires-clause-low g c =
+    let w = (near g (goal.at.add_rows-requires-clause-low g c).After-with_all-corners).0 in
+    let e = c.rows_around-rows.ensures in
+    record {
+      a_low = omega (arith, ints, e.low_a, w.a_low, c.reach.ensures.bound);
+      a_high = omega (arith, ints, e.low_a, w.a_high);
+      b_low = omega (arith, ints, e.low_b, w.b_low, c.reach.ensures.bound);
+      b_high = omega (arith, ints, e.low_b, w.b_high);
+    }
+
+pub add_rows-requires-clause-wide : goal.add_rows-requires-clause-wide
+add_rows-requires-clause-wide g c =
+    let w = (near g (goal.at.add_rows-requires-clause-wide g c).After-with_all-corners).1 in
+    omega (arith, ints, c.rows_around-rows.ensures.wide, w.a_high, c.reach.ensures.bound)
+
+pub add_rows-requires-clause-tall : goal.add_rows-requires-clause-tall
+add_rows-requires-clause-tall g c =
+    let w = (near g (goal.at.add_rows-requires-clause-tall g c).After-with_all-corners).1 in
+    omega (arith, ints, c.rows_around-rows.ensures.tall, w.b_high)
 
 pub returns : goal.returns
 returns g c =
@@ -11,9 +50,12 @@ returns g c =
     let shape = c.args.prototile.now in
     let targets = c.args.targets.now in
     let all = c.add_rows.new.all.items in
-    let most = c.radius.result + c.reach.result in
     let o = c.orientations-orientations in
     let marks = c.in_ok-marks.marks in
-    let added = subst (λ old. Adds (IsInSquare geometry marks o.result.now most) old all) c.new-all.ensures.items c.in_ok-add_rows.ensures in
-    let made = rows_over geometry shape targets marks o.result.now most o.ensures c.in_ok-marks.ensures [] all c.radius.result c.reach.result refl c.radius.ensures.within c.reach.ensures.within added in
+    let corners = c.with_all-corners in
+    let rows = c.rows_around-rows in
+    let e = rows.ensures in
+    let added = subst (λ old. Adds (IsInRows geometry marks o.result.now rows.result.low rows.result.wide rows.result.tall) old all) c.new-all.ensures.items c.in_ok-add_rows.ensures in
+    let made = rows_over geometry shape targets marks o.result.now o.ensures c.in_ok-marks.ensures corners.result.low corners.result.high c.reach.result corners.ensures.new c.reach.ensures.within
+    rows.result.low rows.result.wide rows.result.tall [] all e.low_a e.low_b (omega (arith, ints, e.wide)) (omega (arith, ints, e.tall)) added in
     lists_added cells_before (IsPlacementOver geometry shape targets) all c.listed_tiles.result.items made c.listed_tiles.ensures

@@ -1,6 +1,4 @@
 //! Refutations, and the numbers of their steps.
-ghost use Rattle.std.specs.Prelude.{◌≤◌, ◌^◌, IfOk};
-
 use super::super::made::{HOLED, seq};
 use super::expect;
 use heesch_cert::{Bare, Cut, Entry, Evidence, Layers, Limits, Proof, Step, Verdict, Wall};
@@ -10,9 +8,7 @@ use heesch_grid::Square;
 use heesch_io::Seq;
 use heesch_made::{LIMITS, canonical_of, cells};
 use std::alloc::Global;
-use std::process::Abort;
 use std::test::Fail;
-use std::thread::Threads;
 
 /// A cut, at this level, of the heptomino's middle cell without a border.
 fn middle_cut(alloc: Global, level: u32) -> Result<Step, Fail> {
@@ -55,42 +51,44 @@ fn refuted(alloc: Global, m: u32, wall: Proof, bare: Bare) -> Result<Entry, Fail
     })
 }
 
-/// A refutation of coronas with holes, by the empty clause alone.
-fn without_cuts(alloc: Global) -> Result<Bare, Fail> {
-    let proof = proof(alloc, (0, 1, 9))?;
+/// The refutation of coronas with holes; none for no cuts.
+fn bare(alloc: Global, cuts: Option<Cuts>) -> Result<Bare, Fail> {
+    let Some(cuts) = cuts else {
+        return Ok(Bare::Same);
+    };
+    let proof = proof(alloc, cuts)?;
     Ok(Bare::Refuted { proof })
 }
 
-/// The holed heptomino has no corona: the clause of its ninth cell is empty.
+/// How many levels the wall stands beyond, its cuts, those of coronas with holes, the size, and the part that fails.
+type Row = (u32, Cuts, Option<Cuts>, u32, u32);
+
+/// The holed heptomino has no corona: the clause of its ninth cell is empty. A cut isn't needed for that, but allowed
+/// where holes are forbidden.
+const ROWS: [Row; 8] = [
+    (1, (0, 1, 9), None, LIMITS.size, 0),
+    (1, (0, 1, 8), None, LIMITS.size, 6),
+    (2, (0, 1, 9), None, LIMITS.size, 2),
+    (1, (1, 1, 9), None, LIMITS.size, 8),
+    (1, (1, 1, 9), Some((0, 1, 9)), LIMITS.size, 0),
+    (1, (1, 1, 9), Some((0, 1, 9)), 1, 6),
+    (1, (1, 1, 9), Some((1, 1, 9)), LIMITS.size, 8),
+    (1, (1, 0, 9), Some((0, 1, 9)), LIMITS.size, 6),
+];
+
 #[test]
 fn refutations(rt: HostRuntime) -> Result<(), Fail> {
     let alloc = rt.alloc();
-    for (m, cuts, part) in [
-        (1, (0, 1, 9), 0),
-        (1, (0, 1, 8), 6),
-        (2, (0, 1, 9), 2),
-        (1, (1, 1, 9), 8),
-    ] {
-        let entry = refuted(alloc, m, proof(alloc, cuts)?, Bare::Same)?;
-        expect::<Square, _>(&rt, alloc, &entry, LIMITS, part)?;
+    for (m, cuts, holed, size, part) in &ROWS {
+        let bare = bare(alloc, *holed)?;
+        let entry = refuted(alloc, *m, proof(alloc, *cuts)?, bare)?;
+        let limits = Limits {
+            size: *size,
+            ..LIMITS
+        };
+        expect::<Square, _>(&rt, alloc, &entry, limits, *part)?;
     }
     Ok(())
-}
-
-/// A cut isn't needed for that, but allowed where holes are forbidden.
-#[test]
-fn refutations_with_cuts(rt: HostRuntime) -> Result<(), Fail> {
-    let alloc = rt.alloc();
-    let entry = refuted(alloc, 1, proof(alloc, (1, 1, 9))?, without_cuts(alloc)?)?;
-    expect::<Square, _>(&rt, alloc, &entry, LIMITS, 0)?;
-    expect::<Square, _>(&rt, alloc, &entry, Limits { size: 1, ..LIMITS }, 6)?;
-    let cut = Bare::Refuted {
-        proof: proof(alloc, (1, 1, 9))?,
-    };
-    let entry = refuted(alloc, 1, proof(alloc, (1, 1, 9))?, cut)?;
-    expect::<Square, _>(&rt, alloc, &entry, LIMITS, 8)?;
-    let entry = refuted(alloc, 1, proof(alloc, (1, 0, 9))?, without_cuts(alloc)?)?;
-    expect::<Square, _>(&rt, alloc, &entry, LIMITS, 6)
 }
 
 /// A learnt clause that the heptomino's empty one shows, two cuts, and a final line with this hint.
@@ -111,28 +109,10 @@ fn learnt_and_cuts(alloc: Global, hint: u32) -> Result<Proof, Fail> {
 }
 
 /// How many clauses the formula of the heptomino has.
-fn clauses_of_heptomino(alloc: Global) -> Result<u32, Fail>
-    ensures { IfOk result (λ count. count ≤ 2 ^ 31) }
-{
+fn clauses_of_heptomino(alloc: Global) -> Result<u32, Fail> {
     let shape = canonical_of::<Square>(&HOLED)?;
     let encoded = encode_flat(alloc, &shape, 1, LIMITS.size, LIMITS.version)?;
     Ok(encoded.formula.len() as u32)
-}
-
-/// Asserts what the audit answers where the final line of those steps has this hint.
-fn expect_final<R: Abort + Threads + Sync>(
-    rt: &R,
-    alloc: Global,
-    hint: u32,
-    part: u32,
-) -> Result<(), Fail> {
-    let entry = refuted(
-        alloc,
-        1,
-        learnt_and_cuts(alloc, hint)?,
-        without_cuts(alloc)?,
-    )?;
-    expect::<Square, _>(rt, alloc, &entry, LIMITS, part)
 }
 
 /// The steps count on from the formula's clauses: the first is learnt, and the clauses of the cuts are empty, since no
@@ -141,8 +121,10 @@ fn expect_final<R: Abort + Threads + Sync>(
 fn steps_count_on(rt: HostRuntime) -> Result<(), Fail> {
     let alloc = rt.alloc();
     let count = clauses_of_heptomino(alloc)?;
-    expect_final(&rt, alloc, count + 1, 6)?;
-    expect_final(&rt, alloc, count + 2, 0)?;
-    expect_final(&rt, alloc, count + 3, 0)?;
-    expect_final(&rt, alloc, count + 4, 6)
+    for (step, part) in [(1, 6), (2, 0), (3, 0), (4, 6)] {
+        let wall = learnt_and_cuts(alloc, count.saturating_add(step))?;
+        let entry = refuted(alloc, 1, wall, bare(alloc, Some((0, 1, 9)))?)?;
+        expect::<Square, _>(&rt, alloc, &entry, LIMITS, part)?;
+    }
+    Ok(())
 }

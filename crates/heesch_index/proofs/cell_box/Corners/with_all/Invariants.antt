@@ -1,5 +1,5 @@
 use Rattle.std.proofs.Common.{take}
-use Rattle.heesch_index.specs.Boxes.{Span}
+use Rattle.heesch_index.specs.Marking.{Span}
 use Rattle.heesch_index.proofs.cell_box.Corners.with_all.Given as goal
 
 abbrev pub invariant-loop-cell : goal.invariant-loop-cell

@@ -1,6 +1,0 @@
-use Rattle.std.proofs.Common.{take, length}
-use Rattle.heesch_dimacs.specs.Models.{IsAssignment}
-use Rattle.heesch_dimacs.proofs.named.make_all_true.Given as goal
-
-abbrev pub invariant-loop-literal : goal.invariant-loop-literal
-invariant-loop-literal l = IsAssignment (length l.fn.values) (take l.literal-index l.literals) l.values

@@ -1,4 +1,0 @@
-pub mod Formulas
-pub mod Lines
-pub mod Models
-pub mod Stops

@@ -1,6 +1,0 @@
-use Rattle.std.proofs.Common.{take}
-use Rattle.heesch_tabulate.specs.Steps.{CountsAll}
-use Rattle.heesch_tabulate.proofs.counting.count_entries_of.Given as goal
-
-abbrev pub invariant-loop-item : goal.invariant-loop-item
-invariant-loop-item g l = CountsAll g.G.Grid.geometry l.fn.tally l.tally (take l.item-index l.items)

@@ -1,5 +1,0 @@
-use Rattle.heesch_tabulate.proofs.OneTabulation.{apart}
-use Rattle.heesch_tabulate.proofs.laws.tallies_have_no_fault.Goals as goal
-
-pub returns : goal.returns
-returns c = apart
