@@ -239,6 +239,7 @@ left_to_judge readings.End bytes items = 0
 left_to_judge (readings.Fault part) bytes items = 0
 left_to_judge (readings.TooLong line ending) bytes items = 0
 
+-- what was so much is less where nothing more may follow, and where fewer are left
 smaller_by : (from to : Reading) (bytes items then ahead : ℕ) → from ≡ readings.More → (to ≡ readings.More → 2 * then + min 1 ahead < 2 * bytes + min 1 items) → left_to_judge to then ahead < left_to_judge from bytes items
 smaller_by readings.More readings.More bytes items then ahead more less = let lt = less refl in omega (arith, lt)
 smaller_by readings.More readings.End bytes items then ahead more less = omega arith
@@ -248,32 +249,36 @@ smaller_by readings.End to bytes items then ahead more less = absurd cc
 smaller_by (readings.Fault part) to bytes items then ahead more less = absurd cc
 smaller_by (readings.TooLong line ending) to bytes items then ahead more less = absurd cc
 
+-- fewer bytes are left behind a round and the items ahead of the next, or none of these but items of the round, where more may follow
+fewer_left : (first before now : Option (List ℕ)) (header : Header) (n : ℕ) (old new : Streamed) (at_hand : Pending) (round : Round) → round.reading ≡ readings.More → round.ahead.reading ≡ readings.More → IsPending header first before at_hand.items old n at_hand.reading
+    → IsRound before now old new at_hand round → 2 * (1099511627776 - new.count) + min 1 (length round.ahead.items) < 2 * (1099511627776 - old.count) + min 1 (length at_hand.items)
+fewer_left first before now header n old new at_hand round more on p r =
+    let alone : IsReading first r.middle ((p.found ++ round.items) ++ []) r.between round.reading = subst (λ (x : List Item). IsReading first r.middle x r.between round.reading) (sym (append-nil (p.found ++ round.items))) (r.gathers.goes_on first p.found p.reads) in
+    let all = (p.found ++ round.items) ++ round.ahead.items in
+    let read : HasRead first now all new = subst (λ (x : Reading). IsReading first now all new x) on (r.ahead.goes_on first (p.found ++ round.items) alone) in
+    let count = read.count_is in
+    let most = read.at_most in
+    let at_first = (r.gathers.from_more more).1 in
+    let then = (r.ahead.from_more on).1 in
+    elim (r.ahead.grown on) [
+      | inr grows ↦ omega (arith, count, most, at_first, grows)
+      | inl none ↦
+          let nothing : length round.ahead.items ≡ 0 = ap length none in
+          elim (r.gathers.grown more) [
+            | inr grows ↦ omega (arith, count, most, then, grows, nothing)
+            | inl same ↦
+                let many = r.gathers.are_enough more in
+                let here = ap length same in
+                let some = r.some in
+                omega (arith, count, most, then, at_first, nothing, many, here, some)
+          ]
+    ]
+
 -- behind a round that was judged good less is left than before
 pub pending_smaller : (first before now : Option (List ℕ)) (header : Header) (n : ℕ) (old new : Streamed) (at_hand : Pending) (round : Round) → round.reading ≡ readings.More → IsPending header first before at_hand.items old n at_hand.reading → IsRound before now old new at_hand round
     → left_to_judge round.ahead.reading (1099511627776 - new.count) (length round.ahead.items) < left_to_judge at_hand.reading (1099511627776 - old.count) (length at_hand.items)
 pending_smaller first before now header n old new at_hand round more p r =
-    let from = r.gathers.from_more more in
-    smaller_by at_hand.reading round.ahead.reading (1099511627776 - old.count) (length at_hand.items) (1099511627776 - new.count) (length round.ahead.items) from.0 (λ on.
-        let whole : IsReading first now ((p.found ++ round.items) ++ round.ahead.items) new round.ahead.reading =
-            r.ahead.goes_on first (p.found ++ round.items) (subst (λ (x : List Item). IsReading first r.middle x r.between round.reading) (sym (append-nil (p.found ++ round.items))) (r.gathers.goes_on first p.found p.reads)) in
-        let read : HasRead first now ((p.found ++ round.items) ++ round.ahead.items) new = subst (λ (x : Reading). IsReading first now ((p.found ++ round.items) ++ round.ahead.items) new x) on whole in
-        let count = read.count_is in
-        let most = read.at_most in
-        let then = (r.ahead.from_more on).1 in
-        let at_first = from.1 in
-        elim (r.ahead.grown on) [
-          | inr grows ↦ omega (arith, count, most, at_first, grows)
-          | inl none ↦
-              let nothing : length round.ahead.items ≡ 0 = ap length none in
-              elim (r.gathers.grown more) [
-                | inr grows ↦ omega (arith, count, most, then, grows, nothing)
-                | inl same ↦
-                    let many = r.gathers.are_enough more in
-                    let here = ap length same in
-                    let some = r.some in
-                    omega (arith, count, most, then, at_first, nothing, many, here, some)
-              ]
-        ])
+    smaller_by at_hand.reading round.ahead.reading (1099511627776 - old.count) (length at_hand.items) (1099511627776 - new.count) (length round.ahead.items) (r.gathers.from_more more).0 (λ on. fewer_left first before now header n old new at_hand round more on p r)
 
 -- ---- the first batch, whose first item is the header
 

@@ -59,13 +59,7 @@ fn round_size(most: usize) -> usize
 
 /// Whether others are gathered while these items are audited: there are several workers, more may follow, and these
 /// are entries in their places, so many, and fewer than may be at hand.
-fn goes_on_beside(
-    front: &[Item],
-    placed: u32,
-    reading: Reading,
-    most: usize,
-    workers: u32,
-) -> bool
+fn goes_on_beside(front: &[Item], placed: u32, reading: Reading, most: usize, workers: u32) -> bool
     ensures more { IsTrue result → reading ≡ Reading.More }
     ensures placed { IsTrue result → placed ≡ length front.now }
     ensures few { IsTrue result → length front.now < most }
