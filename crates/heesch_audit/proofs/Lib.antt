@@ -4,7 +4,7 @@ mod Plain
 mod Proofs
 mod Listed
 pub mod Bounded
-pub mod Parts
+mod Parts
 mod Ends
 mod Covers
 pub mod Portions

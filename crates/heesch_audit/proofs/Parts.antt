@@ -57,7 +57,7 @@ module _ (g : Geometry) (limits : Limits) (entry : Entry) (shape cells : List Ce
 
 -- where the parts before the searches hold, the first of the searches that fails is the least part that fails
 module _ (g : Geometry) (limits : Limits) (entry : Entry) (shape : ShapeHolds g entry) (form : FormHolds g limits entry) (cover : CoverHolds g entry.cells entry.evidence) (classes : ClassesHold g entry.cells entry.verdict entry.evidence) (free : FreeHolds g entry.cells entry.verdict entry.evidence) where
-  pub before_wall : (k : ℕ) → k < 6 → PartHolds g limits entry k
+  before_wall : (k : ℕ) → k < 6 → PartHolds g limits entry k
   before_wall zero l = tt
   before_wall (suc zero) l = shape
   before_wall (suc (suc zero)) l = form
@@ -66,7 +66,7 @@ module _ (g : Geometry) (limits : Limits) (entry : Entry) (shape : ShapeHolds g 
   before_wall (suc (suc (suc (suc (suc zero))))) l = free
   before_wall (suc (suc (suc (suc (suc (suc n)))))) l = absurd (omega (arith, l))
 
-  pub before_wider : WallHolds g limits entry.cells entry.verdict entry.evidence → (k : ℕ) → k < 7 → PartHolds g limits entry k
+  before_wider : WallHolds g limits entry.cells entry.verdict entry.evidence → (k : ℕ) → k < 7 → PartHolds g limits entry k
   before_wider wall k l =
       elim (cases_lt k 6) [
         | inl low ↦ before_wall k low

@@ -1,12 +1,14 @@
 //! The check of entries, each part by the checker of its own crate and none by the searches that made it.
+//!
+//! `spell_coronas` and `ends_coronas` ask of layers and of a proof what the parts 5 to 8 ask of an entry's.
 #![tactic(auto)]
 
 mod audited;
 mod auditing;
+mod corona_ends;
 mod corona_formula;
 mod coronas;
 mod cover;
-mod ends;
 mod fits;
 mod form;
 mod formula;
@@ -21,7 +23,7 @@ mod triples;
 mod walls;
 
 pub use auditing::{EntryAnswer, audit};
-pub use ends::ends_coronas;
+pub use corona_ends::ends_coronas;
 pub use near::is_near;
 pub use proof_end::ProofEnd;
 pub use spelling::spell_coronas;
