@@ -1,6 +1,6 @@
 -- What the answers on logs say of proofs.
 use Rattle.std.proofs.Common.{◌≡◌, sym, subst, ◌∙◌, ℕ, ◌≤◌, List, [], arith, inl, inr, All, Result}
-use Rattle.std.specs.Prelude.{◌↔◌, ◌⊎◌, Option, Some, None, IfOk, Ok, Err}
+use Rattle.std.specs.Prelude.{◌↔◌, ◌⊎◌, Some, None, IfOk, Ok, Err}
 use Rattle.heesch_grid.specs.declared.Cell.{Cell}
 use Rattle.heesch_grid.specs.Clauses.{formula_size}
 use Rattle.heesch_grid.specs.CoronaFormula.{Variable}

@@ -1,8 +1,11 @@
 //! The check of entries, each part by the checker of its own crate and none by the searches that made it.
+//!
+//! `spell_coronas` and `ends_coronas` ask of layers and of a proof what the parts 5 to 8 ask of an entry's.
 #![tactic(auto)]
 
 mod audited;
 mod auditing;
+mod corona_ends;
 mod corona_formula;
 mod coronas;
 mod cover;
@@ -10,7 +13,6 @@ mod fits;
 mod form;
 mod formula;
 pub mod laws;
-mod level_ends;
 mod logs;
 mod near;
 mod proof_end;
@@ -21,7 +23,7 @@ mod triples;
 mod walls;
 
 pub use auditing::{EntryAnswer, audit};
-pub use level_ends::ends_coronas;
+pub use corona_ends::ends_coronas;
 pub use near::is_near;
 pub use proof_end::ProofEnd;
 pub use spelling::spell_coronas;

@@ -2,7 +2,7 @@ use Rattle.std.proofs.Common.{ℕ, Bool, subst}
 use Rattle.std.specs.Prelude.{◌↔◌, IfOk, IsTrue}
 use Rattle.heesch_cert.specs.declared.limits.Limits.{Limits}
 use Rattle.heesch_audit.specs.Ends.{EndsCoronas}
-use Rattle.heesch_audit.proofs.level_ends.ends_over.Goals as goal
+use Rattle.heesch_audit.proofs.corona_ends.ends_over.Goals as goal
 
 pub returns : goal.returns
 returns g c =
