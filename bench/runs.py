@@ -19,6 +19,7 @@ import shutil
 import subprocess
 import sys
 
+OF_TOOLS = ('merge', 'tally')  # stages that a tool does and not the program
 LEAST_LISTED = 2  # the least Heesch number whose shapes are listed
 GRIDS = ('square', 'hex', 'iamond', 'kite')
 SMALL = {'square': 7, 'hex': 6, 'iamond': 8, 'kite': 4}  # sizes up to which catalogues/ has the catalogue
@@ -124,18 +125,10 @@ class Run:
         """The time of all stages by the clock."""
         return f'{sum(float(row["Seconds"]) for row in self.rows("Stage") if "Seconds" in row):.1f}'
 
-    def times(self):
-        """What the program took, then its `check` alone, and then the tools: processor seconds, and MB at most."""
-        rows = [row for row in self.rows('Stage') if row.get('Processor seconds')]
-        parts = {'program': [], 'check': [], 'tools': []}
-        for row in rows:
-            stage = row['Stage']
-            parts['tools' if stage in ('merge', 'tally') else 'program'].append(row)
-            if stage.startswith('check of'):
-                parts['check'].append(row)
-        return [word for part in parts.values() for word in (
-            f'{sum(float(row["Processor seconds"]) for row in part):.1f}' if part else '',
-            max((int(row['Peak MB of one']) for row in part), default=''))]
+    def took(self):
+        """What each stage took: processor seconds, and MB of the process that had most."""
+        return {row['Stage']: (float(row['Processor seconds']), int(row['Peak MB of one']))
+                for row in self.rows('Stage') if row.get('Processor seconds')}
 
     @functools.cached_property
     def with_holed(self):
@@ -260,16 +253,25 @@ def program_of(runs):
     return table(['Commit', 'sha256'], [[f'`{run.commit}`', f'`{run.program}`'] for run in runs[:1]])
 
 
+def together(costs):
+    """The cells of what stages took: all their processor seconds, and the most MB; empty where there is no stage."""
+    costs = list(costs)
+    return [f'{sum(seconds for seconds, _ in costs):.1f}', max(peak for _, peak in costs)] if costs else ['', '']
+
+
 def stages(runs):
     rows = []
     for run in runs:
-        took = [f'`{run.command()}`', '; '.join(run.limits()), run.seconds(), *run.times()]
+        took = run.took()
+        tools = together(took.pop(stage) for stage in OF_TOOLS if stage in took)
+        ours = [f'`{run.command()}`', '; '.join(run.limits()), run.seconds(), *together(took.values())]
         for file in run.rows('File'):
             is_empty = int(file['Bytes']) <= len('end 0\n')
             if file['File'].split('.')[0].split('-')[0] in ('catalogue', 'given', 'outer') and not is_empty:
                 said = f'`{file["heesch check"]}`' if file['heesch check'] else ''
-                rows.append([*took, file['File'], file['Bytes'], f'`{file["sha256"]}`', said])
-                took = [''] * len(took)
+                check = together(cost for stage, cost in took.items() if stage == f'check of {file["File"]}')
+                rows.append([*ours, *check, *tools, file['File'], file['Bytes'], f'`{file["sha256"]}`', said])
+                ours, tools = [''] * len(ours), [''] * len(tools)
     return table(['Command', 'Limits of the shares and of each pass', 'Seconds', 'Processor seconds', 'MB',
                   '`check`: seconds', 'MB', 'Tools: seconds', 'MB', 'File', 'Bytes', 'sha256', '`heesch check`'], rows)
 

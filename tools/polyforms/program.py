@@ -8,7 +8,7 @@ import subprocess
 from .faults import Fault
 
 BUILT = os.path.join('crates', 'heesch', 'out', 'heesch')  # where `rt run` leaves it in this repository
-STATUSES = {1: 'the input is no valid catalogue', 2: 'the words have no form', 3: 'the input has a fault',
+STATUSES = {1: 'the input is not valid', 2: 'the words have no form', 3: 'the input has a fault',
             4: 'standard input failed', 5: 'standard output failed', 6: 'memory was refused'}
 PIECE = 1 << 20  # bytes of a text that are taken at once
 

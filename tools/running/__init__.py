@@ -6,7 +6,7 @@
 | `plan` | what a run was begun with, kept in its folder |
 | `folder` | the files of a run, and its lock |
 | `crew` | processes of the program, side by side, each writing one part |
-| `parts` | what becomes of the text of a part: shares, and the two halves of a pass |
+| `parts` | what becomes of the text of a part: shares, the two halves of a pass, and what is said of outer numbers |
 | `progress` | the line that tells how far it is |
 | `joins` | parts put together |
 | `stages` | shares, passes, merge, check, tables: each makes what isn't there yet |

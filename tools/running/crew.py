@@ -21,7 +21,7 @@ TICK = 1.0  # seconds after which progress is told though nothing was written
 class Task(NamedTuple):
     """A part that is to be made: its number, its name, the program's words, the file of its input, and what takes it.
 
-    `begin` is called once for each try, and answers a `parts.PartText`.
+    `begin` is called once for each try, and answers a `parts.PartText` or a `parts.Judgement`.
     """
     number: int
     name: str
@@ -57,7 +57,7 @@ class Process:
         cost.update(begun=self.begun, seconds=time.time() - self.begun)
         try:
             if status:
-                raise NotWhole(program.ending(status))
+                raise NotWhole(': '.join(filter(None, [program.ending(status), self.text.said.strip()])))
             self.text.end()
         except NotWhole as fault:
             self.text.drop()

@@ -18,6 +18,7 @@ class PartText:
     It counts the shapes, and keeps the cells of the undecided ones. What becomes of the text is up to the three calls
     `_start`, `_begin` and `_add`, and to `_close`, which is called once the text is known to be whole.
     """
+    said = ''  # what a fault tells beside the status: nothing of a text
 
     def __init__(self, expected):
         self.shapes, self._expected, self._held, self.left = 0, expected, b'', []
@@ -98,6 +99,27 @@ class ShareText(KeptText):
     def _close(self, end):
         write_whole(self._left_path, self._left_text())
         super()._close(end)
+
+
+class Judgement:
+    """What `heesch check` says of a part. It is kept in a file where it is that all entries of the part are valid."""
+
+    def __init__(self, path, expected):
+        self.shapes, self.said, self._path, self._expected = 0, '', path, expected
+
+    def take(self, piece):
+        """Takes a piece."""
+        self.said += piece.decode('ascii', 'replace')
+
+    def end(self):
+        """Keeps it. NotWhole where it isn't that so many entries are valid."""
+        if self.said != f'valid {self._expected}\n':
+            raise NotWhole(f'`{self.said.strip()}` in place of `valid {self._expected}`')
+        self.shapes = self._expected
+        write_whole(self._path, self.said)
+
+    def drop(self):
+        """Leaves nothing of it, as there is no file before its end."""
 
 
 class GivenText:

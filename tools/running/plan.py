@@ -66,6 +66,10 @@ class Plan:
         """The limits for outer numbers, behind so many passes: no domain need be searched where no shape tiles."""
         return self.limits(passes)._replace(domain=1)
 
+    def outer_words(self, passes):
+        """The program's words for the outer numbers of given shapes; behind `check` they are those that judge them."""
+        return ['outer', self.grid, 'given', *ladder.options(self.outer_limits(passes))]
+
 
 def made(request, heesch):
     """A new plan by the words of a call. It counts the shapes, and where no number of shares is given it times some."""

@@ -75,8 +75,7 @@ class Report:
                  '## Largest Heesch number', self._largest(),
                  '## Undecided', self._undecided(),
                  '## How it was made', self._making(), self._passes_table(), self._times_table(),
-                 '## Files', self._files_table(), f'To check them: `sha256sum -c {SUMS}`, and of each catalogue '
-                 f'`heesch check < {CATALOGUE}`.',
+                 '## Files', self._files_table(), f'To check them: {self._checking()}.',
                  '## To cite', f'{CITATION} has how to cite the program and the two publications. Cite this folder by '
                  f'the sha256 of {CATALOGUE}.',
                  '## Licence', 'The owner of this folder states a licence here.']
@@ -103,8 +102,19 @@ class Report:
         if not self._plan.outer:
             return ''
         limits = self._plan.outer_limits(self._merged['passes'])
+        said = self._folder.recorded('check').get(OUTER)
+        judged = (f' `heesch check outer` under these limits said `{said}`. Each part was judged by itself, before the '
+                  'parts were joined.') if said else ''
         return (f' {OUTER} has the outer numbers of the shapes with a Heesch number, by `heesch outer` under '
-                f'`{limits}`.')
+                f'`{limits}`.{judged}')
+
+    def _checking(self):
+        """How the files are checked by others."""
+        words = f'`sha256sum -c {SUMS}`, and of each catalogue `heesch check < {CATALOGUE}`'
+        if self._plan.outer:
+            words += (f', and of {OUTER} `heesch check {" ".join(self._plan.outer_words(self._merged["passes"]))} < '
+                      f'{OUTER}`, which takes at most {joins.MOST_GIVEN} entries at once')
+        return words
 
     def _largest(self):
         if self._notable.heesch is None:

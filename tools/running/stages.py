@@ -1,4 +1,5 @@
 """The stages of a run. Each makes what isn't there yet, and what it makes stands in the folder."""
+import functools
 import math
 import os
 import shutil
@@ -8,9 +9,9 @@ import time
 from polyforms import commands, program, texts
 from polyforms.whole import WholeFile, write_whole
 
-from . import joins, ladder
+from . import joins
 from .crew import Crew, Task
-from .parts import Evidence, GivenText, KeptText, PassText, ShareText
+from .parts import Evidence, GivenText, Judgement, KeptText, PassText, ShareText
 from .progress import Progress
 
 VERSION = 2  # of the corona formulas, by default
@@ -202,26 +203,37 @@ class Run:
     # ---- outer numbers
 
     def make_outer(self):
-        """Makes the text of the outer numbers, of all shapes that have a Heesch number."""
+        """Makes the text of the outer numbers, of all shapes that have a Heesch number, where each part is valid."""
         if os.path.exists(self.folder.file(OUTER)):
             return
         if not os.path.exists(self.folder.work(NONTILERS)):
             self.timed('shapes for the outer numbers', self._list_nontilers)
         sizes = self._cut_list(self.folder.work(NONTILERS), 'outer')
-        limits = self.plan.outer_limits(self.folder.recorded('merge')['passes'])
-        words = ['outer', self.plan.grid, 'given', *ladder.options(limits)]
-        tasks = [self._outer_task(part, sizes, words) for part in self._missing('outer', sizes, 'txt')]
-        shapes = sum(sizes.values())
-        done = shapes - sum(sizes[task.number] for task in tasks)
-        self._refuse_failed('parts of the outer numbers', self._work('outer numbers', tasks, done, shapes))
+        words = self.plan.outer_words(self.folder.recorded('merge')['passes'])
+        self._work_outer('outer numbers', words, sizes, ('cells', 'txt', KeptText))
+        self._work_outer(f'check of {OUTER}', ['check', *words], sizes, ('txt', 'said', Judgement))
+        self._record_outer(sizes)
         paths = [self.folder.part('outer', part, 'txt') for part in sizes]
         self.timed('join of the outer numbers', joins.join_outer, paths, self.folder.file(OUTER))
         self.folder.remove('outer')
 
-    def _outer_task(self, part, sizes, words):
-        path = self.folder.part('outer', part, 'txt')
-        return Task(part, f'part {part} of {len(sizes)} of the outer numbers', words,
-                    self.folder.part('outer', part, 'cells'), lambda: KeptText(path, sizes[part]))
+    def _work_outer(self, stage, words, sizes, kinds):
+        """Makes a file of each part of the outer numbers; `kinds` are that of its input, its own, and what takes it."""
+        source, target, text = kinds
+        tasks = [Task(part, f'part {part} of {len(sizes)} of the outer numbers', words,
+                      self.folder.part('outer', part, source),
+                      functools.partial(text, self.folder.part('outer', part, target), sizes[part]))
+                 for part in self._missing('outer', sizes, target)]
+        shapes = sum(sizes.values())
+        done = shapes - sum(sizes[task.number] for task in tasks)
+        self._refuse_failed(f'parts of the {stage}', self._work(stage, tasks, done, shapes))
+
+    def _record_outer(self, sizes):
+        """Keeps what was said of the parts of the outer numbers; of no parts nothing was said."""
+        if sizes:
+            parts = f' in {len(sizes)} parts' if len(sizes) > 1 else ''
+            said = f'valid {sum(sizes.values())}{parts}'
+            self.folder.record('check', {**self.folder.recorded('check'), OUTER: said})
 
     def _list_nontilers(self):
         """Lists the shapes that have a Heesch number in a catalogue."""

@@ -342,6 +342,10 @@ class Runs(ToolTest):
         for part in ('`valid 10`', '## Undecided\n\nNone.', '| pass 1 |', 'The owner of this folder states a licence',
                      ' of the commit `abc123`, by up to 4 processes at once, on a machine', '| catalogue.txt | the catalogue |'):
             self.assertIn(part, readme)
+        judging = re.search('`heesch (check outer kite given [^`]*) < outer.txt`', readme)[1].split()
+        said, count = program(*judging, text=files['outer.txt'].decode()), len(nontilers.splitlines())
+        self.assertEqual(said, f'valid {count}\n')
+        self.assertIn(f'`valid {count} in {count} parts`', readme)
         told = subprocess.run(['sha256sum', '--quiet', '-c', 'SHA256SUMS'], cwd=self.folder / 'whole', check=False)
         self.assertEqual(told.returncode, 0)
 

@@ -1,5 +1,6 @@
 """Tests of bench/runs.py, which fills the documents' tables from folders of tools/run."""
 import os
+import re
 import runpy
 import types
 import unittest
@@ -30,12 +31,14 @@ By `tools/run hex 7 --into FOLDER --shares 9 --first 'turns 20000 levels 3 domai
 | shares | 2 | 3.0 | 1.5 | 1.0 s | 30 | x | x |
 | merge | 1 | 0.3 | 0.2 | 0.2 s | 20 | x | x |
 | check of catalogue.txt | 1 | 1.2 | 0.5 | 0.5 s | 40 | x | x |
+| check of outer.txt | 2 | 1.0 | 0.7 | 0.5 s | 26 | x | x |
 | join of pass 1 | 1 | 0.1 |  | 0.0 s |  | x | x |
 
 | File | Has | Bytes | sha256 | `heesch check` |
 | --- | --- | --- | --- | --- |
 | catalogue.txt | the catalogue | 1234 | `{sum}` | `valid 9` |
-| outer.txt | the outer numbers | 6 | `{sum}` |  |
+| given.txt | no entries | 6 | `{sum}` | `valid 0` |
+| outer.txt | the outer numbers | 567 | `{sum}` | `valid 3 in 2 parts` |
 '''
 
 
@@ -71,8 +74,15 @@ class Tables(helpers.ToolTest):
         self.assertEqual(self.rows('program', run), [['abc', '0' * 64]])
         self.assertEqual(self.rows('runs', run), [
             ["tools/run hex 7 --most 5000000 --passes 'turns 20000 levels 4 domain 6 size 60000000'",
-             'levels 3 domain 4; levels 4 domain 6', '4.6', '2.0', '40', '0.5', '40', '0.2', '20',
-             'catalogue.txt', '1234', '0' * 64, 'valid 9']])
+             'levels 3 domain 4; levels 4 domain 6', '5.6', '2.7', '40', '0.5', '40', '0.2', '20',
+             'catalogue.txt', '1234', '0' * 64, 'valid 9'],
+            ['', '', '', '', '', '0.7', '26', '', '', 'outer.txt', '567', '0' * 64, 'valid 3 in 2 parts']])
+
+    def test_outer_numbers_that_were_not_judged(self):
+        """An earlier tool had nothing said of them."""
+        run = self.run_of()
+        run.readme = re.sub('[|] check of outer.txt .*\n', '', run.readme).replace('`valid 3 in 2 parts`', '')
+        self.assertEqual(self.rows('runs', run)[1], [''] * 9 + ['outer.txt', '567', '0' * 64, ''])
 
     def test_agreement(self):
         run = self.run_of()
