@@ -66,7 +66,7 @@ fn newlines(bytes: &[u8]) -> u64
 }
 
 /// The same on the header's grid, of an input that isn't too long.
-#[tactic(auto, using(crate::proofs::Parts::checked))]
+#[tactic(auto, using(crate::proofs::AnswerBehind::checked))]
 fn check_on<G: Grid + Send + Sync, T: Threads + Sync, H: Gate + Sync>(
     crew: &Crew<'_, T, H>,
     header: Header,
