@@ -1,14 +1,12 @@
 #!/usr/bin/env python3
-"""Fills the tables of README.md, docs/TABLES.md and docs/RUNS.md from folders that tools/run made:
-`runs.py [--later] FOLDER..`. Of small sizes it copies the catalogues into catalogues/, and of four it makes the pages of
-docs/atlas/.
+"""Fills the tables of README.md, docs/TABLES.md and docs/RUNS.md from folders that tools/run made: `runs.py FOLDER..`.
+Of small sizes it copies the catalogues into catalogues/, and of four it makes the pages of docs/atlas/.
 
 A table stands behind a line `<!-- bench/runs.py NAME -->`, or `<!-- bench/runs.py NAME from GRID N, GRID N -->` where
 it has the sizes from N on alone. Its rows are those of the folders, in the order of grids and sizes. Every figure
 stands in a folder (tally.csv, undecided.csv, README.md), or is printed by `heesch table` over its catalogue, or is a
 published one of docs/TABLES.md. HEESCH names the program. Runs of different programs are refused, since a table is of
-one. Sizes that only a later program ran stand in tables of their own, whose names begin with `later`: --later fills
-these, and leaves the others and the small catalogues as they are.
+one.
 """
 import collections
 import csv
@@ -280,11 +278,11 @@ def stages(runs):
 
 TABLES = {'published': with_published, 'agreement': beside_published, 'verdicts': verdicts, 'open': left_open,
           'largest': largest, 'runs': stages, 'program': program_of}
-MARK = re.compile('<!-- bench/runs.py (later )?([a-z]+)(?: from ([a-z0-9, ]+))? -->')
+MARK = re.compile('<!-- bench/runs.py ([a-z]+)(?: from ([a-z0-9, ]+))? -->')
 
 
-def filled(text, runs, later=False):
-    """The text, with the table behind each mark made anew, or behind each of a later program."""
+def filled(text, runs):
+    """The text, with the table behind each mark made anew."""
     lines, is_old = [], False
     for line in text.split('\n'):
         if is_old and (not line or line.startswith('|')):
@@ -293,11 +291,11 @@ def filled(text, runs, later=False):
             lines.append('')
         lines.append(line)
         mark = MARK.fullmatch(line)
-        is_old = bool(mark) and bool(mark[1]) == later
-        if is_old:
-            least = dict(part.split() for part in (mark[3] or '').split(', ') if part)
+        is_old = bool(mark)
+        if mark:
+            least = dict(part.split() for part in (mark[2] or '').split(', ') if part)
             chosen = [run for run in runs if run.size >= int(least.get(run.grid, 1))]
-            lines += ['', TABLES[mark[2]](chosen)]
+            lines += ['', TABLES[mark[1]](chosen)]
     return '\n'.join(lines + [''] * is_old)
 
 
@@ -313,15 +311,12 @@ def publish(runs, top):
 
 
 if __name__ == '__main__':
-    is_later = sys.argv[1:2] == ['--later']
-    folders = sys.argv[1 + is_later:]
-    if not folders:
+    if len(sys.argv) < 2:
         sys.exit(__doc__)
-    made = sorted(map(Run, folders), key=Run.key)
+    made = sorted(map(Run, sys.argv[1:]), key=Run.key)
     if len({(run.program, run.commit) for run in made}) > 1:
         sys.exit('the runs are of several programs, and a table is of one')
     for name in ('README.md', 'docs/TABLES.md', 'docs/RUNS.md'):
         path = TOP / name
-        path.write_text(filled(path.read_text(encoding='utf-8'), made, is_later), encoding='utf-8')
-    if not is_later:
-        publish(made, TOP)
+        path.write_text(filled(path.read_text(encoding='utf-8'), made), encoding='utf-8')
+    publish(made, TOP)

@@ -111,13 +111,6 @@ class Tables(helpers.ToolTest):
         least = '<!-- bench/runs.py verdicts from hex 8 -->\n'
         self.assertEqual(RUNS.filled(least, [self.run_of()]).count('\n| '), 2)
 
-    def test_tables_of_a_later_program_stand_apart(self):
-        later = '<!-- bench/runs.py later program -->\n\n| as | it |\n'
-        plain = '<!-- bench/runs.py program -->\n\n| as | it |\n'
-        self.assertEqual(RUNS.filled(later, [self.run_of()]), later)
-        self.assertEqual(RUNS.filled(plain, [self.run_of()], True), plain)
-        self.assertIn('`abc`', RUNS.filled(later, [self.run_of()], True))
-
     def test_publish(self):
         """Small catalogues are copied, and four sizes get a page; of others nothing is made."""
         for folder in ('catalogues', 'docs/atlas'):
