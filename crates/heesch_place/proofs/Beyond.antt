@@ -2,7 +2,7 @@
 use Rattle.std.proofs.Common.{◌≡◌, refl, ℕ, ◌+◌, ◌-◌, Bool, true, false, not, ◌&&◌, List, [], ◌∷◌, ◌++◌, filter, get_or, Contains, sym, ap, subst, ◌∙◌, arith, inl, inr, true≢false}
 use Rattle.std.specs.List.{list_any}
 use Rattle.std.proofs.lemmas.Int.{ints}
-use Rattle.std.proofs.lemmas.Bool.{and_parts, and_from, cases_Bool, not-true, not_from_false}
+use Rattle.std.proofs.lemmas.Bool.{and_parts, and_from, false_from_ne_true, not-true, not_from_false}
 use Rattle.std.proofs.lemmas.List.Elements.{All-contains, Contains-append_cases, Contains-append_left, Contains-append_right}
 use Rattle.heesch_grid.specs.declared.Cell.{Cell}
 use Rattle.heesch_grid.specs.Listing.{ListsExactly}
@@ -11,12 +11,12 @@ use Rattle.heesch_grid.specs.CoronaFormula.{IsAtLevel}
 use Rattle.heesch_grid.specs.Geometry.{Geometry, IsGrid, IsCell, Touching}
 use Rattle.heesch_grid.specs.Integers.{same_truth}
 use Rattle.heesch_grid.specs.Pairs.{has-true}
-use Rattle.heesch_grid.specs.Placement.{Touch, touch}
+use Rattle.heesch_grid.specs.Placement.{Apart, Touch, touch}
 use Rattle.heesch_grid.specs.Vectors.{IsWithin}
 use Rattle.heesch_grid.proofs.CellFacts.{has-is, meet-true, meet-is}
 use Rattle.heesch_grid.proofs.GridFacts.{Touching-symmetric, touching_near}
 use Rattle.heesch_grid.proofs.ListFacts.{All-from_members, rising_filter, filter_member, member_filter, member_here, member_cases, no_member, any_member, member_any}
-use Rattle.heesch_grid.proofs.TileFacts.{Apart-symmetric, contact, touch_by}
+use Rattle.heesch_grid.proofs.TileFacts.{contact, touch_by}
 use Rattle.heesch_index.specs.Covering.{numbers_with}
 use Rattle.heesch_index.proofs.NumberFacts.{numbers_with-range, has-numbers_with, Contains-numbers_with}
 use Rattle.heesch_index.specs.Marking.{Marked, is_marked}
@@ -31,6 +31,60 @@ filtered {X} before P Q test xs ys is l f h =
       only = All-from_members Q (filter test xs) (λ x m. let k = filter_member test xs x m in f x (All-contains P xs x l.only k.0) k.1);
       every = λ x q. let k = h x q in member_filter test xs x (l.every x k.0) k.1;
     })
+
+-- what lists exactly what has a property lists exactly what has an equivalent one
+relisted : {X : Type 0} (before : X → X → Bool) (P Q : X → Type 0) (xs : List X) → ListsExactly before P xs → ((x : X) → P x → Q x) → ((x : X) → Q x → P x) → ListsExactly before Q xs
+relisted before P Q xs l f h = record {
+  rising = l.rising;
+  only = All-from_members Q xs (λ x m. f x (All-contains P xs x l.only m));
+  every = λ x q. l.every x (h x q);
+}
+
+-- marks of the shape's cells and of those around them
+module _ (g : Geometry) (shape : List Cell) (marks : Marked) where
+  pub near_of : (touching all : List Cell) → Adds (TouchesSome g (shape ∷ [])) [] touching → all ≡ touching ++ shape → ((c : Cell) → is_marked marks c ≡ has all c) → AreNear g shape marks
+  near_of touching all a is marked = record {
+    only = λ c h. elim (Contains-append_cases touching shape c (subst (λ zs. Contains zs c) is (has-true all c (sym (marked c) ∙ h)))) [
+      | inl t ↦ inr (let s = was_added (TouchesSome g (shape ∷ [])) touching c a t in elim (member_cases shape [] s.source s.inside) [ inl e ↦ subst (λ z. FromOne (Touching g) z c) (sym e) s.gives | inr none ↦ absurd (no_member s.source none) ])
+      | inr m ↦ inl m
+    ];
+    own = λ c m. marked c ∙ has-is all c (subst (λ zs. Contains zs c) (sym is) (Contains-append_right touching shape c m));
+    touching = λ c h. marked c ∙ has-is all c (subst (λ zs. Contains zs c) (sym is) (Contains-append_left touching shape c (a.all c (record { source = shape; inside = member_here shape []; gives = h }))));
+  }
+
+  module _ (near : AreNear g shape marks) (tile : List Cell) where
+    pub clear_is : not (list_any (is_marked marks) tile) ≡ (not (meet shape tile) && not (touch g shape tile))
+    clear_is = same_truth (not (list_any (is_marked marks) tile)) (not (meet shape tile) && not (touch g shape tile)) forth back
+      where
+        forth : not (list_any (is_marked marks) tile) ≡ true → (not (meet shape tile) && not (touch g shape tile)) ≡ true
+        forth h =
+            let none : (c : Cell) → Contains tile c → is_marked marks c ≡ true → ⊥ = λ c m k. true≢false (sym (member_any (is_marked marks) tile c m k) ∙ not-true (list_any (is_marked marks) tile) h) in
+            and_from (not (meet shape tile)) (not (touch g shape tile))
+            (not_from_false (meet shape tile) (false_from_ne_true (meet shape tile) (λ k. let d = meet-true shape tile k in none d.0 d.2 (near.own d.0 d.1))))
+            (not_from_false (touch g shape tile) (false_from_ne_true (touch g shape tile) (λ k. let d = contact g shape tile k in none d.second d.in_second (near.touching d.second (record { source = d.first; inside = d.in_first; gives = d.touching })))))
+
+        back : (not (meet shape tile) && not (touch g shape tile)) ≡ true → not (list_any (is_marked marks) tile) ≡ true
+        back h =
+            let b = and_parts (not (meet shape tile)) (not (touch g shape tile)) h in
+            let apart : meet shape tile ≡ false = not-true (meet shape tile) b.0 in
+            let clear : touch g shape tile ≡ false = not-true (touch g shape tile) b.1 in
+            not_from_false (list_any (is_marked marks) tile) (false_from_ne_true (list_any (is_marked marks) tile) (λ k.
+            let c = any_member (is_marked marks) tile k in
+            elim (near.only c.0 c.2) [
+              | inl m ↦ true≢false (sym (meet-is shape tile c.0 m c.1) ∙ apart)
+              | inr s ↦ true≢false (sym (touch_by g shape tile (record { apart = apart; first = s.source; second = c.0; in_first = s.inside; in_second = c.1; touching = s.gives })) ∙ clear)
+            ]))
+
+-- marks of the shape's own cells
+module _ (shape : List Cell) (marks : Marked) (marked : (c : Cell) → is_marked marks c ≡ has shape c) (tile : List Cell) where
+  clear_apart : list_any (is_marked marks) tile ≡ false → Apart shape tile
+  clear_apart h = false_from_ne_true (meet shape tile) (λ k. let d = meet-true shape tile k in true≢false (sym (member_any (is_marked marks) tile d.0 d.2 (marked d.0 ∙ has-is shape d.0 d.1)) ∙ h))
+
+  apart_clear : Apart shape tile → list_any (is_marked marks) tile ≡ false
+  apart_clear h =
+      false_from_ne_true (list_any (is_marked marks) tile) (λ k.
+      let c = any_member (is_marked marks) tile k in
+      true≢false (sym (meet-is shape tile c.0 (has-true shape c.0 (sym (marked c.0) ∙ c.2)) c.1) ∙ h))
 
 module _ (g : Geometry) (law : IsGrid g) (shape : List Cell) where
   -- a cell that touches a cell of the tile is one of the targets
@@ -49,18 +103,18 @@ module _ (g : Geometry) (law : IsGrid g) (shape : List Cell) where
       ]
 
   -- ---- the first level
-  pub first_level : (targets : List Cell) (tiles kept : List (List Cell)) → Adds (TouchesSome g (shape ∷ [])) [] targets → ListsExactly cells_before (IsPlacementOver g shape targets) tiles → kept ≡ filter (λ t. not (meet t shape)) tiles → ListsExactly cells_before (IsAtLevel g shape 1) kept
-  first_level targets tiles kept around over is =
-      filtered cells_before (IsPlacementOver g shape targets) (IsAtLevel g shape 1) (λ t. not (meet t shape)) tiles kept is over
-      (λ t p a.
+  pub first_level : (targets : List Cell) (own : Marked) (tiles : List (List Cell)) → Adds (TouchesSome g (shape ∷ [])) [] targets → ((c : Cell) → is_marked own c ≡ has shape c) → ListsExactly cells_before (IsPlacementOver g shape targets own) tiles → ListsExactly cells_before (IsAtLevel g shape 1) tiles
+  first_level targets own tiles around marked over =
+      relisted cells_before (IsPlacementOver g shape targets own) (IsAtLevel g shape 1) tiles over
+      (λ t p.
       let d = meet-true targets t p.meets in
       let from = was_added (TouchesSome g (shape ∷ [])) targets d.0 around d.1 in
       let in_shape : Contains shape from.gives.source = elim (member_cases shape [] from.source from.inside) [ inl e ↦ subst (λ z. Contains z from.gives.source) (sym e) from.gives.inside | inr none ↦ absurd (no_member from.source none) ] in
-      (p.placement, touch_by g shape t (record { apart = Apart-symmetric t shape (not-true (meet t shape) a); first = from.gives.source; second = d.0; in_first = in_shape; in_second = d.2; touching = from.gives.gives })))
+      (p.placement, touch_by g shape t (record { apart = clear_apart shape own marked t p.clear; first = from.gives.source; second = d.0; in_first = in_shape; in_second = d.2; touching = from.gives.gives })))
       (λ t l.
       let k = contact g shape t l.1 in
       let target = around.all k.second (record { source = shape; inside = member_here shape []; gives = record { source = k.first; inside = k.in_first; gives = k.touching } }) in
-      (record { placement = l.0; meets = meet-is targets t k.second target k.in_second }, not_from_false (meet t shape) (Apart-symmetric shape t k.apart)))
+      record { placement = l.0; meets = meet-is targets t k.second target k.in_second; clear = apart_clear shape own marked t k.apart })
 
   -- ---- the next level
   any_source : (inner : List (List Cell)) (t : List Cell) → list_any (λ s. touch g s t) inner ≡ true → FromOne (Touch g) inner t
@@ -69,22 +123,19 @@ module _ (g : Geometry) (law : IsGrid g) (shape : List Cell) where
   source_any : (inner : List (List Cell)) (t : List Cell) → FromOne (Touch g) inner t → list_any (λ s. touch g s t) inner ≡ true
   source_any inner t s = member_any (λ s. touch g s t) inner s.source s.inside s.gives
 
-  not_touch : (t : List Cell) → (Touch g shape t → ⊥) → touch g shape t ≡ false
-  not_touch t n = elim (cases_Bool (touch g shape t)) [ inl e ↦ absurd (n e) | inr f ↦ f ]
-
-  pub next_level : (inner : List (List Cell)) (targets : List Cell) (tiles kept : List (List Cell)) → Adds (TouchesSome g inner) [] targets → ListsExactly cells_before (IsPlacementOver g shape targets) tiles → kept ≡ filter (λ t. (not (meet shape t) && not (touch g shape t)) && list_any (λ s. touch g s t) inner) tiles → ListsExactly cells_before (IsBeyond g shape inner) kept
-  next_level inner targets tiles kept around over is =
-      filtered cells_before (IsPlacementOver g shape targets) (IsBeyond g shape inner) (λ t. (not (meet shape t) && not (touch g shape t)) && list_any (λ s. touch g s t) inner) tiles kept is over
+  pub next_level : (inner : List (List Cell)) (targets : List Cell) (near : Marked) (tiles kept : List (List Cell)) → Adds (TouchesSome g inner) [] targets → AreNear g shape near → ListsExactly cells_before (IsPlacementOver g shape targets near) tiles → kept ≡ filter (λ t. list_any (λ s. touch g s t) inner) tiles → ListsExactly cells_before (IsBeyond g shape inner) kept
+  next_level inner targets near tiles kept around is_near over is =
+      filtered cells_before (IsPlacementOver g shape targets near) (IsBeyond g shape inner) (λ t. list_any (λ s. touch g s t) inner) tiles kept is over
       (λ t p a.
-      let b = and_parts (not (meet shape t) && not (touch g shape t)) (list_any (λ s. touch g s t) inner) a in
-      let d = and_parts (not (meet shape t)) (not (touch g shape t)) b.0 in
-      record { placement = p.placement; apart = not-true (meet shape t) d.0; clear = λ y. true≢false (sym y ∙ not-true (touch g shape t) d.1); touched = any_source inner t b.1 })
+      let d = and_parts (not (meet shape t)) (not (touch g shape t)) (sym (clear_is g shape near is_near t) ∙ not_from_false (list_any (is_marked near) t) p.clear) in
+      record { placement = p.placement; apart = not-true (meet shape t) d.0; clear = λ y. true≢false (sym y ∙ not-true (touch g shape t) d.1); touched = any_source inner t a })
       (λ t l.
       let s = l.touched in
       let k = contact g s.source t s.gives in
-      let target = around.all k.second (record { source = s.source; inside = s.inside; gives = record { source = k.first; inside = k.in_first; gives = k.touching } }) in (
-        record { placement = l.placement; meets = meet-is targets t k.second target k.in_second },
-        and_from (not (meet shape t) && not (touch g shape t)) (list_any (λ s. touch g s t) inner) (and_from (not (meet shape t)) (not (touch g shape t)) (not_from_false (meet shape t) l.apart) (not_from_false (touch g shape t) (not_touch t l.clear))) (source_any inner t s),
+      let target = around.all k.second (record { source = s.source; inside = s.inside; gives = record { source = k.first; inside = k.in_first; gives = k.touching } }) in
+      let apart = and_from (not (meet shape t)) (not (touch g shape t)) (not_from_false (meet shape t) l.apart) (not_from_false (touch g shape t) (false_from_ne_true (touch g shape t) l.clear)) in (
+        record { placement = l.placement; meets = meet-is targets t k.second target k.in_second; clear = not-true (list_any (is_marked near) t) (clear_is g shape near is_near t ∙ apart) },
+        source_any inner t s,
       ))
 
 -- ---- cells around tiles, each once
@@ -103,45 +154,6 @@ module _ (g : Geometry) (tiles : List (List Cell)) (covered once : List Cell) (m
       record { source = s; inside = listed.every s (marked s ∙ has-is covered s (exact.all s (record { source = h.source; inside = h.inside; gives = h.gives.inside }))); gives = h.gives.gives })
       a
 
--- marks of the shape's cells and of those around them
-module _ (g : Geometry) (shape : List Cell) (marks : Marked) where
-  pub near_of : (touching all : List Cell) → Adds (TouchesSome g (shape ∷ [])) [] touching → all ≡ touching ++ shape → ((c : Cell) → is_marked marks c ≡ has all c) → AreNear g shape marks
-  near_of touching all a is marked = record {
-    only = λ c h. elim (Contains-append_cases touching shape c (subst (λ zs. Contains zs c) is (has-true all c (sym (marked c) ∙ h)))) [
-      | inl t ↦ inr (let s = was_added (TouchesSome g (shape ∷ [])) touching c a t in elim (member_cases shape [] s.source s.inside) [ inl e ↦ subst (λ z. FromOne (Touching g) z c) (sym e) s.gives | inr none ↦ absurd (no_member s.source none) ])
-      | inr m ↦ inl m
-    ];
-    own = λ c m. marked c ∙ has-is all c (subst (λ zs. Contains zs c) (sym is) (Contains-append_right touching shape c m));
-    touching = λ c h. marked c ∙ has-is all c (subst (λ zs. Contains zs c) (sym is) (Contains-append_left touching shape c (a.all c (record { source = shape; inside = member_here shape []; gives = h }))));
-  }
-
-  module _ (near : AreNear g shape marks) (tile : List Cell) where
-    not_true : (b : Bool) → (b ≡ true → ⊥) → b ≡ false
-    not_true true f = absurd (f refl)
-    not_true false f = refl
-
-    pub clear_is : not (list_any (is_marked marks) tile) ≡ (not (meet shape tile) && not (touch g shape tile))
-    clear_is = same_truth (not (list_any (is_marked marks) tile)) (not (meet shape tile) && not (touch g shape tile)) forth back
-      where
-        forth : not (list_any (is_marked marks) tile) ≡ true → (not (meet shape tile) && not (touch g shape tile)) ≡ true
-        forth h =
-            let none : (c : Cell) → Contains tile c → is_marked marks c ≡ true → ⊥ = λ c m k. true≢false (sym (member_any (is_marked marks) tile c m k) ∙ not-true (list_any (is_marked marks) tile) h) in
-            and_from (not (meet shape tile)) (not (touch g shape tile))
-            (not_from_false (meet shape tile) (not_true (meet shape tile) (λ k. let d = meet-true shape tile k in none d.0 d.2 (near.own d.0 d.1))))
-            (not_from_false (touch g shape tile) (not_true (touch g shape tile) (λ k. let d = contact g shape tile k in none d.second d.in_second (near.touching d.second (record { source = d.first; inside = d.in_first; gives = d.touching })))))
-
-        back : (not (meet shape tile) && not (touch g shape tile)) ≡ true → not (list_any (is_marked marks) tile) ≡ true
-        back h =
-            let b = and_parts (not (meet shape tile)) (not (touch g shape tile)) h in
-            let apart : meet shape tile ≡ false = not-true (meet shape tile) b.0 in
-            let clear : touch g shape tile ≡ false = not-true (touch g shape tile) b.1 in
-            not_from_false (list_any (is_marked marks) tile) (not_true (list_any (is_marked marks) tile) (λ k.
-            let c = any_member (is_marked marks) tile k in
-            elim (near.only c.0 c.2) [
-              | inl m ↦ true≢false (sym (meet-is shape tile c.0 m c.1) ∙ apart)
-              | inr s ↦ true≢false (sym (touch_by g shape tile (record { apart = apart; first = s.source; second = c.0; in_first = s.inside; in_second = c.1; touching = s.gives })) ∙ clear)
-            ]))
-
 -- a tile with the cell of its own is not apart from itself
 pub apart_own : (inner : List (List Cell)) (tile : List Cell) (c : Cell) → has tile c ≡ true → false ≡ is_apart_at inner tile c
 apart_own inner tile c h = sym (go (is_apart_at inner tile c) refl)
@@ -152,6 +164,17 @@ apart_own inner tile c h = sym (go (is_apart_at inner tile c) refl)
         let t = any_member (λ t. has t c && not (meet t tile)) inner e in
         let b = and_parts (has t.0 c) (not (meet t.0 tile)) t.2 in
         absurd (true≢false (sym (meet-is t.0 tile c (has-true t.0 c b.0) (has-true tile c h)) ∙ not-true (meet t.0 tile) b.1))
+
+-- from a cell that touches none of the inner tiles none is reached
+pub reached_none : (g : Geometry) → IsGrid g → (inner : List (List Cell)) (targets tile : List Cell) (c : Cell) → IsCell g c → Adds (TouchesSome g inner) [] targets → has targets c ≡ false → false ≡ list_any (is_apart_at inner tile) (g.touching c)
+reached_none g law inner targets tile c cell around none =
+    sym (false_from_ne_true (list_any (is_apart_at inner tile) (g.touching c)) (λ e.
+    let d = any_member (is_apart_at inner tile) (g.touching c) e in
+    let t = any_member (λ t. has t d.0 && not (meet t tile)) inner d.2 in
+    let both = and_parts (has t.0 d.0) (not (meet t.0 tile)) t.2 in
+    let touching = All-contains (Touching g c) (g.touching c) d.0 (law.touching_listed c cell).0.only d.1 in
+    let target = around.all c (record { source = t.0; inside = t.1; gives = record { source = d.0; inside = has-true t.0 d.0 both.0; gives = Touching-symmetric g law c d.0 touching } }) in
+    true≢false (sym (has-is targets c target) ∙ none)))
 
 -- ---- tiles by their numbers
 pub numbered_any : (inner : List (List Cell)) (tile : List Cell) (c : Cell) → list_any (λ n. not (meet (get_or inner (n - 1) []) tile)) (numbers_with inner c) ≡ is_apart_at inner tile c

@@ -1,8 +1,8 @@
--- Orientations that are moved: the placements that have a target.
-use Rattle.std.proofs.Common.{◌≡◌, refl, sym, ap, ◌∙◌, subst, ℕ, ◌+◌, ◌<◌, ◌≤◌, true, false, Bool, List, [], ◌∷◌, ◌++◌, map, length, take, get_or, inl, inr, ℤ, pos, ◌+ℤ◌, ◌-ℤ◌, neg_ℤ, ◌*ℤ◌, ◌≤ℤ◌, ◌<ℤ◌, ◌&&◌, nat_abs, Contains, arith, true≢false}
+-- Orientations that are moved: the placements that have a target and no barred cell.
+use Rattle.std.proofs.Common.{◌≡◌, refl, sym, ap, ◌∙◌, subst, ℕ, ◌+◌, ◌<◌, ◌≤◌, true, false, Bool, List, [], ◌∷◌, ◌++◌, map, length, take, get_or, inl, inr, ℤ, pos, ◌+ℤ◌, ◌-ℤ◌, neg_ℤ, ◌*ℤ◌, ◌≤ℤ◌, ◌<ℤ◌, ◌&&◌, ◌||◌, not, nat_abs, Contains, arith, true≢false}
 use Rattle.std.specs.List.{list_any}
 use Rattle.std.proofs.lemmas.Int.{ints}
-use Rattle.std.proofs.lemmas.Bool.{and_parts, or_cases, cases_lt}
+use Rattle.std.proofs.lemmas.Bool.{and_from, and_parts, not-true, not_from_false, or_cases, cases_lt}
 use Rattle.std.proofs.lemmas.List.Elements.{All-contains, Contains-append_cases, Contains-append_left, Contains-append_right}
 use Rattle.std.proofs.lemmas.List.{take_more, length-append, get_or_append_left, get_or_push}
 use Rattle.std.specs.Prelude.{IsTrue, int_lt}
@@ -21,7 +21,7 @@ use Rattle.heesch_grid.specs.Placement.{IsPlacement}
 use Rattle.heesch_grid.specs.Vectors.{AreUnitsOf, IsWithin, plus, minus}
 use Rattle.heesch_grid.proofs.CellFacts.{has-is, meet-true, meet-is}
 use Rattle.heesch_grid.proofs.ListFacts.{any_member, member_any, no_member, member_here, member_cases}
-use Rattle.heesch_grid.proofs.WindowFacts.{member_map, map_member}
+use Rattle.heesch_grid.proofs.WindowFacts.{map_member}
 use Rattle.heesch_index.specs.Marking.{IsBetween, Marked, Span, is_marked}
 use Rattle.heesch_place.specs.Found.{Adds, FromOne, IsMoved, AreTurned, AreOrientations, IsMovedOver, IsInRows, IsPlacementOver}
 use Rattle.heesch_place.specs.Steps.{IsFirstOf}
@@ -182,40 +182,48 @@ reach_more tiles i d m n a b f less old up sum begins near_f near t first c insi
     ]
 
 -- ---- one orientation and one first cell
-module _ (g : Geometry) (targets : Marked) (first : Cell) (t : List Cell) (x s : Cell) (fx : IsFirstOf t x) (d : plus s x ≡ first) where
+any_moved : (p : Cell → Bool) (f : Cell → Cell) (xs : List Cell) → list_any p (map f xs) ≡ list_any (λ c. p (f c)) xs
+any_moved p f [] = refl
+any_moved p f (x ∷ xs) = ap (λ b. p (f x) || b) (any_moved p f xs)
+
+module _ (g : Geometry) (targets barred : Marked) (first : Cell) (t : List Cell) (x s : Cell) (fx : IsFirstOf t x) (d : plus s x ≡ first) where
   abbrev over : List Cell → Type 0
-  over = IsMovedOver g targets first t
+  over = IsMovedOver g targets barred first t
 
-  abbrev marked_after : Cell → Bool
-  marked_after c = is_marked targets (plus s c)
+  abbrev has_marked : Marked → Bool
+  has_marked marks = list_any (λ c. is_marked marks (plus s c)) t
 
-  step_is : (tile : List Cell) (h : IsMovedOver g targets first t tile) → scaled g h.moved.units ≡ s
+  step_is : (tile : List Cell) (h : IsMovedOver g targets barred first t tile) → scaled g h.moved.units ≡ s
   step_is tile h = one_step t tile x first s (scaled g h.moved.units) fx h.begins d h.moved.is
 
-  tile_is : (tile : List Cell) (h : IsMovedOver g targets first t tile) → tile ≡ map (plus s) t
+  tile_is : (tile : List Cell) (h : IsMovedOver g targets barred first t tile) → tile ≡ map (plus s) t
   tile_is tile h = h.moved.is ∙ ap (λ m. map (plus m) t) (step_is tile h)
 
-  pub no_units : (old : List (List Cell)) (unit : ℤ) → unit ≡ pos g.unit → ((units : Cell) → AreUnitsOf unit units s → ⊥) → Adds (IsMovedOver g targets first t) old old
+  marked_is : (marks : Marked) (tile : List Cell) → tile ≡ map (plus s) t → list_any (is_marked marks) tile ≡ has_marked marks
+  marked_is marks tile is = ap (list_any (is_marked marks)) is ∙ any_moved (is_marked marks) (plus s) t
+
+  pub no_units : (old : List (List Cell)) (unit : ℤ) → unit ≡ pos g.unit → ((units : Cell) → AreUnitsOf unit units s → ⊥) → Adds (IsMovedOver g targets barred first t) old old
   no_units old unit e none =
       adds_nothing over old (λ tile h.
       let u = h.moved.units in
       none (cell u.a u.b) (must_be_units g unit (record { turn = 0; da = u.a; db = u.b }) s e (step_is tile h)))
 
-  pub no_target : (old : List (List Cell)) → list_any (λ c. is_marked targets (plus s c)) t ≡ false → Adds (IsMovedOver g targets first t) old old
-  no_target old none =
+  pub not_fitting : (old : List (List Cell)) → (list_any (λ c. is_marked targets (plus s c)) t && not (list_any (λ c. is_marked barred (plus s c)) t)) ≡ false → Adds (IsMovedOver g targets barred first t) old old
+  not_fitting old none =
       adds_nothing over old (λ tile h.
-      let m = any_member (is_marked targets) (map (plus s) t) (subst (λ zs. list_any (is_marked targets) zs ≡ true) (tile_is tile h) h.meets) in
-      let c = map_member (plus s) t m.0 m.1 in
-      true≢false (sym (member_any marked_after t c.0 c.1 (ap (is_marked targets) c.2 ∙ m.2)) ∙ none))
+      let meets : has_marked targets ≡ true = sym (marked_is targets tile (tile_is tile h)) ∙ h.meets in
+      let clear : has_marked barred ≡ false = sym (marked_is barred tile (tile_is tile h)) ∙ h.clear in
+      true≢false (sym (and_from (has_marked targets) (not (has_marked barred)) meets (not_from_false (has_marked barred) clear)) ∙ none))
 
-  pub one_target : (old new : List (List Cell)) (made : List Cell) (units : Cell) → scaled g units ≡ s → made ≡ map (plus (scaled g units)) t → list_any (λ c. is_marked targets (plus s c)) t ≡ true → new ≡ old ++ made ∷ [] → Adds (IsMovedOver g targets first t) old new
-  one_target old new made units e is some pushed =
-      let c = any_member marked_after t some in
+  pub fitting : (old new : List (List Cell)) (made : List Cell) (units : Cell) → scaled g units ≡ s → made ≡ map (plus (scaled g units)) t → (list_any (λ c. is_marked targets (plus s c)) t && not (list_any (λ c. is_marked barred (plus s c)) t)) ≡ true → new ≡ old ++ made ∷ [] → Adds (IsMovedOver g targets barred first t) old new
+  fitting old new made units e is both pushed =
+      let parts = and_parts (has_marked targets) (not (has_marked barred)) both in
       let is' : made ≡ map (plus s) t = is ∙ ap (λ m. map (plus m) t) e in
       adds_one over old new made pushed (record {
         moved = record { units = units; is = is };
         begins = record { rest = map (plus s) fx.rest; is = is' ∙ ap (map (plus s)) fx.is ∙ ap (λ z. z ∷ map (plus s) fx.rest) d };
-        meets = subst (λ zs. list_any (is_marked targets) zs ≡ true) (sym is') (member_any (is_marked targets) (map (plus s) t) (plus s c.0) (member_map (plus s) t c.0 c.1) c.2);
+        meets = marked_is targets made is' ∙ parts.0;
+        clear = marked_is barred made is' ∙ not-true (has_marked barred) parts.1;
       }) (λ tile h. tile_is tile h ∙ sym is')
 
 -- ---- all orientations and all first cells of a box
@@ -256,13 +264,14 @@ no_row_below xs x c rising first m =
       | inr k ↦ rows_after x c (All-contains (λ y. IsTrue (cell_before x y)) first.rest c all.0 k)
     ]
 
-module _ (g : Geometry) (shape targets : List Cell) (marks : Marked) (orientations : List (List Cell)) (is : AreOrientations g shape orientations) (marked : (c : Cell) → is_marked marks c ≡ has targets c) where
-  pub over_only : (tile : List Cell) (first : Cell) → FromOne (IsMovedOver g marks first) orientations tile → IsPlacementOver g shape targets tile
+module _ (g : Geometry) (shape targets : List Cell) (marks barred : Marked) (orientations : List (List Cell)) (is : AreOrientations g shape orientations) (marked : (c : Cell) → is_marked marks c ≡ has targets c) where
+  pub over_only : (tile : List Cell) (first : Cell) → FromOne (IsMovedOver g marks barred first) orientations tile → IsPlacementOver g shape targets barred tile
   over_only tile first h =
       let d = any_member (is_marked marks) tile h.gives.meets in
       record {
         placement = placement_moved g shape h.source tile (is.placed h.source h.inside) h.gives.moved;
         meets = meet-is targets tile d.0 (has-true targets d.0 (sym (marked d.0) ∙ d.2)) d.1;
+        clear = h.gives.clear;
       }
 
   begins_with : (xs : List Cell) (c : Cell) → Contains xs c → (x : Cell) × IsFirstOf xs x
@@ -277,9 +286,9 @@ module _ (g : Geometry) (shape targets : List Cell) (marks : Marked) (orientatio
       a_high : first.a ≤ℤ (to.a +ℤ pos far)
       b_low : (from.b -ℤ pos far) ≤ℤ first.b
       b_high : first.b ≤ℤ to.b
-      one : FromOne (IsMovedOver g marks first) orientations tile
+      one : FromOne (IsMovedOver g marks barred first) orientations tile
 
-    over_every : (tile : List Cell) → IsPlacementOver g shape targets tile → Begins tile
+    over_every : (tile : List Cell) → IsPlacementOver g shape targets barred tile → Begins tile
     over_every tile h =
         let o = is.every tile h.placement in
         let t = o.source in
@@ -299,7 +308,7 @@ module _ (g : Geometry) (shape targets : List Cell) (marks : Marked) (orientatio
           a_high = omega (arith, ints, w.a_high, r.a_high, ea);
           b_low = omega (arith, ints, w.b_low, r.b_low, eb);
           b_high = omega (arith, ints, w.b_high, below);
-          one = record { source = t; inside = o.inside; gives = record { moved = o.gives; begins = begins; meets = member_any (is_marked marks) tile d.0 d.2 (marked d.0 ∙ has-is targets d.0 d.1) } };
+          one = record { source = t; inside = o.inside; gives = record { moved = o.gives; begins = begins; meets = member_any (is_marked marks) tile d.0 d.2 (marked d.0 ∙ has-is targets d.0 d.1); clear = h.clear } };
         }
 
     -- a coordinate by its place from the low one on
@@ -308,13 +317,13 @@ module _ (g : Geometry) (shape targets : List Cell) (marks : Marked) (orientatio
 
     -- what all rows have are the placements over the targets
     pub rows_over : (low : Cell) (wide tall : ℕ) (old new : List (List Cell)) → low.a ≡ from.a -ℤ pos far → low.b ≡ from.b -ℤ pos far → (to.a +ℤ pos far) <ℤ (low.a +ℤ pos wide) → to.b <ℤ (low.b +ℤ pos tall)
-        → Adds (IsInRows g marks orientations low wide tall) old new → Adds (IsPlacementOver g shape targets) old new
+        → Adds (IsInRows g marks barred orientations low wide tall) old new → Adds (IsPlacementOver g shape targets barred) old new
     rows_over low wide tall old new a_is b_is a_room b_room a =
-        adds_same (IsInRows g marks orientations low wide tall) (IsPlacementOver g shape targets) old new
+        adds_same (IsInRows g marks barred orientations low wide tall) (IsPlacementOver g shape targets barred) old new
         (λ tile h. over_only tile (cell (low.a +ℤ pos h.2.0) (low.b +ℤ pos h.0)) h.2.2)
         (λ tile h.
         let f = over_every tile h in
         let i = placed_from low.a f.first.a wide (omega (arith, ints, a_is, f.a_low)) (omega (arith, ints, a_room, f.a_high)) in
         let j = placed_from low.b f.first.b tall (omega (arith, ints, b_is, f.b_low)) (omega (arith, ints, b_room, f.b_high)) in
-        (j.0, j.1, (i.0, i.1, subst (λ c. FromOne (IsMovedOver g marks c) orientations tile) (sym (Cell-eta (cell (low.a +ℤ pos i.0) (low.b +ℤ pos j.0)) f.first i.2 j.2)) f.one)))
+        (j.0, j.1, (i.0, i.1, subst (λ c. FromOne (IsMovedOver g marks barred c) orientations tile) (sym (Cell-eta (cell (low.a +ℤ pos i.0) (low.b +ℤ pos j.0)) f.first i.2 j.2)) f.one)))
         a

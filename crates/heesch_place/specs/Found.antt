@@ -1,5 +1,5 @@
 -- Lists to which is added what other lists give, and where the placements of a level come from.
-use Rattle.std.specs.Prelude.{◌≡◌, ℕ, ◌⊎◌, ◌<◌, Bool, true, not, ◌&&◌, List, pos, ◌+ℤ◌, ◌*ℤ◌, Contains, map, length, slice_index_or, []}
+use Rattle.std.specs.Prelude.{◌≡◌, ℕ, ◌⊎◌, ◌<◌, Bool, true, false, not, ◌&&◌, List, pos, ◌+ℤ◌, ◌*ℤ◌, Contains, map, length, slice_index_or, []}
 use Rattle.std.specs.List.{list_any}
 use Rattle.heesch_grid.specs.declared.Cell.{Cell}
 use Rattle.heesch_grid.specs.Cells.{cell, has, meet, IsCellListOf}
@@ -53,24 +53,26 @@ pub record IsPrepared (g : Geometry) (shape : List Cell) (turned orientations : 
   pub are_orientations : AreOrientations g shape orientations
   pub are_near : AreNear g shape near
 
--- the tile is the orientation, moved by whole units so that its first cell is this one, and has a marked cell
-pub record IsMovedOver (g : Geometry) (targets : Marked) (first : Cell) (orientation tile : List Cell) : Type 0 where
+-- the tile is the orientation, moved by whole units so that its first cell is this one, and has a target and no barred cell
+pub record IsMovedOver (g : Geometry) (targets barred : Marked) (first : Cell) (orientation tile : List Cell) : Type 0 where
   pub moved : IsMoved g orientation tile
   pub begins : IsFirstOf tile first
   pub meets : list_any (is_marked targets) tile ≡ true
+  pub clear : list_any (is_marked barred) tile ≡ false
 
--- the tile is an orientation, moved over a target and beginning in the row of so many cells from `low` on
-abbrev pub IsInRow : Geometry → Marked → List (List Cell) → Cell → ℕ → List Cell → Type 0
-IsInRow g targets orientations low wide tile = (i : ℕ) × (i < wide) × FromOne (IsMovedOver g targets (cell (low.a +ℤ pos i) low.b)) orientations tile
+-- the tile is an orientation, moved over a target and no barred cell and beginning in the row of so many cells from `low` on
+abbrev pub IsInRow : Geometry → (targets barred : Marked) → List (List Cell) → Cell → ℕ → List Cell → Type 0
+IsInRow g targets barred orientations low wide tile = (i : ℕ) × (i < wide) × FromOne (IsMovedOver g targets barred (cell (low.a +ℤ pos i) low.b)) orientations tile
 
--- the tile is an orientation, moved over a target and beginning in one of so many rows, each of so many cells, from `low` on
-abbrev pub IsInRows : Geometry → Marked → List (List Cell) → Cell → (wide tall : ℕ) → List Cell → Type 0
-IsInRows g targets orientations low wide tall tile = (row : ℕ) × (row < tall) × IsInRow g targets orientations (cell low.a (low.b +ℤ pos row)) wide tile
+-- the tile is an orientation, moved over a target and no barred cell and beginning in one of so many rows, each of so many cells, from `low` on
+abbrev pub IsInRows : Geometry → (targets barred : Marked) → List (List Cell) → Cell → (wide tall : ℕ) → List Cell → Type 0
+IsInRows g targets barred orientations low wide tall tile = (row : ℕ) × (row < tall) × IsInRow g targets barred orientations (cell low.a (low.b +ℤ pos row)) wide tile
 
--- the tile is a placement that has one of the targets
-pub record IsPlacementOver (g : Geometry) (shape targets tile : List Cell) : Type 0 where
+-- the tile is a placement that has one of the targets and no barred cell
+pub record IsPlacementOver (g : Geometry) (shape targets : List Cell) (barred : Marked) (tile : List Cell) : Type 0 where
   pub placement : IsPlacement g shape tile
   pub meets : meet targets tile ≡ true
+  pub clear : list_any (is_marked barred) tile ≡ false
 
 -- whether one of the inner tiles has the cell and is apart from the tile
 abbrev pub is_apart_at : List (List Cell) → List Cell → Cell → Bool
@@ -82,3 +84,8 @@ pub record IsBeyond (g : Geometry) (shape : List Cell) (inner : List (List Cell)
   pub apart : Apart shape tile
   pub clear : ¬ Touch g shape tile
   pub touched : FromOne (Touch g) inner tile
+
+-- the index is that of the tiles, and the targets are the cells that touch one of them
+pub record IsLevelOf (g : Geometry) (tiles index : List (List Cell)) (targets : List Cell) : Type 0 where
+  pub indexed : index ≡ tiles
+  pub around : Adds (TouchesSome g tiles) [] targets

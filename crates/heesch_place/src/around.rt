@@ -1,7 +1,7 @@
-//! The cells that touch tiles.
+//! The cells that touch tiles, as lists and as marks.
 ghost use Rattle.std.specs.Prelude.{◌≡◌, [], Contains, OnOk, IfOk};
-ghost use Rattle.std.specs.List.{list_any};
 ghost use Rattle.heesch_grid.specs.declared.Cell.{Cell};
+ghost use Rattle.heesch_grid.specs.Cells.{has};
 ghost use Rattle.heesch_grid.specs.Geometry.{IsCell, Touching};
 ghost use Rattle.heesch_grid.specs.Vectors.{IsWithin};
 ghost use Rattle.heesch_index.specs.Marking.{is_marked};
@@ -13,13 +13,7 @@ use heesch_index::CellMarks;
 use heesch_io::NoMemory;
 use heesch_shape::Shape;
 use std::alloc::Global;
-
-/// Whether one of the cells is marked.
-pub(crate) fn has_marked(cells: &[Cell], marks: &CellMarks) -> bool
-    ensures { result ≡ list_any (is_marked marks.now) cells.now }
-{
-    cells.iter().any(|c| marks.has(*c))
-}
+use std::marker::Model;
 
 /// Adds the cells that touch c.
 fn add_touching<G: Grid>(all: &mut Vec<Cell>, c: Cell) -> Result<(), NoMemory>
@@ -61,4 +55,56 @@ pub(crate) fn cells_touching<G: Grid>(
         add_touching::<G>(&mut all, *c)?;
     }
     Ok(all)
+}
+
+/// Cells of which a tile is to have one, as a list and as marks.
+#[derive(Drop)]
+pub(crate) struct Targets {
+    cells: Vec<Cell>,
+    marks: CellMarks,
+}
+
+impl Model for Targets {
+    ghost use Rattle.std.specs.Prelude.{◌≡◌, List};
+    ghost use Rattle.heesch_grid.specs.declared.Cell.{Cell};
+    ghost use Rattle.heesch_grid.specs.Cells.{has};
+    ghost use Rattle.heesch_index.specs.Marking.{is_marked};
+
+    ghost Value = { List Cell };
+
+    ghost view = { λ t. t.cells.items };
+
+    ghost invariant = { λ t. (c : Cell) → is_marked t.marks c ≡ has t.cells.items c };
+}
+
+impl Targets {
+    /// The cells that touch a cell of one of the tiles.
+    pub(crate) fn around<G: Grid>(alloc: Global, tiles: &[Shape<G>]) -> Result<Targets, NoMemory>
+        ensures { IfOk result (λ targets. Adds (TouchesSome G.geometry tiles.now) [] targets) }
+    {
+        let cells = cells_touching(alloc, tiles)?;
+        let marks = CellMarks::of(alloc, cells.as_slice())?;
+        Ok(Targets { cells, marks })
+    }
+
+    /// The cells, in any order; one may stand there more than once.
+    pub(crate) fn cells(&self) -> &[Cell]
+        ensures { result.now ≡ self.now }
+    {
+        self.cells.as_slice()
+    }
+
+    /// Their marks.
+    pub(crate) fn marks(&self) -> &CellMarks
+        ensures { (c : Cell) → is_marked result.now c ≡ has self.now c }
+    {
+        &self.marks
+    }
+
+    /// Whether the cell, which may be any, is one of them. One mark is read.
+    pub(crate) fn has(&self, c: Cell) -> bool
+        ensures { result ≡ has self.now c }
+    {
+        self.marks.has(c)
+    }
 }

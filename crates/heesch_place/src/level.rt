@@ -1,8 +1,8 @@
 //! The placements of one level.
-ghost use Rattle.std.specs.Prelude.{◌≡◌, ◌&&◌, true, not, List, Contains, IfOk};
+ghost use Rattle.std.specs.Prelude.{◌≡◌, true, List, Contains, IfOk};
 ghost use Rattle.std.specs.List.{list_any};
 ghost use Rattle.heesch_grid.specs.declared.Cell.{Cell};
-ghost use Rattle.heesch_grid.specs.Cells.{cells_before, has, meet};
+ghost use Rattle.heesch_grid.specs.Cells.{cells_before, has};
 ghost use Rattle.heesch_grid.specs.CoronaFormula.{IsAtLevel};
 ghost use Rattle.heesch_grid.specs.Geometry.{IsCell};
 ghost use Rattle.heesch_grid.specs.Listing.{ListsExactly};
@@ -10,33 +10,35 @@ ghost use Rattle.heesch_grid.specs.Placement.{touch};
 ghost use Rattle.heesch_grid.specs.Vectors.{IsWithin};
 ghost use Rattle.heesch_place.specs.Found.{is_apart_at, IsBeyond};
 
-use crate::around::cells_touching;
+use crate::around::Targets;
 use crate::onto::placements_over;
 use crate::prototile::Prototile;
 use heesch_grid::{Cell, Grid};
-use heesch_index::{CellSets, CellTable};
+use heesch_index::{CellMarks, CellSets, CellTable};
 use heesch_io::NoMemory;
 use heesch_shape::Shape;
 use std::alloc::Global;
 use std::marker::Model;
 use std::slice::from_ref;
 
-/// The placements of a level, with a table by cell.
+/// The placements of a level, with a table by cell and the cells that touch one of them.
 #[derive(Drop)]
 pub(crate) struct Level<G: Grid> {
     tiles: Vec<Shape<G>>,
     table: CellTable,
+    targets: Targets,
 }
 
 impl<G: Grid> Model for Level<G> {
-    ghost use Rattle.std.specs.Prelude.{◌≡◌, List};
+    ghost use Rattle.std.specs.Prelude.{List};
     ghost use Rattle.heesch_grid.specs.declared.Cell.{Cell};
+    ghost use Rattle.heesch_place.specs.Found.{IsLevelOf};
 
     ghost Value = { List (List Cell) };
 
     ghost view = { λ s. s.tiles.items };
 
-    ghost invariant = { λ s. s.table ≡ s.tiles.items };
+    ghost invariant = { λ s. IsLevelOf G.geometry s.tiles.items s.table s.targets };
 }
 
 /// The table of the tiles.
@@ -60,10 +62,9 @@ pub(crate) fn first_level<G: Grid>(
     ensures { IfOk result (λ tiles. ListsExactly cells_before (IsAtLevel G.geometry prototile.now 1) tiles.items) }
 {
     let shape = prototile.shape();
-    let targets = cells_touching(alloc, from_ref(shape))?;
-    let mut tiles = placements_over(alloc, prototile, targets.as_slice())?;
-    tiles.retain(|tile| !tile.meets(shape));
-    Ok(tiles)
+    let targets = Targets::around(alloc, from_ref(shape))?;
+    let own = CellMarks::of(alloc, shape.cells())?;
+    placements_over(alloc, prototile, &targets, &own)
 }
 
 impl<G: Grid> Level<G> {
@@ -72,7 +73,12 @@ impl<G: Grid> Level<G> {
         ensures { IfOk result (λ level. level ≡ tiles.items) }
     {
         let table = table_of(alloc, tiles.as_slice())?;
-        Ok(Level { tiles, table })
+        let targets = Targets::around(alloc, tiles.as_slice())?;
+        Ok(Level {
+            tiles,
+            table,
+            targets,
+        })
     }
 
     /// The tiles, alone.
@@ -86,10 +92,11 @@ impl<G: Grid> Level<G> {
     fn is_apart_at(&self, c: Cell, tile: &Shape<G>) -> bool
         ensures { result ≡ is_apart_at self.now tile.now c }
     {
-        if tile.has(c) {
+        let numbers = self.table.covering(c);
+        if numbers.is_empty() || tile.has(c) {
             return false;
         }
-        for number in self.table.covering(c) {
+        for number in numbers {
             if !self.tiles[*number as usize - 1].meets(tile) {
                 return true;
             }
@@ -97,12 +104,16 @@ impl<G: Grid> Level<G> {
         false
     }
 
-    /// Whether one of the tiles has a cell that touches c and is apart from the tile.
+    /// Whether one of the tiles has a cell that touches c and is apart from the tile. The cells around c
+    /// are looked at only where c touches one of the tiles.
     fn is_reached_from(&self, c: Cell, tile: &Shape<G>) -> bool
         requires cell { IsCell G.geometry c }
         requires within { IsWithin 1000000 c }
         ensures { result ≡ list_any (is_apart_at self.now tile.now) (G.geometry.touching c) }
     {
+        if !self.targets.has(c) {
+            return false;
+        }
         for i in 0..G::TOUCHING {
             if self.is_apart_at(G::touching(c, i), tile) {
                 return true;
@@ -125,14 +136,6 @@ impl<G: Grid> Level<G> {
         false
     }
 
-    /// Whether the tile is apart from the shape, does not touch it, and touches one of the tiles.
-    fn is_next(&self, prototile: &Prototile<G>, tile: &Shape<G>) -> bool
-        ensures { result ≡ ((not (meet prototile.now tile.now) && not (touch G.geometry prototile.now tile.now))
-            && list_any (λ inner. touch G.geometry inner tile.now) self.now) }
-    {
-        prototile.is_clear(tile) && self.touches(tile)
-    }
-
     /// The placements apart from the shape and not touching it that touch one of the tiles, by their
     /// cell lists. For each cell that may be the first of one, each orientation is tried once.
     pub(crate) fn next(
@@ -144,9 +147,8 @@ impl<G: Grid> Level<G> {
         ensures { IfOk result (λ tiles.
             ListsExactly cells_before (IsBeyond G.geometry prototile.now self.now) tiles.items) }
     {
-        let targets = cells_touching(alloc, self.tiles.as_slice())?;
-        let mut tiles = placements_over(alloc, prototile, targets.as_slice())?;
-        tiles.retain(|tile| self.is_next(prototile, tile));
+        let mut tiles = placements_over(alloc, prototile, &self.targets, prototile.near())?;
+        tiles.retain(|tile| self.touches(tile));
         Ok(tiles)
     }
 }

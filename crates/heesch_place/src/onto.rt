@@ -1,6 +1,6 @@
-//! Placements that have one of some cells.
+//! Placements that have one of some cells and none of others.
 ghost use Rattle.std.specs.Prelude.{◌≡◌, ℕ, ◌+◌, ◌*◌, ◌<◌, ◌≤◌, pos, ◌+ℤ◌, ◌-ℤ◌, ◌≤ℤ◌};
-ghost use Rattle.std.specs.Prelude.{true, List, Contains, OnOk, IfOk};
+ghost use Rattle.std.specs.Prelude.{true, not, ◌&&◌, List, Contains, OnOk, IfOk};
 ghost use Rattle.std.specs.List.{list_any};
 ghost use Rattle.heesch_grid.specs.declared.Cell.{Cell};
 ghost use Rattle.heesch_grid.specs.Cells.{cell, cells_before, has};
@@ -11,6 +11,7 @@ ghost use Rattle.heesch_place.specs.Found.{Adds, FromOne, IsMovedOver};
 ghost use Rattle.heesch_place.specs.Found.{IsInRow, IsInRows, IsPlacementOver};
 ghost use Rattle.heesch_place.specs.Steps.{IsFirstOf};
 
+use crate::around::Targets;
 use crate::lists::{add, listed_tiles};
 use crate::prototile::Prototile;
 use crate::turned::first_of;
@@ -35,25 +36,36 @@ fn reaches(cells: &[Cell], step: Cell, marks: &CellMarks) -> bool
     false
 }
 
+/// Whether one of the cells, moved by the step, is a target, and none is barred.
+fn fits(cells: &[Cell], step: Cell, targets: &CellMarks, barred: &CellMarks) -> bool
+    requires cells { (c : Cell) → has cells.now c ≡ true → IsWithin 5000 c }
+    requires step { IsWithin 300000 step }
+    ensures { result ≡ (list_any (λ c. is_marked targets.now (plus step c)) cells.now
+        && not (list_any (λ c. is_marked barred.now (plus step c)) cells.now)) }
+{
+    reaches(cells, step, targets) && !reaches(cells, step, barred)
+}
+
 /// Adds the orientation, moved to have this first cell, where the move is by whole units and
-/// the tile has a target.
+/// the tile has a target and no barred cell.
 fn add_moved<G: Grid>(
     all: &mut Vec<Shape<G>>,
     orientation: &Shape<G>,
     first: Cell,
     targets: &CellMarks,
+    barred: &CellMarks,
 ) -> Result<(), NoMemory>
     requires near { (c : Cell) → has orientation.now c ≡ true → IsWithin 5000 c }
     requires first { IsWithin 200000 first }
     ensures { OnOk result
-        (Adds (IsMovedOver G.geometry targets.now first orientation.now) all.old.items all.new.items) }
+        (Adds (IsMovedOver G.geometry targets.now barred.now first orientation.now) all.old.items all.new.items) }
 {
     let cells = orientation.cells();
     let step = difference(first_of(cells), first);
     let Some(units) = units_of(step, G::UNIT) else {
         return Ok(());
     };
-    if !reaches(cells, step, targets) {
+    if !fits(cells, step, targets, barred) {
         return Ok(());
     }
     let by = Iso {
@@ -64,20 +76,22 @@ fn add_moved<G: Grid>(
     add(all, orientation.image(by))
 }
 
-/// Adds the orientations, each moved to have this first cell, that have a target then.
+/// Adds the orientations, each moved to have this first cell, that have a target and no barred cell then.
 fn add_with_first<G: Grid>(
     all: &mut Vec<Shape<G>>,
     orientations: &[Shape<G>],
     first: Cell,
     targets: &CellMarks,
+    barred: &CellMarks,
 ) -> Result<(), NoMemory>
     requires near { (t : List Cell) (c : Cell) → Contains orientations.now t → has t c ≡ true → IsWithin 5000 c }
     requires first { IsWithin 200000 first }
     ensures { OnOk result
-        (Adds (FromOne (IsMovedOver G.geometry targets.now first) orientations.now) all.old.items all.new.items) }
+        (Adds (FromOne (IsMovedOver G.geometry targets.now barred.now first) orientations.now)
+        all.old.items all.new.items) }
 {
     for orientation in orientations {
-        add_moved(all, orientation, first, targets)?;
+        add_moved(all, orientation, first, targets, barred)?;
     }
     Ok(())
 }
@@ -114,15 +128,16 @@ fn add_row<G: Grid>(
     low: Cell,
     wide: u32,
     targets: &CellMarks,
+    barred: &CellMarks,
 ) -> Result<(), NoMemory>
     requires near { (t : List Cell) (c : Cell) → Contains orientations.now t → has t c ≡ true → IsWithin 5000 c }
     requires low { IsWithin 150000 low }
     requires wide { (low.a +ℤ pos wide) ≤ℤ pos 200000 }
     ensures { OnOk result
-        (Adds (IsInRow G.geometry targets.now orientations.now low wide) all.old.items all.new.items) }
+        (Adds (IsInRow G.geometry targets.now barred.now orientations.now low wide) all.old.items all.new.items) }
 {
     for i in 0..wide {
-        add_with_first(all, orientations, along(low, i), targets)?;
+        add_with_first(all, orientations, along(low, i), targets, barred)?;
     }
     Ok(())
 }
@@ -150,17 +165,25 @@ fn add_rows<G: Grid>(
     orientations: &[Shape<G>],
     rows: Rows,
     targets: &CellMarks,
+    barred: &CellMarks,
 ) -> Result<(), NoMemory>
     requires near { (t : List Cell) (c : Cell) → Contains orientations.now t → has t c ≡ true → IsWithin 5000 c }
     requires low { IsWithin 110000 rows.low }
     requires wide { (rows.low.a +ℤ pos rows.wide) ≤ℤ pos 200000 }
     requires tall { (rows.low.b +ℤ pos rows.tall) ≤ℤ pos 110001 }
     ensures { OnOk result
-        (Adds (IsInRows G.geometry targets.now orientations.now rows.low rows.wide rows.tall)
+        (Adds (IsInRows G.geometry targets.now barred.now orientations.now rows.low rows.wide rows.tall)
         all.old.items all.new.items) }
 {
     for row in 0..rows.tall {
-        add_row(all, orientations, above(rows.low, row), rows.wide, targets)?;
+        add_row(
+            all,
+            orientations,
+            above(rows.low, row),
+            rows.wide,
+            targets,
+            barred,
+        )?;
     }
     Ok(())
 }
@@ -241,26 +264,28 @@ fn rows_around(corners: Corners, far: u32) -> Rows
     }
 }
 
-/// The placements that have one of the targets, each once, in the order of their cell lists.
+/// The placements that have one of the targets and no barred cell, each once, in the order of their cell
+/// lists.
 ///
-/// For each cell that may be the first of such a placement, and each orientation, it looks among
-/// marks of the targets for the cells. Such cells lie in the least box that has (0, 0) and the targets,
-/// widened by the reach of the orientations. Tiles come in their order, so that the sort is one walk.
+/// For each cell that may be the first of such a placement, and each orientation, it looks among the
+/// marks for the cells, and makes the tile only where it is one of them. Such first cells lie in the
+/// least box that has (0, 0) and the targets, widened by the reach of the orientations. Tiles come in
+/// their order, so that the sort is one walk.
 pub(crate) fn placements_over<G: Grid>(
     alloc: Global,
     prototile: &Prototile<G>,
-    targets: &[Cell],
+    targets: &Targets,
+    barred: &CellMarks,
 ) -> Result<Vec<Shape<G>>, NoMemory>
     requires { (c : Cell) → has targets.now c ≡ true → IsWithin 100000 c }
     ensures { IfOk result (λ all.
-        ListsExactly cells_before (IsPlacementOver G.geometry prototile.now targets.now) all.items) }
+        ListsExactly cells_before (IsPlacementOver G.geometry prototile.now targets.now barred.now) all.items) }
 {
     let orientations = prototile.orientations();
-    let marks = CellMarks::of(alloc, targets)?;
     let zero = Cell { a: 0, b: 0 };
-    let corners = Corners::at(zero).with_all(targets);
+    let corners = Corners::at(zero).with_all(targets.cells());
     let rows = rows_around(corners, reach(orientations));
     let mut all = Vec::new(alloc);
-    add_rows(&mut all, orientations, rows, &marks)?;
+    add_rows(&mut all, orientations, rows, targets.marks(), barred)?;
     Ok(listed_tiles(all))
 }

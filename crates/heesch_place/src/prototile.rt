@@ -1,12 +1,11 @@
 //! The shape whose placements are listed, and what is made of it once.
-ghost use Rattle.std.specs.Prelude.{◌≡◌, ◌<◌, ◌&&◌, ◌≤◌, ◌≤ℤ◌, pos, nat_abs, true, not, List, Contains, IfOk};
+ghost use Rattle.std.specs.Prelude.{◌≡◌, ◌<◌, ◌≤◌, ◌≤ℤ◌, pos, nat_abs, true, List, Contains, IfOk};
 ghost use Rattle.heesch_grid.specs.declared.Cell.{Cell};
-ghost use Rattle.heesch_grid.specs.Cells.{has, meet};
-ghost use Rattle.heesch_grid.specs.Placement.{touch};
+ghost use Rattle.heesch_grid.specs.Cells.{has};
 ghost use Rattle.heesch_grid.specs.Vectors.{IsWithin};
 ghost use Rattle.heesch_place.specs.Found.{IsMoved, AreTurned, AreOrientations, AreNear};
 
-use crate::around::{cells_touching, has_marked};
+use crate::around::cells_touching;
 use crate::lists::{add, listed_tiles};
 use crate::turned::first_of;
 use heesch_grid::{Cell, Grid, Iso};
@@ -162,10 +161,11 @@ impl<G: Grid> Prototile<G> {
         self.orientations.as_slice()
     }
 
-    /// Whether the tile is apart from the shape and does not touch it. One mark is read for each cell.
-    pub(crate) fn is_clear(&self, tile: &Shape<G>) -> bool
-        ensures { result ≡ (not (meet self.now tile.now) && not (touch G.geometry self.now tile.now)) }
+    /// Marks of its cells and of the cells that touch one of them. A tile with none of these is apart from
+    /// it and does not touch it.
+    pub(crate) fn near(&self) -> &CellMarks
+        ensures { AreNear G.geometry self.now result.now }
     {
-        !has_marked(tile.cells(), &self.near)
+        &self.near
     }
 }

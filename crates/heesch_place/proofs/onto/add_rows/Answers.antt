@@ -20,11 +20,11 @@ add_row-requires-clause-wide g c =
 
 pub loop-row-init : goal.loop-row-init
 loop-row-init g c =
-    below_none (λ n. IsInRow g.G.Grid.geometry c.args.targets.now c.args.orientations.now (cell c.args.rows.low.a (c.args.rows.low.b +ℤ pos n)) c.args.rows.wide) c.args.all.now.items
+    below_none (λ n. IsInRow g.G.Grid.geometry c.args.targets.now c.args.barred.now c.args.orientations.now (cell c.args.rows.low.a (c.args.rows.low.b +ℤ pos n)) c.args.rows.wide) c.args.all.now.items
 
 pub loop-row-preserved : goal.loop-row-preserved
 loop-row-preserved g c =
-    let at : Cell → List Cell → Type 0 = λ low. IsInRow g.G.Grid.geometry c.args.targets.now c.args.orientations.now low c.args.rows.wide in
+    let at : Cell → List Cell → Type 0 = λ low. IsInRow g.G.Grid.geometry c.args.targets.now c.args.barred.now c.args.orientations.now low c.args.rows.wide in
     let new = c.add_row.new.all.items in
     below_more (λ n. at (cell c.args.rows.low.a (c.args.rows.low.b +ℤ pos n))) c.loop-row.row c.args.all.now.items c.loop-row.all.items new c.loop-row.invariant
     (subst (λ low. Adds (at low) c.loop-row.all.items new) c.above.ensures.is c.in_ok-add_row.ensures)
@@ -32,4 +32,4 @@ loop-row-preserved g c =
 pub returns : goal.returns
 returns g c =
     let e : c.loop-row.row ≡ c.args.rows.tall = omega (arith, c.loop-row-test.false, c.loop-row.auto.row-end) in
-    subst (λ n. Adds (λ tile. (row : ℕ) × (row < n) × IsInRow g.G.Grid.geometry c.args.targets.now c.args.orientations.now (cell c.args.rows.low.a (c.args.rows.low.b +ℤ pos row)) c.args.rows.wide tile) c.args.all.now.items c.loop-row.all.items) e c.loop-row.invariant
+    subst (λ n. Adds (λ tile. (row : ℕ) × (row < n) × IsInRow g.G.Grid.geometry c.args.targets.now c.args.barred.now c.args.orientations.now (cell c.args.rows.low.a (c.args.rows.low.b +ℤ pos row)) c.args.rows.wide tile) c.args.all.now.items c.loop-row.all.items) e c.loop-row.invariant

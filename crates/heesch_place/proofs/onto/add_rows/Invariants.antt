@@ -6,4 +6,4 @@ use Rattle.heesch_place.proofs.onto.add_rows.Given as goal
 
 abbrev pub invariant-loop-row : goal.invariant-loop-row
 invariant-loop-row g l =
-    Adds (λ tile. (row : ℕ) × (row < l.row) × IsInRow g.G.Grid.geometry l.targets l.orientations (cell l.rows.low.a (l.rows.low.b +ℤ pos row)) l.rows.wide tile) l.fn.all.items l.all.items
+    Adds (λ tile. (row : ℕ) × (row < l.row) × IsInRow g.G.Grid.geometry l.targets l.barred l.orientations (cell l.rows.low.a (l.rows.low.b +ℤ pos row)) l.rows.wide tile) l.fn.all.items l.all.items

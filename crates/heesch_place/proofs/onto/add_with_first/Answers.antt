@@ -14,7 +14,7 @@ add_moved-requires-clause-near g c d h =
 
 pub loop-orientation-preserved : goal.loop-orientation-preserved
 loop-orientation-preserved g c =
-    let R = IsMovedOver g.G.Grid.geometry c.args.targets.now c.args.first in
+    let R = IsMovedOver g.G.Grid.geometry c.args.targets.now c.args.barred.now c.args.first in
     let os = c.args.orientations.now in
     let l = c.loop-orientation in
     let item = c.orientation-item.result in
@@ -24,4 +24,4 @@ loop-orientation-preserved g c =
 pub returns : goal.returns
 returns g c =
     let l = c.loop-orientation in
-    from_all (IsMovedOver g.G.Grid.geometry c.args.targets.now c.args.first) c.args.orientations.now l.orientation-index c.args.all.now.items l.all.items (omega (arith, c.loop-orientation-test.false, l.auto.orientation-index-end)) l.invariant
+    from_all (IsMovedOver g.G.Grid.geometry c.args.targets.now c.args.barred.now c.args.first) c.args.orientations.now l.orientation-index c.args.all.now.items l.all.items (omega (arith, c.loop-orientation-test.false, l.auto.orientation-index-end)) l.invariant

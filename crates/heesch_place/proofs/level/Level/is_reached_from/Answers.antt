@@ -1,6 +1,7 @@
-use Rattle.std.proofs.Common.{◌≡◌, length, get_or, sym, ap, ◌∙◌, arith}
+use Rattle.std.proofs.Common.{◌≡◌, [], length, get_or, sym, ap, subst, ◌∙◌, arith}
 use Rattle.std.proofs.lemmas.Option.{get_or_from_slice_get}
-use Rattle.heesch_place.specs.Found.{is_apart_at}
+use Rattle.heesch_place.specs.Found.{Adds, TouchesSome, is_apart_at}
+use Rattle.heesch_place.proofs.Beyond.{reached_none}
 use Rattle.heesch_place.proofs.Gathering.{some_here, none_more, none_all}
 use Rattle.heesch_place.proofs.level.Level.is_reached_from.Given as given
 use Rattle.heesch_place.proofs.level.Level.is_reached_from.Goals as goal
@@ -27,3 +28,9 @@ loop-i-preserved g c =
 pub returns : goal.returns
 returns g c =
     sym (none_all (is_apart_at c.args.self.now c.args.tile.now) (g.G.Grid.geometry.touching c.args.c) c.loop-i.i (omega (arith, long g (goal.at.returns g c).After-TOUCHING-i-end, c.loop-i-test.false, c.loop-i.auto.i-end)) c.loop-i.invariant)
+
+pub returns-then-not-has : goal.returns-then-not-has
+returns-then-not-has g c =
+    let geometry = g.G.Grid.geometry in
+    let targets = c.self.inside.targets in
+    reached_none geometry g.met.G.Grid.laws c.args.self.now targets c.args.tile.now c.args.c c.requires.cell (subst (λ ts. Adds (TouchesSome geometry ts) [] targets) c.self.view_is c.self.invariant.around) (sym c.has.ensures ∙ c.if-not-has.true)
