@@ -2,15 +2,19 @@
 """Fills the tables of README.md, docs/TABLES.md and docs/RUNS.md from folders that tools/run made: `runs.py FOLDER..`.
 Of small sizes it copies the catalogues into catalogues/, and of four it makes the pages of docs/atlas/.
 
-A table stands behind a line `<!-- bench/runs.py NAME -->`, or `<!-- bench/runs.py NAME from GRID N, GRID N -->` where
-it has the sizes from N on alone. Its rows are those of the folders, in the order of grids and sizes. Every figure
-stands in a folder (tally.csv, undecided.csv, README.md), or is printed by `heesch table` over its catalogue, or is a
-published one of docs/TABLES.md. HEESCH names the program. Runs of different programs are refused, since a table is of
-one.
+A table stands behind a line `<!-- bench/runs.py NAME -->`. With `from GRID N, GRID N` behind the name it has the sizes
+from N on alone, and with `to GRID N, GRID N` those up to N; with both it has those between. Rows of the sizes whose
+folders are given are made anew, and the others stay as they are. Every figure of a new row stands in a folder
+(tally.csv, undecided.csv, README.md), or is printed by `heesch table` over its catalogue, or is a published one of
+docs/TABLES.md. HEESCH names the program.
+
+A table is of one program: that of the mark `program` in docs/TABLES.md that has all of its sizes. So runs of several
+programs are refused there, and runs of another program while rows stay. `agreement` alone has sizes of all programs.
 """
 import collections
 import csv
 import functools
+import math
 import os
 import pathlib
 import re
@@ -24,6 +28,7 @@ LEAST_LISTED = 2  # the least Heesch number whose shapes are listed
 GRIDS = ('square', 'hex', 'iamond', 'kite')
 SMALL = {'square': 7, 'hex': 6, 'iamond': 8, 'kite': 4}  # sizes up to which catalogues/ has the catalogue
 PAGES = ('square 8', 'hex 6', 'iamond 9', 'kite 6')  # sizes of which docs/atlas has a page
+DOCUMENTS = ('README.md', 'docs/TABLES.md', 'docs/RUNS.md')
 TOP = pathlib.Path(__file__).resolve().parent.parent
 
 sys.path.insert(0, str(TOP / 'tools'))
@@ -52,9 +57,6 @@ class Run:
             return []
         with open(path, encoding='ascii', newline='') as file:
             return list(csv.DictReader(file))
-
-    def key(self):
-        return GRIDS.index(self.grid), self.size
 
     def count(self, column):
         """What the catalogue counts, and beside it the entries of given shapes that only later passes decide."""
@@ -142,6 +144,12 @@ class Run:
         return in_words(counts)
 
 
+def order(name):
+    """Where a size stands among all: first by its grid, then by its number of cells."""
+    grid, size = name.split()
+    return GRIDS.index(grid), int(size)
+
+
 def options(words):
     """The values behind each option of a command."""
     found, values = {}, []
@@ -194,10 +202,9 @@ def agreement(run, figures):
 
 
 def beside_published(runs):
-    """The published figures as they stand, and behind those of a size that ran whether ours agree."""
-    by_size = {run.name: run for run in runs}
-    rows = [[f'`{name}`', *figures, agreement(by_size[name], figures) if name in by_size else 'no run']
-            for name, figures in published().items()]
+    """The published figures as they stand, and behind them whether ours agree."""
+    known = published()
+    rows = [[f'`{run.name}`', *known[run.name], agreement(run, known[run.name])] for run in runs if run.name in known]
     return table(['Size', 'Myers: with a hole', "Myers: don't tile, without a hole", 'Kaplan: Hc 0', 'Hc 1', 'Hc 2',
                   'Ours agree'], rows)
 
@@ -278,25 +285,93 @@ def stages(runs):
 
 TABLES = {'published': with_published, 'agreement': beside_published, 'verdicts': verdicts, 'open': left_open,
           'largest': largest, 'runs': stages, 'program': program_of}
-MARK = re.compile('<!-- bench/runs.py ([a-z]+)(?: from ([a-z0-9, ]+))? -->')
+SIZE = f'(?:{"|".join(GRIDS)}) [0-9]+'
+BOUNDS = f'({SIZE}(?:, {SIZE})*)'
+MARK = re.compile(f'^<!-- bench/runs.py ({"|".join(TABLES)})(?: from {BOUNDS})?(?: to {BOUNDS})? -->\n'
+                  '(?:(?:[|].*)?\n)*', re.MULTILINE)
+
+
+class Mark:
+    """A line before a table, the sizes that the table has, and its own lines as they stand."""
+
+    def __init__(self, match):
+        self.line, *lines = match[0].split('\n')
+        self.name, self.lines = match[1], [line for line in lines if line]
+        self.least, self.most = bounds(match[2], 1), bounds(match[3], math.inf)
+
+    def has(self, name):
+        """Whether the table has rows of a size."""
+        grid, size = name.split()
+        return self.least[grid] <= int(size) <= self.most[grid]
+
+    def is_within(self, other):
+        """Whether another mark has each size that this one has."""
+        return all(other.least[grid] <= self.least[grid] and self.most[grid] <= other.most[grid] for grid in GRIDS)
+
+    def rows(self):
+        """The rows that stand, by size."""
+        return by_size(self.lines[2:])
+
+    def anew(self, runs):
+        """The table with the rows of these runs, while those of other sizes stay."""
+        new = TABLES[self.name](runs)
+        if self.name == 'program':
+            return new
+        head, line, *lines = new.split('\n')
+        names = {run.name for run in runs}
+        rows = {name: old for name, old in self.rows().items() if name not in names} | by_size(lines)
+        return '\n'.join([head, line, *(row for name in sorted(rows, key=order) for row in rows[name])])
+
+
+def bounds(words, other):
+    """The sizes that a mark names, by grid, and another number for the grids that it doesn't name."""
+    named = re.findall('([a-z]+) ([0-9]+)', words or '')
+    return dict.fromkeys(GRIDS, other) | {grid: int(size) for grid, size in named}
+
+
+def by_size(rows):
+    """The lines of rows by the size that the first cell names; one whose first cell is empty goes with that above."""
+    found, name = {}, None
+    for row in rows:
+        first = cells(row)[0]
+        name = re.search(SIZE, first)[0] if first else name
+        found.setdefault(name, []).append(row)
+    return found
+
+
+def faults(texts, runs):
+    """Yields why the runs can't fill the tables of these texts, each of which has to stay of one program."""
+    marks = [Mark(match) for text in texts for match in MARK.finditer(text)]
+    if len(marks) != sum(text.count('<!-- bench/runs.py ') for text in texts):
+        yield 'a line `<!-- bench/runs.py ..` is no mark'
+    programs = [mark for mark in marks if mark.name == 'program']
+    marks = [mark for mark in marks if mark.name not in ('program', 'agreement')]
+    for mark in marks:
+        if not any(map(mark.is_within, programs)):
+            yield f'no mark `program` has all sizes of `{mark.line}`'
+    for run in runs:
+        if not any(program.has(run.name) for program in programs):
+            yield f'no mark `program` has {run.name}'
+    for program in programs:
+        own = [run for run in runs if program.has(run.name)]
+        made, before = {(run.commit, run.program) for run in own}, {tuple(cells(line)) for line in program.lines[2:]}
+        stay = {name for mark in marks if mark.is_within(program) for name in mark.rows()
+                if made != before or mark.lines[0] != TABLES[mark.name]([]).split('\n')[0]}
+        missing = ', '.join(sorted(stay - {run.name for run in own}, key=order))
+        if len(made) > 1:
+            yield 'the runs are of several programs, and a table is of one'
+        elif made and missing:
+            yield f'rows of another program, or with other columns, would stay: no folder is given of {missing}'
 
 
 def filled(text, runs):
-    """The text, with the table behind each mark made anew."""
-    lines, is_old = [], False
-    for line in text.split('\n'):
-        if is_old and (not line or line.startswith('|')):
-            continue
-        if is_old:
-            lines.append('')
-        lines.append(line)
-        mark = MARK.fullmatch(line)
-        is_old = bool(mark)
-        if mark:
-            least = dict(part.split() for part in (mark[2] or '').split(', ') if part)
-            chosen = [run for run in runs if run.size >= int(least.get(run.grid, 1))]
-            lines += ['', TABLES[mark[1]](chosen)]
-    return '\n'.join(lines + [''] * is_old)
+    """The text, with the rows of the runs in the table behind each mark; a table that has no size of a run stays."""
+    def anew(match):
+        mark = Mark(match)
+        chosen = [run for run in runs if mark.has(run.name)]
+        end = '\n\n' if match.end() < len(text) else '\n'
+        return f'{mark.line}\n\n{mark.anew(chosen)}{end}' if chosen else match[0]
+    return MARK.sub(anew, text)
 
 
 def publish(runs, top):
@@ -313,10 +388,11 @@ def publish(runs, top):
 if __name__ == '__main__':
     if len(sys.argv) < 2:
         sys.exit(__doc__)
-    made = sorted(map(Run, sys.argv[1:]), key=Run.key)
-    if len({(run.program, run.commit) for run in made}) > 1:
-        sys.exit('the runs are of several programs, and a table is of one')
-    for name in ('README.md', 'docs/TABLES.md', 'docs/RUNS.md'):
-        path = TOP / name
-        path.write_text(filled(path.read_text(encoding='utf-8'), made), encoding='utf-8')
+    made = sorted(map(Run, sys.argv[1:]), key=lambda run: order(run.name))
+    texts = {TOP / name: (TOP / name).read_text(encoding='utf-8') for name in DOCUMENTS}
+    if said := '\n'.join(faults(texts.values(), made)):
+        sys.exit(said)
+    texts = {path: filled(text, made) for path, text in texts.items()}
+    for path, text in texts.items():
+        path.write_text(text, encoding='utf-8')
     publish(made, TOP)

@@ -1,4 +1,5 @@
 """Tests of bench/runs.py, which fills the documents' tables from folders of tools/run."""
+import copy
 import os
 import re
 import runpy
@@ -40,6 +41,13 @@ By `tools/run hex 7 --into FOLDER --shares 9 --first 'turns 20000 levels 3 domai
 | given.txt | no entries | 6 | `{sum}` | `valid 0` |
 | outer.txt | the outer numbers | 567 | `{sum}` | `valid 3 in 2 parts` |
 '''
+
+
+def later(run, program='1' * 64):
+    """The same run by another program, of a later commit."""
+    other = copy.copy(run)
+    other.program, other.commit = program, 'def'
+    return other
 
 
 class Tables(helpers.ToolTest):
@@ -97,10 +105,13 @@ class Tables(helpers.ToolTest):
             self.assertEqual(RUNS.agreement(run, figures), wanted, figures)
 
     def test_published_figures_stay(self):
-        """The figures of others are as they stood, and only a size that ran is compared."""
-        rows = {name: figures for name, *figures in self.rows('agreement', self.run_of())}
-        self.assertEqual({name: figures[:5] for name, figures in rows.items()}, RUNS.published())
-        self.assertEqual((rows['hex 7'][5:], rows['hex 6'][5:]), (['**no**'], ['no run']))
+        """The figures of others are as they stood, and only a size that ran is compared anew."""
+        documents = (RUNS.TOP / 'docs/TABLES.md').read_text(encoding='utf-8')
+        before = next(match[0] for match in RUNS.MARK.finditer(documents) if match[1] == 'agreement')
+        before = re.sub('(`hex [67]`.*[|]) .* [|]', r'\1 no run |', before).rstrip() + '\n'
+        wanted = re.sub('(`hex 7`.*[|]) no run [|]', r'\1 **no** |', before)
+        self.assertEqual((RUNS.filled(before, [self.run_of()]), wanted.count('**no**')), (wanted, 1))
+        self.assertEqual(RUNS.filled(before, [self.run_of('kite')]), before)
 
     def test_filled(self):
         """A table behind a mark is made anew, and what stands around it stays."""
@@ -108,8 +119,64 @@ class Tables(helpers.ToolTest):
         wanted = text.replace('| old |\n|---|\n| row |', RUNS.program_of([self.run_of()]))
         self.assertEqual(RUNS.filled(text, [self.run_of()]), wanted)
         self.assertEqual(RUNS.filled(wanted, [self.run_of()]), wanted)
-        least = '<!-- bench/runs.py verdicts from hex 8 -->\n'
-        self.assertEqual(RUNS.filled(least, [self.run_of()]).count('\n| '), 2)
+
+    def test_sizes_of_a_mark(self):
+        """A mark may name the least and the greatest size of a grid; of a grid that it doesn't name it has all."""
+        mark = RUNS.Mark(RUNS.MARK.fullmatch('<!-- bench/runs.py open from hex 7, kite 8 to square 12, hex 10 -->\n'))
+        for name, wanted in (('hex 6', False), ('hex 7', True), ('hex 10', True), ('hex 11', False), ('kite 7', False),
+                             ('kite 99', True), ('square 1', True), ('square 13', False), ('iamond 99', True)):
+            self.assertEqual((name, mark.has(name)), (name, wanted))
+
+    def test_a_table_without_a_run_stays(self):
+        for sizes in ('from hex 8', 'to hex 6', 'from hex 1 to hex 6'):
+            text = f'one\n<!-- bench/runs.py verdicts {sizes} -->\n\n| as it |\n\n\n| stands |\n\n\ntwo\n'
+            self.assertEqual(RUNS.filled(text, [self.run_of()]), text)
+
+    def test_rows_of_other_sizes_stay(self):
+        """Those of a size that ran are made anew, whether it had none before, one or many."""
+        run = self.run_of()
+        for name in ('verdicts', 'published', 'open', 'largest', 'runs'):
+            head, line, *rows = RUNS.TABLES[name]([run]).split('\n')
+            first, second, third, last = ([row.replace('hex 7', other).replace('9', '10') for row in rows]
+                                          for other in ('square 8', 'hex 6', 'hex 10', 'kite 1'))
+            start = f'<!-- bench/runs.py {name} to hex 10 -->\n\n{head}\n{line}\n'
+            wanted = start + '\n'.join([*first, *second, *rows, *third, *last, '', 'end\n'])
+            for ours in ([], rows[:1], rows[:1] * 3):
+                text = start + '\n'.join([*first, *second, *ours, *third, *last, '', 'end\n'])
+                self.assertEqual(RUNS.filled(text, [run]), wanted)
+
+    def test_rows_of_a_size_may_go(self):
+        """A shape that was undecided may be decided now."""
+        run = self.run_of()
+        text = RUNS.filled('<!-- bench/runs.py open -->\n', [run, self.run_of(size=6)])
+        run.open = []
+        self.assertEqual(re.findall('hex [0-9]+', RUNS.filled(text, [run])), ['hex 6', 'hex 6'])
+
+    def test_mixtures_are_refused(self):
+        """All tables of a range are of one program, and those of another range may be of another."""
+        six, seven, eight = (self.run_of(size=size) for size in (6, 7, 8))
+        marks = [f'<!-- bench/runs.py {name} {sizes} -->\n\n' for sizes in ('to hex 7', 'from hex 8')
+                 for name in ('program', 'verdicts', 'open')]
+        text, lower = (RUNS.filled(''.join(some), [six, seven, eight]) for some in (marks, marks[:3]))
+        for runs in ([six], [seven, eight], [later(eight)], [six, later(eight)], [later(six), later(seven)],
+                     [later(six), later(seven), eight]):
+            self.assertEqual(list(RUNS.faults([text], runs)), [])
+        several = 'the runs are of several programs, and a table is of one'
+        stay = 'rows of another program, or with other columns, would stay: no folder is given of hex 6'
+        for words, runs, wanted in (
+                (text, [later(six), seven], several), (text, [later(seven)], stay), (text, [later(seven), eight], stay),
+                (text, [later(seven, seven.program)], stay), (text.replace('Holed', 'With a hole'), [seven], stay),
+                (lower, [eight], 'no mark `program` has hex 8')):
+            self.assertEqual(list(RUNS.faults([words], runs)), [wanted])
+
+    def test_each_table_has_a_program(self):
+        """A mark without one is told, as is a line that is nearly a mark; those of the documents have one."""
+        for words, wanted in (('open', 'no mark `program` has all sizes of `<!-- bench/runs.py open -->`'),
+                              ('open upto hex 7', 'a line `<!-- bench/runs.py ..` is no mark')):
+            text = f'<!-- bench/runs.py program to hex 7 -->\n\n<!-- bench/runs.py {words} -->\n'
+            self.assertEqual(list(RUNS.faults([text], [])), [wanted])
+        documents = [(RUNS.TOP / name).read_text(encoding='utf-8') for name in RUNS.DOCUMENTS]
+        self.assertEqual(list(RUNS.faults(documents, [])), [])
 
     def test_publish(self):
         """Small catalogues are copied, and four sizes get a page; of others nothing is made."""
