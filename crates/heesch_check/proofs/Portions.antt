@@ -1,16 +1,13 @@
 -- The portions of the entries of a round: the turns at which they come, and audits from their answers.
-use Rattle.std.proofs.Common.{◌≡◌, ◌↔◌, ℕ, zero, suc, ◌+◌, ◌-◌, ◌*◌, ◌/◌, ◌%◌, ◌<◌, ◌≤◌, ◌≢◌, ◌⊎◌, inl, inr, Bool, true, false, IsTrue, List, [], ◌∷◌, length, get_or, set, Some, sym, ap, subst, ◌∙◌, suc-mul, div-add-mod', arith}
+use Rattle.std.proofs.Common.{◌≡◌, ◌↔◌, ℕ, zero, suc, ◌+◌, ◌-◌, ◌*◌, ◌/◌, ◌%◌, ◌<◌, inl, inr, Bool, true, IsTrue, List, [], ◌∷◌, length, get_or, Some, ap, subst, ◌∙◌, suc-mul, div-add-mod', arith}
 use Rattle.std.specs.Prelude.{slice_get}
 use Rattle.std.specs.List.{AllByRecursion}
-use Rattle.std.proofs.lemmas.Bool.{cases_eq, cases_lt, false≢true}
-use Rattle.std.proofs.lemmas.Grind.{get_or-set_at}
-use Rattle.std.proofs.lemmas.List.{get_or-set_other}
+use Rattle.std.proofs.lemmas.Bool.{cases_lt}
 use Rattle.std.proofs.lemmas.Nat.{div-mul-add, mod-mul-add, mod_below, mul-add-lt}
-use Rattle.std.proofs.lemmas.Option.{get_or_from_slice_get, slice_get-get_or, slice_get_within}
+use Rattle.std.proofs.lemmas.Option.{slice_get-get_or, slice_get_within}
 use Rattle.heesch_cert.specs.declared.entry.Entry.{Entry}
 use Rattle.heesch_cert.specs.declared.limits.Limits.{Limits}
 use Rattle.heesch_cert.specs.declared.verdict.Verdict.{Verdict}
-use Rattle.heesch_cert.specs.TrueEntry.{IsTrueEntry}
 use Rattle.heesch_grid.specs.Geometry.{Geometry}
 use Rattle.heesch_reader.specs.declared.item.Item.{Item}
 use Rattle.heesch_reader.specs.declared.item.Item.TheVariants as items
@@ -57,49 +54,6 @@ portion_turn verdict portions q lt =
 
 -- ---- answers
 
--- of the first n answers, those on one of so many items are all true
-abbrev pub AreTrueBelow : List Bool → (count n i : ℕ) → Type 0
-AreTrueBelow answers count n i = (k : ℕ) → k < n → k % count ≡ i → get_or answers k true ≡ true
-
--- each mark of an item is true where these are
-abbrev pub AreMarks : (answers marks : List Bool) → (count n : ℕ) → Type 0
-AreMarks answers marks count n = (i : ℕ) → i < count → (get_or marks i true ≡ true) ↔ AreTrueBelow answers count n i
-
--- one more answer is true
-pub true_kept : (answers marks : List Bool) (count n : ℕ) → get_or answers n true ≡ true → AreMarks answers marks count n → AreMarks answers marks count (n + 1)
-true_kept answers marks count n here m i lt =
-    (λ t k below same. elim (cases_lt k n) [
-      | inr past ↦ let is : k ≡ n = omega (arith, past, below) in ap (λ (x : ℕ). get_or answers x true) is ∙ here
-      | inl before ↦ (m i lt).0 t k before same
-    ], λ all. (m i lt).1 (λ k below same. all k (omega (arith, below)) same))
-
--- one more answer is false, and the mark of its item is too
-pub false_marked : (answers marks after : List Bool) (count n : ℕ) → get_or answers n true ≡ false → 0 < count → length marks ≡ count → after ≡ set marks (n % count) false → AreMarks answers marks count n → AreMarks answers after count (n + 1)
-false_marked answers marks after count n wrong some long is m i lt =
-    let own : n % count < count = mod_below n count some in
-    elim (cases_eq i (n % count)) [
-      | inl same ↦
-          let here : get_or after i true ≡ false = ap (λ (xs : List Bool). get_or xs i true) is ∙ get_or-set_at marks (n % count) i false true same (omega (arith, own, long)) in
-          (λ t. absurd (false≢true (sym here ∙ t)), λ all. absurd (false≢true (sym wrong ∙ all n (omega arith) (sym same))))
-      | inr other ↦
-          let here : get_or after i true ≡ get_or marks i true = ap (λ (xs : List Bool). get_or xs i true) is ∙ get_or-set_other marks (n % count) i false true other in
-          (λ t k below at. (m i lt).0 (sym here ∙ t) k (earlier n k i count below at other) at, λ all. here ∙ (m i lt).1 (λ k below at. all k (omega (arith, below)) at))
-    ]
-  where
-    earlier : (n k i count : ℕ) → k < n + 1 → k % count ≡ i → i ≢ n % count → k < n
-    earlier n k i count below at other = elim (cases_lt k n) [
-      | inr past ↦ let is : k ≡ n = omega (arith, past, below) in absurd (other (sym at ∙ ap (λ (x : ℕ). x % count) is))
-      | inl before ↦ before
-    ]
-
--- behind all answers the marks are the answers' on each item
-pub marks_tell : (answers marks : List Bool) (count : ℕ) → length marks ≡ count → AreMarks answers marks count (length answers) → (i : ℕ) (holds : Bool) → slice_get marks i ≡ Some holds → IsTrue holds ↔ AreTrueOf answers count i
-marks_tell answers marks count long m i holds is =
-    let lt : i < count = omega (arith, slice_get_within marks i holds is, long) in
-    let here : get_or marks i true ≡ holds = get_or_from_slice_get marks i holds true is in
-    (λ t k b at same. sym (get_or_from_slice_get answers k b true at) ∙ (m i lt).0 (here ∙ t) k (slice_get_within answers k b at) same,
-      λ all. sym here ∙ (m i lt).1 (λ k below same. all k (get_or answers k true) (slice_get-get_or answers k true below) same))
-
 -- where the answers on each item are joined, these are audits
 pub audits_from : (g : Geometry) (limits own : Limits) (found these : List Item) (first from count many portions each : ℕ) (answers audits : List Bool) → own ≡ limits → these ≡ found → first ≡ from → many ≡ count → each ≡ portions → 0 < portions
     → length answers ≡ count * portions → ((k : ℕ) (holds : Bool) → slice_get answers k ≡ Some holds → IsPortionOf g own these many each ((from + k) - first) holds) → length audits ≡ count
@@ -107,17 +61,18 @@ pub audits_from : (g : Geometry) (limits own : Limits) (found these : List Item)
 audits_from g limits own found these first from count many portions each answers audits same all at counted so_many some long told marks joined i holds is line e here =
     let below : i < count = omega (arith, slice_get_within audits i holds is, marks) in
     let law = portions_make_the_entry g limits e portions some in
-    let j = joined i holds is in
-    (λ yes. law.1 (λ q lt.
-      let t = portion_turn e.verdict portions q lt in
-      let k : ℕ = t.0 * count + i in
-      let within : k < length answers = omega (arith, mul-add-lt t.0 count i portions t.1 below, long) in
-      let place : k % count ≡ i = mod-mul-add t.0 count i below in
-      let b : Bool = get_or answers k true in
-      let answer : slice_get answers k ≡ Some b = slice_get-get_or answers k true within in
-      let portion : portion_at e.verdict (k / count) portions ≡ q = ap (λ (x : ℕ). portion_at e.verdict x portions) (div-mul-add t.0 count i below) ∙ t.2 in
-      subst (λ (p : ℕ). PortionHolds g limits e p portions) portion ((tells k b answer line e (ap (slice_get found) place ∙ here)).0 (j.0 yes k b answer place))),
-      λ true. j.1 (λ k b answer place. (tells k b answer line e (ap (slice_get found) place ∙ here)).1 (law.0 true (portion_at e.verdict (k / count) portions) (mod_below (k / count + levels_sought e.verdict + 1) portions some))))
+    let j = joined i holds is in (
+      λ yes. law.1 (λ q lt.
+          let t = portion_turn e.verdict portions q lt in
+          let k : ℕ = t.0 * count + i in
+          let within : k < length answers = omega (arith, mul-add-lt t.0 count i portions t.1 below, long) in
+          let place : k % count ≡ i = mod-mul-add t.0 count i below in
+          let b : Bool = get_or answers k true in
+          let answer : slice_get answers k ≡ Some b = slice_get-get_or answers k true within in
+          let portion : portion_at e.verdict (k / count) portions ≡ q = ap (λ (x : ℕ). portion_at e.verdict x portions) (div-mul-add t.0 count i below) ∙ t.2 in
+          subst (λ (p : ℕ). PortionHolds g limits e p portions) portion ((tells k b answer line e (ap (slice_get found) place ∙ here)).0 (j.0 yes k b answer place))),
+      λ true. j.1 (λ k b answer place. (tells k b answer line e (ap (slice_get found) place ∙ here)).1 (law.0 true (portion_at e.verdict (k / count) portions) (mod_below (k / count + levels_sought e.verdict + 1) portions some))),
+    )
   where
     tells : (k : ℕ) (b : Bool) → slice_get answers k ≡ Some b → IsPortionOf g limits found count portions k b
     tells k b got =

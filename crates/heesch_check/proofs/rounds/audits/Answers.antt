@@ -1,6 +1,4 @@
-use Rattle.std.proofs.Common.{◌≡◌, ◌+◌, ◌-◌, ◌*◌, length, ap, arith}
-use Rattle.std.specs.Prelude.{vec_len}
-use Rattle.std.proofs.lemmas.Result.{IfOk-weaker}
+use Rattle.std.proofs.Common.{◌≡◌, ◌-◌, ◌*◌, length, ap, arith}
 use Rattle.heesch_check.proofs.Audits.{if_both}
 use Rattle.heesch_check.proofs.Portions.{audits_from}
 use Rattle.heesch_check.proofs.rounds.audits.Goals as goal
