@@ -9,12 +9,15 @@
 //! entries of a round are split into as many portions as the most triples of one of them, from 8 to 64. A portion has
 //! the proofs of every so many-th triple, and the first has all else. Each portion that has a triple asks first
 //! whether the triples are those that the limits ask for, so a hostile catalogue can't have formulas computed for
-//! others. The tickets come turn by turn, and each turn has a portion of each entry. The time of a first portion grows
-//! with the levels that were sought: it is about 5, 2, 0.4 and 0.01 ms for 3, 2, 1 and 0 levels of shapes of 9
-//! squares. So the more levels, the sooner the first portion comes (`portion_at`), lest a long one begins last and all
-//! other workers wait for it. With two workers or more the items of the next round are read while a round is audited,
-//! and those of the round before are freed (`round_from`): the audits begin in a new thread, since a source need not
-//! be `Send` and so is read by the caller's.
+//! others.
+//!
+//! The tickets come turn by turn, and each turn has a portion of each entry. With each level that was sought the first
+//! portion takes several times as long. So the more levels, the sooner it comes (`portion_at`), lest a long one begins
+//! last and all other workers wait for it.
+//!
+//! With two workers or more the items of the next round are read while a round is audited, and those of the round
+//! before are freed (`round_from`): the audits begin in a new thread, since a source need not be `Send` and so is read
+//! by the caller's.
 #![tactic(auto)]
 
 mod ahead;
