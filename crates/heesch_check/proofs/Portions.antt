@@ -1,24 +1,20 @@
--- The portions of the entries of a round: their numbers, and audits from their answers.
-use Rattle.std.proofs.Common.{◌≡◌, ◌↔◌, ℕ, zero, suc, ◌+◌, ◌-◌, ◌*◌, ◌/◌, ◌%◌, ◌<◌, ◌≤◌, Bool, true, IsTrue, List, [], ◌∷◌, length, get_or, drop, Some, sym, ap, subst, ◌∙◌, min, arith}
+-- The portions of the entries of a round: the turns at which they come, and audits from their answers.
+use Rattle.std.proofs.Common.{◌≡◌, ◌↔◌, ℕ, zero, suc, ◌+◌, ◌-◌, ◌*◌, ◌/◌, ◌%◌, ◌<◌, inl, inr, Bool, true, IsTrue, List, [], ◌∷◌, length, get_or, Some, ap, subst, ◌∙◌, suc-mul, div-add-mod', arith}
 use Rattle.std.specs.Prelude.{slice_get}
-use Rattle.std.specs.Fork.{slice_chunk}
-use Rattle.std.specs.List.{AllByRecursion, list_all}
-use Rattle.std.specs.Slice.Iter.{chunk_count}
-use Rattle.std.proofs.Math.Nat.{mul-le-mul_left, mul-le-mul_right, mul-div-le}
-use Rattle.std.proofs.lemmas.List.{get_or-take, get_or-drop, length-take-le, length-drop}
-use Rattle.std.proofs.lemmas.List.Sums.{AllPass-from_list_all, list_all-from_AllPass}
-use Rattle.std.proofs.lemmas.Nat.{div-mul-add, mod-mul-add}
+use Rattle.std.specs.List.{AllByRecursion}
+use Rattle.std.proofs.lemmas.Bool.{cases_lt}
+use Rattle.std.proofs.lemmas.Nat.{div-mul-add, mod-mul-add, mod_below, mul-add-lt}
 use Rattle.std.proofs.lemmas.Option.{slice_get-get_or, slice_get_within}
 use Rattle.heesch_cert.specs.declared.entry.Entry.{Entry}
 use Rattle.heesch_cert.specs.declared.limits.Limits.{Limits}
-use Rattle.heesch_cert.specs.TrueEntry.{IsTrueEntry}
+use Rattle.heesch_cert.specs.declared.verdict.Verdict.{Verdict}
 use Rattle.heesch_grid.specs.Geometry.{Geometry}
 use Rattle.heesch_reader.specs.declared.item.Item.{Item}
 use Rattle.heesch_reader.specs.declared.item.Item.TheVariants as items
 use Rattle.heesch_audit.specs.Near.{IsNearEntry}
 use Rattle.heesch_audit.specs.Portions.{PortionHolds}
 use Rattle.heesch_audit.proofs.Portions.{portions_make_the_entry}
-use Rattle.heesch_check.specs.Judging.{IsFit, IsPortionOf, AreAudits}
+use Rattle.heesch_check.specs.Judging.{AreAudits, AreTrueOf, IsFit, IsPortionOf, levels_sought, portion_at}
 use Rattle.heesch_check.proofs.Near.{entry_near}
 
 -- ---- items
@@ -32,63 +28,57 @@ item_near (item ∷ found) zero line e fit at =
     entry_near e own.holds own.forms
 item_near (item ∷ found) (suc i) line e fit at = item_near found i line e fit.1 at
 
--- ---- numbers
+-- ---- turns
 
--- as many as fit of each leave no number too many
-pub numbered : (count most left : ℕ) → count * min most (left / count) ≤ left
-numbered count most left =
-    let few : min most (left / count) ≤ left / count = omega arith in
-    let one = mul-le-mul_left count few in
-    let two = mul-div-le left count in
-    omega (arith, one, two)
+-- counted around from any number on, each number below n comes at a turn below n
+turn_of : (from n q : ℕ) → q < n → (turn : ℕ) × (turn < n) × ((turn + from) % n ≡ q)
+turn_of from n q lt =
+    let split : from / n * n + from % n ≡ from = div-add-mod' from n in
+    let below : from % n < n = mod_below from n (omega (arith, lt)) in
+    elim (cases_lt q (from % n)) [
+      | inr le ↦
+          let at : q - from % n + from ≡ from / n * n + q = omega (arith, split, le) in
+          (q - from % n, omega (arith, lt), ap (λ (x : ℕ). x % n) at ∙ mod-mul-add (from / n) n q lt)
+      | inl gt ↦
+          let more = suc-mul (from / n) n in
+          let at : (q + n - from % n) + from ≡ suc (from / n) * n + q = omega (arith, split, gt, below, more) in
+          (q + n - from % n, omega (arith, gt, below), ap (λ (x : ℕ). x % n) at ∙ mod-mul-add (suc (from / n)) n q lt)
+    ]
 
--- the portions of so many items make as many chunks
-pub chunks : (count portions : ℕ) → 0 < portions → chunk_count (count * portions) portions ≡ count
-chunks count portions some =
-    let sum : count * portions + portions - 1 ≡ count * portions + (portions - 1) = omega (arith, some) in
-    let below : portions - 1 < portions = omega (arith, some) in
-    let is : (count * portions + portions - 1) / portions ≡ count = ap (λ (n : ℕ). n / portions) sum ∙ div-mul-add count portions (portions - 1) below in
-    let many : count * 1 ≤ count * portions = mul-le-mul_left count (omega (arith, some)) in
-    let whole : min (count * portions) count ≡ count = omega (arith, many) in
-    ap (λ (n : ℕ). min (count * portions) n) is ∙ whole
+-- so does each portion of an entry
+portion_turn : (verdict : Verdict) (portions q : ℕ) → q < portions → (turn : ℕ) × (turn < portions) × (portion_at verdict turn portions ≡ q)
+portion_turn verdict portions q lt =
+    let t = turn_of (levels_sought verdict + 1) portions q lt in
+    let at : t.0 + levels_sought verdict + 1 ≡ t.0 + (levels_sought verdict + 1) = omega arith in
+    (t.0, t.1, ap (λ (x : ℕ). x % portions) at ∙ t.2)
 
 -- ---- answers
 
--- all of a chunk's answers are true exactly where what each of them tells holds
-chunk_tells : (Holds : ℕ → Type 0) (answers : List Bool) (i n : ℕ) → i * n + n ≤ length answers → ((p : ℕ) (holds : Bool) → p < n → slice_get answers (i * n + p) ≡ Some holds → IsTrue holds ↔ Holds p)
-    → IsTrue (list_all (λ x. x) (slice_chunk answers n i)) ↔ ((p : ℕ) → p < n → Holds p)
-chunk_tells Holds answers i n within tells =
-    let front : ℕ = i * n in
-    let chunk = slice_chunk answers n i in
-    let left : length (drop front answers) ≡ length answers - front = length-drop front answers in
-    let long : length chunk ≡ n = length-take-le n (drop front answers) (omega (arith, left, within)) in
-    let read : (p : ℕ) (d : Bool) → p < n → get_or chunk p d ≡ get_or answers (front + p) d = λ p d lt. get_or-take n (drop front answers) p d lt ∙ get_or-drop front answers p d in
-    let at : (p : ℕ) (d : Bool) → p < n → slice_get answers (front + p) ≡ Some (get_or answers (front + p) d) = λ p d lt. slice_get-get_or answers (front + p) d (omega (arith, lt, within)) in (
-      λ yes p lt. (tells p (get_or answers (front + p) true) lt (at p true lt)).0 (sym (read p true lt) ∙ AllPass-from_list_all (λ x. x) chunk yes p true (omega (arith, lt, long))),
-      λ all. list_all-from_AllPass (λ x. x) chunk (λ p d below. let lt : p < n = omega (arith, below, long) in read p d lt ∙ (tells p (get_or answers (front + p) d) lt (at p d lt)).1 (all p lt)),
-    )
-
--- where each chunk of answers is joined, these are audits
-pub audits_from : (g : Geometry) (limits own : Limits) (found these : List Item) (first from count portions each : ℕ) (answers audits : List Bool) → own ≡ limits → these ≡ found → first ≡ from → each ≡ portions → 0 < portions
-    → length answers ≡ count * portions → ((k : ℕ) (holds : Bool) → slice_get answers k ≡ Some holds → IsPortionOf g own these each ((from + k) - first) holds) → length audits ≡ count
-    → ((i : ℕ) (holds : Bool) → slice_get audits i ≡ Some holds → holds ≡ list_all (λ x. x) (slice_chunk answers portions i)) → AreAudits g limits found audits
-audits_from g limits own found these first from count portions each answers audits same all at so_many some long told many joined i holds is line e here =
-    let below : i < count = omega (arith, slice_get_within audits i holds is, many) in
-    let up : suc i * portions ≤ count * portions = mul-le-mul_right portions (omega (arith, below)) in
-    let within : i * portions + portions ≤ length answers = omega (arith, up, long) in
-    let tells : (p : ℕ) (b : Bool) → p < portions → slice_get answers (i * portions + p) ≡ Some b → IsTrue b ↔ PortionHolds g limits e p portions = λ p b lt got. one p b lt (told (i * portions + p) b got) in
-    let whole = chunk_tells (λ p. PortionHolds g limits e p portions) answers i portions within tells in
+-- where the answers on each item are joined, these are audits
+pub audits_from : (g : Geometry) (limits own : Limits) (found these : List Item) (first from count many portions each : ℕ) (answers audits : List Bool) → own ≡ limits → these ≡ found → first ≡ from → many ≡ count → each ≡ portions → 0 < portions
+    → length answers ≡ count * portions → ((k : ℕ) (holds : Bool) → slice_get answers k ≡ Some holds → IsPortionOf g own these many each ((from + k) - first) holds) → length audits ≡ count
+    → ((i : ℕ) (holds : Bool) → slice_get audits i ≡ Some holds → IsTrue holds ↔ AreTrueOf answers count i) → AreAudits g limits found audits
+audits_from g limits own found these first from count many portions each answers audits same all at counted so_many some long told marks joined i holds is line e here =
+    let below : i < count = omega (arith, slice_get_within audits i holds is, marks) in
     let law = portions_make_the_entry g limits e portions some in
-    subst (λ (b : Bool). IsTrue b ↔ IsTrueEntry g limits e) (sym (joined i holds is)) (λ yes. law.1 (whole.0 yes), λ true. whole.1 (law.0 true))
+    let j = joined i holds is in (
+      λ yes. law.1 (λ q lt.
+          let t = portion_turn e.verdict portions q lt in
+          let k : ℕ = t.0 * count + i in
+          let within : k < length answers = omega (arith, mul-add-lt t.0 count i portions t.1 below, long) in
+          let place : k % count ≡ i = mod-mul-add t.0 count i below in
+          let b : Bool = get_or answers k true in
+          let answer : slice_get answers k ≡ Some b = slice_get-get_or answers k true within in
+          let portion : portion_at e.verdict (k / count) portions ≡ q = ap (λ (x : ℕ). portion_at e.verdict x portions) (div-mul-add t.0 count i below) ∙ t.2 in
+          subst (λ (p : ℕ). PortionHolds g limits e p portions) portion ((tells k b answer line e (ap (slice_get found) place ∙ here)).0 (j.0 yes k b answer place))),
+      λ true. j.1 (λ k b answer place. (tells k b answer line e (ap (slice_get found) place ∙ here)).1 (law.0 true (portion_at e.verdict (k / count) portions) (mod_below (k / count + levels_sought e.verdict + 1) portions some))),
+    )
   where
-    one : (p : ℕ) (b : Bool) → p < portions → IsPortionOf g own these each ((from + (i * portions + p)) - first) b → IsTrue b ↔ PortionHolds g limits e p portions
-    one p b lt says =
-        let number : (from + (i * portions + p)) - first ≡ i * portions + p = omega (arith, at) in
-        let item : (i * portions + p) / portions ≡ i = div-mul-add i portions p lt in
-        let portion : (i * portions + p) % portions ≡ p = mod-mul-add i portions p lt in
-        let mine : IsPortionOf g limits found portions (i * portions + p) b =
-        subst (λ (n : ℕ). IsPortionOf g limits found portions n b) number
-        (subst (λ (n : ℕ). IsPortionOf g limits found n ((from + (i * portions + p)) - first) b) so_many
-        (subst (λ (x : List Item). IsPortionOf g limits x each ((from + (i * portions + p)) - first) b) all
-        (subst (λ (x : Limits). IsPortionOf g x these each ((from + (i * portions + p)) - first) b) same says))) in
-        subst (λ (q : ℕ). IsTrue b ↔ PortionHolds g limits e q portions) portion (mine line e (ap (slice_get found) item ∙ here))
+    tells : (k : ℕ) (b : Bool) → slice_get answers k ≡ Some b → IsPortionOf g limits found count portions k b
+    tells k b got =
+        let number : (from + k) - first ≡ k = omega (arith, at) in
+        subst (λ (n : ℕ). IsPortionOf g limits found count portions n b) number
+        (subst (λ (n : ℕ). IsPortionOf g limits found count n ((from + k) - first) b) so_many
+        (subst (λ (n : ℕ). IsPortionOf g limits found n each ((from + k) - first) b) counted
+        (subst (λ (x : List Item). IsPortionOf g limits x many each ((from + k) - first) b) all
+        (subst (λ (x : Limits). IsPortionOf g x these many each ((from + k) - first) b) same (told k b got)))))

@@ -11,7 +11,9 @@ use Rattle.heesch_cert.specs.declared.header.Header.{Header}
 use Rattle.heesch_cert.specs.declared.header.Subject.{Subject}
 use Rattle.heesch_cert.specs.declared.header.Subject.TheVariants.{Size, Given}
 use Rattle.heesch_cert.specs.declared.limits.Limits.{Limits}
-use Rattle.heesch_cert.specs.TrueEntry.{IsTrueEntry}
+use Rattle.heesch_cert.specs.declared.verdict.Verdict.{Verdict}
+use Rattle.heesch_cert.specs.declared.verdict.Verdict.TheVariants.{Tiles}
+use Rattle.heesch_cert.specs.TrueEntry.{IsTrueEntry, last_number}
 use Rattle.heesch_grammar.specs.Entries.{HoldsItsLines}
 use Rattle.heesch_line.specs.Forms.{IsLine}
 use Rattle.heesch_reader.specs.declared.item.Item.{Item}
@@ -80,9 +82,22 @@ ArePlaced header before [] = Unit {0}
 ArePlaced header before (items.Entry line e ∷ found) = IsInPlace (geometry_of header.grid) header.subject before e.cells × ArePlaced header (before + 1) found
 ArePlaced header before (item ∷ found) = ⊥
 
--- whether the portion of this number holds, where so many of each item are numbered, one item after the other, and the item is an entry
-abbrev pub IsPortionOf : Geometry → Limits → List Item → (portions number : ℕ) → Bool → Type 0
-IsPortionOf g limits found portions number holds = (line : ℕ) (e : Entry) → slice_get found (number / portions) ≡ Some (items.Entry line e) → (IsTrue holds ↔ PortionHolds g limits e (number % portions) portions)
+-- up to which level of coronas a verdict was sought: none for a tiling
+abbrev pub levels_sought : Verdict → ℕ
+levels_sought (Tiles kind domain classes) = 0
+levels_sought verdict = last_number verdict
+
+-- the portion of an entry that comes at a turn, counted around: the more levels were sought, the sooner the first
+abbrev pub portion_at : Verdict → (turn portions : ℕ) → ℕ
+portion_at verdict turn portions = (turn + levels_sought verdict + 1) % portions
+
+-- whether the portion of this number holds, where each turn has one of each of so many items, and the item is an entry
+abbrev pub IsPortionOf : Geometry → Limits → List Item → (count portions number : ℕ) → Bool → Type 0
+IsPortionOf g limits found count portions number holds = (line : ℕ) (e : Entry) → slice_get found (number % count) ≡ Some (items.Entry line e) → (IsTrue holds ↔ PortionHolds g limits e (portion_at e.verdict (number / count) portions) portions)
+
+-- all answers on this one of so many items are true, where each turn has one on each of them
+abbrev pub AreTrueOf : List Bool → (count i : ℕ) → Type 0
+AreTrueOf answers count i = (number : ℕ) (holds : Bool) → slice_get answers number ≡ Some holds → number % count ≡ i → IsTrue holds
 
 -- whether this one of the items is true, where it is an entry
 abbrev pub IsAuditOf : Geometry → Limits → List Item → ℕ → Bool → Type 0

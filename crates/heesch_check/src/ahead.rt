@@ -1,5 +1,5 @@
 //! Rounds of items, each audited while those of the next are read.
-ghost use Rattle.std.specs.Prelude.{◌≡◌, ◌+◌, ◌-◌, ◌<◌, ◌≤◌, [], Err, IfOk, IsTrue, length, take, vec_len};
+ghost use Rattle.std.specs.Prelude.{◌≡◌, ◌+◌, ◌-◌, ◌<◌, ◌≤◌, [], Err, IfOk, IsTrue, length, take};
 ghost use Rattle.heesch_cert.specs.Limits.{AreLimits};
 ghost use Rattle.heesch_grid.specs.Names.{geometry_of};
 ghost use Rattle.heesch_io.specs.Causes.{Rose};
@@ -19,7 +19,7 @@ use std::thread::Threads;
 /// How many items a round has by one worker, unless one piece has more.
 pub(crate) const FIRST: usize = 64;
 
-/// How many items a round has by several workers, unless one piece has more. As many are read ahead of the next.
+/// How many items a whole round has by several workers, unless one piece has more. As many are read ahead of the next.
 const ROUND: usize = 128;
 
 /// Items that were read behind those that were judged, and how far reading came with them.
@@ -48,13 +48,16 @@ pub(crate) fn most_at_hand(workers: u32) -> usize
     if workers > 1 { 2 * ROUND } else { FIRST }
 }
 
-/// How many items a round has, where so many are at hand at most.
-fn round_size(most: usize) -> usize
+/// How many items are enough for a round, where so many may be at hand and so many are: a whole round, unless three
+/// quarters of one are there.
+fn enough_for_round(most: usize, at_hand: usize) -> usize
     requires { 0 < most }
     ensures some { 0 < result }
     ensures few { result ≤ most }
 {
-    ROUND.min(most)
+    let whole = ROUND.min(most);
+    let least = whole - whole / 4;
+    if at_hand < least { whole } else { least }
 }
 
 /// Whether others are gathered while these items are audited: there are several workers, more may follow, and these
@@ -70,7 +73,8 @@ fn goes_on_beside(front: &[Item], placed: u32, reading: Reading, most: usize, wo
         && front.len() < most
 }
 
-/// Audits the items of a round, all of them, while the caller's thread gathers those that follow.
+/// Audits the items of a round, all of them, while the caller's thread frees those of the round before and then gathers
+/// those that follow.
 fn audit_and_gather<G: Grid + Send + Sync, T: Threads + Sync, R: Source, H: Gate + Sync>(
     crew: &Crew<'_, T, H>,
     source: &mut R,
@@ -78,6 +82,7 @@ fn audit_and_gather<G: Grid + Send + Sync, T: Threads + Sync, R: Source, H: Gate
     judge: &Judge<G>,
     before: u32,
     until: u32,
+    spent: &mut Seq<Item>,
     front: &[Item],
     left: usize,
 ) -> (Result<Vec<bool>, NoMemory>, Result<Pending, IoStop>)
@@ -112,6 +117,7 @@ fn audit_and_gather<G: Grid + Send + Sync, T: Threads + Sync, R: Source, H: Gate
         ensures failed { result ≡ Err IoStop.Failed → Rose (R.faults source.entry.now) (R.faults source.exit.now) }
         ensures later { R.faults source.entry.now ≤ R.faults source.exit.now }
     {
+        *spent = Seq::new(crew.alloc);
         let mut items = Seq::new(crew.alloc);
         let reading = gather(stream, source, &mut items, Reading::More, left)?;
         Ok(Pending { items, reading })
@@ -121,11 +127,14 @@ fn audit_and_gather<G: Grid + Send + Sync, T: Threads + Sync, R: Source, H: Gate
 
 /// Gathers the items of a round, behind those at hand, and audits the entries that stand first. By several workers
 /// items of the next round are gathered beside the audits, as many as may be at hand.
+///
+/// The items of the round before are spent. They are freed before anything is read, so mostly beside the audits.
 pub(crate) fn round_from<G: Grid + Send + Sync, T: Threads + Sync, R: Source, H: Gate + Sync>(
     crew: &Crew<'_, T, H>,
     source: &mut R,
     stream: &mut Stream,
     judge: &Judge<G>,
+    spent: &mut Seq<Item>,
     at_hand: Pending,
     most: usize,
 ) -> Result<Round, IoStop>
@@ -143,7 +152,11 @@ pub(crate) fn round_from<G: Grid + Send + Sync, T: Threads + Sync, R: Source, H:
     ensures later { R.faults source.old ≤ R.faults source.new }
 {
     let Pending { mut items, reading } = at_hand;
-    let reading = gather(stream, source, &mut items, reading, round_size(most))?;
+    let enough = enough_for_round(most, items.len());
+    if items.len() < enough {
+        *spent = Seq::new(crew.alloc);
+    }
+    let reading = gather(stream, source, &mut items, reading, enough)?;
     let front = items.as_slice();
     let before = judge.entries;
     let until = judge.placed(before, front);
@@ -161,7 +174,9 @@ pub(crate) fn round_from<G: Grid + Send + Sync, T: Threads + Sync, R: Source, H:
         });
     }
     let left = most - front.len();
-    let (audits, ahead) = audit_and_gather(crew, source, stream, judge, before, until, front, left);
+    let (audits, ahead) = audit_and_gather(
+        crew, source, stream, judge, before, until, spent, front, left,
+    );
     let audits = audits?;
     let ahead = ahead?;
     Ok(Round {

@@ -31,12 +31,12 @@ use std::thread::Threads;
 /// Entries are judged by rounds: items are gathered from as many pieces as that takes until there are enough, the input
 /// is at fault or ends, or as much is read as may be; the entries that are in their places are audited by the workers,
 /// each once, and the answer is that of the first item at fault. By one worker a round has 64 items. By more it has
-/// 128, and while they are audited the caller's thread gathers the next 128, so that there may be one thread more than
-/// there are workers.
+/// 128, and while they are audited the caller's thread frees those of the round before and gathers the next, so that
+/// there may be one thread more than there are workers. Where at least 96 were gathered, these are the next round.
 ///
-/// The gate is told of each entry's number, from 0. Where one of the entries that are audited at once has the proofs
-/// of several triples, these are audited in portions, and the gate is told of the portions' numbers, from that of the
-/// first of them on.
+/// An entry is audited in portions: 8, or as many as the most triples of one of the entries that are audited at once,
+/// up to 64. The gate is told of the portions' numbers. Of each round they begin with that of its first entry, counted
+/// from 0, and have a portion of each entry, then another of each, and so on.
 ///
 /// Reading stops at the latest 256 items behind those that are judged, and no more is held than these and those of one
 /// piece. The free list of a size is made once, by the workers, before the first round, but where the input is at
@@ -209,8 +209,9 @@ fn check_behind<G: Grid + Send + Sync, T: Threads + Sync, R: Source, H: Gate + S
         items: behind_header(items),
         reading,
     };
+    let mut spent = Seq::new(crew.alloc);
     'rounds: loop {
-        let round = round_from(crew, source, stream, &judge, at_hand, most)?;
+        let round = round_from(crew, source, stream, &judge, &mut spent, at_hand, most)?;
         let answer = judge.judge_audited_round(
             crew.rt,
             crew.alloc,
@@ -221,6 +222,7 @@ fn check_behind<G: Grid + Send + Sync, T: Threads + Sync, R: Source, H: Gate + S
         if let Some(answer) = answer {
             return Ok(answer);
         }
+        spent = round.items;
         at_hand = round.ahead;
     }
 }

@@ -6,11 +6,18 @@
 //! that begins `end ` before all entries is an invalid part: the entry's where it breaks one off, else the end's.
 //!
 //! Entries are judged by rounds of 128, or of 64 by one worker. A ticket is a portion of an entry (`PortionOf`): all
-//! entries of a round are split into as many portions as the most triples of one of them, at most 64. A portion has
+//! entries of a round are split into as many portions as the most triples of one of them, from 8 to 64. A portion has
 //! the proofs of every so many-th triple, and the first has all else. Each portion that has a triple asks first
 //! whether the triples are those that the limits ask for, so a hostile catalogue can't have formulas computed for
-//! others. With two workers or more the items of the next round are read while a round is audited (`round_from`): the
-//! audits begin in a new thread, since a source need not be `Send` and so is read by the caller's.
+//! others.
+//!
+//! The tickets come turn by turn, and each turn has a portion of each entry. With each level that was sought the first
+//! portion takes several times as long. So the more levels, the sooner it comes (`portion_at`), lest a long one begins
+//! last and all other workers wait for it.
+//!
+//! With two workers or more the items of the next round are read while a round is audited, and those of the round
+//! before are freed (`round_from`): the audits begin in a new thread, since a source need not be `Send` and so is read
+//! by the caller's.
 #![tactic(auto)]
 
 mod ahead;

@@ -1,13 +1,12 @@
 //! The entries of a round, audited at once, each in portions.
-ghost use Rattle.std.specs.Prelude.{◌≡◌, ◌+◌, ◌*◌, ◌<◌, ◌≤◌, ℕ, Bool, IfOk, Some, length, not, slice_get, vec_len};
-ghost use Rattle.std.specs.Fork.{slice_chunk};
-ghost use Rattle.std.specs.List.{AllByRecursion, list_all, position_or_len};
-ghost use Rattle.std.specs.Slice.Iter.{chunk_count};
+ghost use Rattle.std.specs.Prelude.{◌≡◌, ◌↔◌, ◌+◌, ◌*◌, ◌<◌, ◌≤◌, ℕ, Bool, IfOk, IsTrue, Some, length, not};
+ghost use Rattle.std.specs.Prelude.{slice_get, vec_len};
+ghost use Rattle.std.specs.List.{AllByRecursion, position_or_len};
 ghost use Rattle.heesch_cert.specs.Limits.{AreLimits};
-ghost use Rattle.heesch_check.specs.Judging.{AreAudits, IsFit};
+ghost use Rattle.heesch_check.specs.Judging.{AreAudits, AreTrueOf, IsFit, levels_sought, portion_at};
 
 use heesch_audit::{most_portions, portion_holds};
-use heesch_cert::Limits;
+use heesch_cert::{Limits, Verdict};
 use heesch_grid::Grid;
 use heesch_io::NoMemory;
 use heesch_pool::{Answer, Crew, Gate, Job};
@@ -16,8 +15,32 @@ use std::alloc::Global;
 use std::marker::PhantomData;
 use std::thread::Threads;
 
+/// The least portions of an entry: with so many an entry has another turn for each number of levels up to 6.
+const PORTIONS_MIN: usize = 8;
+
 /// The most portions of an entry: as many as there may be workers.
 const PORTIONS_MAX: usize = 64;
+
+/// Up to which level of coronas a verdict was sought. The audit of an entry takes the longer the more it is.
+fn levels_sought(verdict: Verdict) -> u32
+    ensures { result ≡ levels_sought verdict }
+{
+    match verdict {
+        Verdict::Tiles { .. } => 0,
+        _ => verdict.last_number(),
+    }
+}
+
+/// The portion of an entry that comes at this turn. The first portion, which has the proofs of the levels, comes the
+/// sooner the more levels were sought, so that no long audit begins last.
+fn portion_at(verdict: Verdict, turn: u32, portions: u32) -> u32
+    requires { 0 < portions }
+    ensures value { result ≡ portion_at verdict turn portions }
+    ensures below { result < portions }
+{
+    let place = u64::from(turn) + u64::from(levels_sought(verdict)) + 1;
+    (place % u64::from(portions)) as u32
+}
 
 /// The job whose item is whether a portion of an entry holds. Threads may share the handle that it has.
 #[derive(Drop)]
@@ -25,37 +48,39 @@ struct PortionOf<'a, G: Grid, R> {
     rt: R,
     alloc: Global,
     items: &'a [Item],
-    /// The number of the first portion of the first of the items.
+    /// How many of the items are audited, from the first on.
+    count: u32,
+    /// The number of the portion of the first item at the first turn.
     first: u32,
-    /// How many portions each of the items has.
+    /// How many portions each of the items has, and so how many turns there are.
     portions: u32,
     limits: Limits,
     grid: PhantomData<G>,
 }
 
 impl<'a, G: Grid, R: Threads + Sync + Copy> Answer<bool> for PortionOf<'a, G, R> {
-    ghost use Rattle.std.specs.Prelude.{IfOk, ◌-◌, nat_lt};
+    ghost use Rattle.std.specs.Prelude.{IfOk, ◌-◌, ◌&&◌, nat_lt};
     ghost use Rattle.std.specs.List.{AllByRecursion};
     ghost use Rattle.std.specs.Thread.{IsSync};
     ghost use Rattle.heesch_cert.specs.Limits.{AreLimits};
     ghost use Rattle.heesch_check.specs.Judging.{IsFit, IsPortionOf};
 
-    ghost accepts = { λ s _. nat_lt 0 s.portions };
+    ghost accepts = { λ s _. nat_lt 0 s.count && nat_lt 0 s.portions };
 
     ghost gives = { λ s number holds. IfOk holds
-        (IsPortionOf G.geometry s.limits s.items.now s.portions (number - s.first)) };
+        (IsPortionOf G.geometry s.limits s.items.now s.count s.portions (number - s.first)) };
 
     ghost ready = { λ s. IsSync R.row × AreLimits s.limits × AllByRecursion IsFit s.items.now };
 
     fn answer(&self, number: u32) -> Result<bool, NoMemory> {
         let behind = number.saturating_sub(self.first);
-        match self.items.get((behind / self.portions) as usize) {
+        match self.items.get((behind % self.count) as usize) {
             Some(Item::Entry { line: _, entry }) => portion_holds::<G, R>(
                 &self.rt,
                 self.alloc,
                 entry,
                 self.limits,
-                behind % self.portions,
+                portion_at(entry.verdict, behind / self.count, self.portions),
                 self.portions,
             ),
             _ => Ok(false),
@@ -71,49 +96,46 @@ fn most_portions_of(item: &Item) -> usize {
     }
 }
 
-/// Into how many portions each of the first `count` items is split: as many as the most of one of them, up to
-/// `PORTIONS_MAX`, if no more than `left` numbers are wanted for all of them.
+/// Into how many portions each of the first `count` items is split: as many as the most of one of them, from
+/// `PORTIONS_MIN` to `PORTIONS_MAX`, if no more than `left` numbers are wanted for all of them.
 fn portions_of_each(items: &[Item], count: u32, left: u32) -> u32
-    requires { count ≤ left }
+    requires some { 0 < count }
+    requires fit { count ≤ left }
     ensures some { 0 < result }
     ensures numbered { count * result ≤ left }
 {
-    if count == 0 {
-        return 1;
-    }
     let most = items
         .iter()
         .take(count as usize)
         .map(most_portions_of)
         .max();
-    let most = most.unwrap_or(1).clamp(1, PORTIONS_MAX) as u32;
+    let most = most.unwrap_or(1).clamp(PORTIONS_MIN, PORTIONS_MAX) as u32;
     most.min(left / count)
 }
 
-/// Whether all of these portions hold.
-fn all_hold(portions: &[bool]) -> bool
-    ensures { result ≡ list_all (λ x. x) portions.now }
-{
-    portions.iter().all(|holds| *holds)
-}
-
-/// Whether all of each so many portions hold, in order.
-fn joined(alloc: Global, answers: &[bool], portions: usize) -> Result<Vec<bool>, NoMemory>
-    requires { 0 < portions }
-    ensures len { IfOk result (λ audits. vec_len audits ≡ chunk_count (length answers.now) portions) }
+/// Whether all portions of each of so many entries hold, in order, where the answers are one of each entry, and then
+/// again one of each.
+fn joined(alloc: Global, answers: &[bool], count: usize) -> Result<Vec<bool>, NoMemory>
+    requires { 0 < count }
+    ensures len { IfOk result (λ audits. vec_len audits ≡ count) }
     ensures each { IfOk result
         (λ audits. (i : ℕ) (holds : Bool) → slice_get audits.items i ≡ Some holds
-        → holds ≡ list_all (λ x. x) (slice_chunk answers.now portions i)) }
+        → (IsTrue holds ↔ AreTrueOf answers.now count i)) }
 {
-    Ok(answers.chunks(portions).map(all_hold).collect(alloc)?)
+    let mut audits = vec![in alloc; true; count]?;
+    for (number, holds) in answers.iter().enumerate() {
+        if !*holds {
+            audits[number % count] = false;
+        }
+    }
+    Ok(audits)
 }
 
 /// Whether each entry of the numbers from `from` to before `until` is true, in order, by as many workers as told. The
 /// first of the items has the number `from`.
 ///
 /// One ticket of the pool is one portion of an entry, and the gate is told its number. The portions are numbered from
-/// `from` on, one entry after the other, each entry in as many. Where no entry has the proofs of two triples, an entry
-/// is one portion, and its number is the entry's.
+/// `from` on, turn by turn: at each turn there is one of each entry, in the order of the entries.
 pub(crate) fn audits<G: Grid + Send + Sync, R: Threads + Sync + Copy, H: Gate + Sync>(
     crew: &Crew<'_, R, H>,
     items: &[Item],
@@ -128,6 +150,9 @@ pub(crate) fn audits<G: Grid + Send + Sync, R: Threads + Sync + Copy, H: Gate + 
     ensures audits { IfOk result (λ audits. AreAudits G.geometry limits items.now audits.items) }
 {
     let count = until - from;
+    if count == 0 {
+        return Ok(Vec::new(crew.alloc));
+    }
     let portions = portions_of_each(items, count, u32::MAX - from);
     let end = from + count * portions;
     let job = Job::new(
@@ -135,6 +160,7 @@ pub(crate) fn audits<G: Grid + Send + Sync, R: Threads + Sync + Copy, H: Gate + 
             rt: *crew.rt,
             alloc: crew.alloc,
             items,
+            count,
             first: from,
             portions,
             limits,
@@ -143,7 +169,7 @@ pub(crate) fn audits<G: Grid + Send + Sync, R: Threads + Sync + Copy, H: Gate + 
         end,
     );
     let answers = crew.run_span(&job, from, end)?;
-    joined(crew.alloc, &answers, portions as usize)
+    joined(crew.alloc, &answers, count as usize)
 }
 
 /// How many of the audits from the first on say that an entry is true.

@@ -12,13 +12,13 @@ use Rattle.heesch_check.proofs.ahead.round_from.Goals.{After-audit_and_gather-au
 -- reading stopped in time
 stopped : (g : given.Over) (c : After-gather g) → StopsInTime (g.R.Source.left c.args.source.now) (g.R.Source.left c.gather.new.source) c.args.stream.now c.args.at_hand.items c.args.at_hand.reading c.args.most
 stopped g c = record {
-  stops = λ first found h. stops_before first (g.R.Source.left c.args.source.now) (g.R.Source.left c.gather.new.source) found c.args.at_hand.items c.round_size.result c.args.most c.round_size.ensures.few (c.gather.ensures.no_further first found h);
+  stops = λ first found h. stops_before first (g.R.Source.left c.args.source.now) (g.R.Source.left c.gather.new.source) found c.args.at_hand.items c.enough_for_round-enough.result c.args.most c.enough_for_round-enough.ensures.few (c.gather.ensures.no_further first found h);
 }
 
 -- the items are fit
 fit : (g : given.Over) (c : In_ok-reading g) → AllByRecursion IsFit c.gather.new.items
 fit g c =
-    gathered_fits (g.R.Source.left c.args.source.now) (g.R.Source.left c.gather.new.source) c.args.stream.now c.gather.new.stream c.args.at_hand.items c.gather.new.items c.round_size.result c.args.at_hand.reading c.in_ok-reading.reading c.requires.may c.in_ok-reading.ensures.ok
+    gathered_fits (g.R.Source.left c.args.source.now) (g.R.Source.left c.gather.new.source) c.args.stream.now c.gather.new.stream c.args.at_hand.items c.gather.new.items c.enough_for_round-enough.result c.args.at_hand.reading c.in_ok-reading.reading c.requires.may c.in_ok-reading.ensures.ok
 
 pub returns-in_err-reading-clause-no_further : goal.returns-in_err-reading-clause-no_further
 returns-in_err-reading-clause-no_further g c = stopped g (goal.at.returns-in_err-reading-clause-no_further g c).After-gather
@@ -35,11 +35,11 @@ pub returns-then-not-goes_on_beside-clause-gathers : goal.returns-then-not-goes_
 returns-then-not-goes_on_beside-clause-gathers g c = record {
   middle = g.R.Source.left c.gather.new.source;
   between = c.gather.new.stream;
-  enough = c.round_size.result;
-  some = c.round_size.ensures.some;
+  enough = c.enough_for_round-enough.result;
+  some = c.enough_for_round-enough.ensures.some;
   gathers = c.in_ok-reading.ensures.ok;
   left = 0;
-  ahead = gathers_none (g.R.Source.left c.gather.new.source) c.gather.new.stream c.new.result c.in_ok-reading.reading c.new.ensures;
+  ahead = gathers_none (g.R.Source.left c.gather.new.source) c.gather.new.stream c.new-then-not-goes_on_beside.result c.in_ok-reading.reading c.new-then-not-goes_on_beside.ensures;
 }
 
 pub returns-then-not-goes_on_beside-clause-no_further : goal.returns-then-not-goes_on_beside-clause-no_further
@@ -53,7 +53,7 @@ audit_and_gather-audits-requires-clause-fit g c κs within = rw c.as_slice-front
 pub audit_and_gather-audits-requires-clause-may : goal.audit_and_gather-audits-requires-clause-may
 audit_and_gather-audits-requires-clause-may g c κs within =
     let left = g.R.Source.left in
-    let on : MayGather (left c.gather.new.source) c.gather.new.stream c.gather.new.items c.in_ok-reading.reading = may_gather_on (left c.args.source.now) (left c.gather.new.source) c.args.stream.now c.gather.new.stream c.args.at_hand.items c.gather.new.items c.round_size.result c.args.at_hand.reading c.in_ok-reading.reading c.requires.may c.in_ok-reading.ensures.ok in
+    let on : MayGather (left c.gather.new.source) c.gather.new.stream c.gather.new.items c.in_ok-reading.reading = may_gather_on (left c.args.source.now) (left c.gather.new.source) c.args.stream.now c.gather.new.stream c.args.at_hand.items c.gather.new.items c.enough_for_round-enough.result c.args.at_hand.reading c.in_ok-reading.reading c.requires.may c.in_ok-reading.ensures.ok in
     may_go_on (left c.gather.new.source) c.gather.new.items c.gather.new.stream c.in_ok-reading.reading on (c.goes_on_beside.ensures.more c.if-not-goes_on_beside.false)
 
 -- reading stops in time, whatever becomes of what was gathered beside the audits
@@ -63,8 +63,8 @@ stops_in_time g c =
     let front = c.as_slice-front.result.now in
     let few = c.goes_on_beside.ensures.few c.if-not-goes_on_beside.false in
     let same = ap length c.as_slice-front.ensures in
-    stops_beside (left c.args.source.now) (left c.gather.new.source) (left c.audit_and_gather-audits.new.source) c.args.stream.now c.gather.new.stream c.args.at_hand.items c.gather.new.items c.round_size.result c.args.most (c.args.most - length front) c.args.at_hand.reading c.in_ok-reading.reading
-    (c.goes_on_beside.ensures.more c.if-not-goes_on_beside.false) c.round_size.ensures.few (omega (arith, few, same)) c.in_ok-reading.ensures.ok c.gather.ensures.no_further c.audit_and_gather-audits.ensures.no_further
+    stops_beside (left c.args.source.now) (left c.gather.new.source) (left c.audit_and_gather-audits.new.source) c.args.stream.now c.gather.new.stream c.args.at_hand.items c.gather.new.items c.enough_for_round-enough.result c.args.most (c.args.most - length front) c.args.at_hand.reading c.in_ok-reading.reading
+    (c.goes_on_beside.ensures.more c.if-not-goes_on_beside.false) c.enough_for_round-enough.ensures.few (omega (arith, few, same)) c.in_ok-reading.ensures.ok c.gather.ensures.no_further c.audit_and_gather-audits.ensures.no_further
 
 pub returns-in_err-audits-2-clause-no_further : goal.returns-in_err-audits-2-clause-no_further
 returns-in_err-audits-2-clause-no_further g c = stops_in_time g (goal.at.returns-in_err-audits-2-clause-no_further g c).After-audit_and_gather-audits

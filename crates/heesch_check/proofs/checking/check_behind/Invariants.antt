@@ -1,4 +1,4 @@
-use Rattle.std.proofs.Common.{◌≡◌, ℕ, ◌+◌, ◌-◌, ◌≤◌, List, Option, length}
+use Rattle.std.proofs.Common.{◌≡◌, ℕ, ◌-◌, ◌≤◌, List, Option, length}
 use Rattle.heesch_io.specs.Input.{ReadsNoFurther}
 use Rattle.heesch_check.specs.Reading.{IsPending, IsReading, DecideNothing}
 use Rattle.heesch_check.proofs.Behind.{left_to_judge}
