@@ -34,9 +34,10 @@ use std::thread::Threads;
 /// 128, and while they are audited the caller's thread frees those of the round before and gathers the next, so that
 /// there may be one thread more than there are workers. Where at least 96 were gathered, these are the next round.
 ///
-/// An entry is audited in portions: 8, or as many as the most triples of one of the entries that are audited at once,
-/// up to 64. The gate is told of the portions' numbers. Of each round they begin with that of its first entry, counted
-/// from 0, and have a portion of each entry, then another of each, and so on.
+/// The gate is told of each entry's number, from 0. Where one of the entries that are audited at once has the proofs
+/// of several triples, or coronas were sought for it, each is audited in portions: as many as the most triples of one,
+/// or one more than the most levels, up to 64. Then the gate is told of the portions' numbers, from that of the first
+/// entry on: those of one portion of each entry, then of another of each, and so on.
 ///
 /// Reading stops at the latest 256 items behind those that are judged, and no more is held than these and those of one
 /// piece. The free list of a size is made once, by the workers, before the first round, but where the input is at

@@ -15,9 +15,6 @@ use std::alloc::Global;
 use std::marker::PhantomData;
 use std::thread::Threads;
 
-/// The least portions of an entry: with so many an entry has another turn for each number of levels up to 6.
-const PORTIONS_MIN: usize = 8;
-
 /// The most portions of an entry: as many as there may be workers.
 const PORTIONS_MAX: usize = 64;
 
@@ -88,16 +85,19 @@ impl<'a, G: Grid, R: Threads + Sync + Copy> Answer<bool> for PortionOf<'a, G, R>
     }
 }
 
-/// The most portions into which an item is worth being split, at least one.
+/// The most portions into which an item is worth being split: one for each triple, and a turn for each number of levels
+/// up to that which was sought.
 fn most_portions_of(item: &Item) -> usize {
     match item {
-        Item::Entry { line: _, entry } => most_portions(entry),
+        Item::Entry { line: _, entry } => {
+            most_portions(entry).max(levels_sought(entry.verdict) as usize + 1)
+        }
         _ => 1,
     }
 }
 
-/// Into how many portions each of the first `count` items is split: as many as the most of one of them, from
-/// `PORTIONS_MIN` to `PORTIONS_MAX`, if no more than `left` numbers are wanted for all of them.
+/// Into how many portions each of the first `count` items is split: as many as the most of one of them, up to
+/// `PORTIONS_MAX`, if no more than `left` numbers are wanted for all of them.
 fn portions_of_each(items: &[Item], count: u32, left: u32) -> u32
     requires some { 0 < count }
     requires fit { count ≤ left }
@@ -109,7 +109,7 @@ fn portions_of_each(items: &[Item], count: u32, left: u32) -> u32
         .take(count as usize)
         .map(most_portions_of)
         .max();
-    let most = most.unwrap_or(1).clamp(PORTIONS_MIN, PORTIONS_MAX) as u32;
+    let most = most.unwrap_or(1).clamp(1, PORTIONS_MAX) as u32;
     most.min(left / count)
 }
 
