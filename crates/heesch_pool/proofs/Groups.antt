@@ -6,7 +6,7 @@ use Rattle.heesch_io.specs.declared.NoMemory.{NoMemory}
 use Rattle.heesch_claims.specs.Machine.{times}
 use Rattle.heesch_claims.specs.Board.{BoardView, SeatView, BelongsTo}
 use Rattle.heesch_claims.proofs.Sound.{times-append}
-use Rattle.heesch_pool.specs.Pool.{tickets_of, AnswersEach, shares_of, stands_with, HaveWorked}
+use Rattle.heesch_pool.specs.Pool.{tickets_of, AnswersEach, shares_of, stands_with, AreTogether, HaveWorked}
 use Rattle.heesch_pool.specs.declared.gather.Gathered.{Gathered}
 use Rattle.heesch_pool.proofs.Pairs.{tickets-append}
 
@@ -44,6 +44,23 @@ module _ {T : Type 0} (low high : Gathered T) where
       → IfOk r Paired → IfOk r (λ g. AnswersEach R from g.pairs.items)
   answers_together R from (Ok g) p q pairs = subst (AnswersEach R from) (sym pairs) (All-append (λ x. R (from + x.0) (Ok x.1)) low.pairs.items high.pairs.items p q)
   answers_together R from (Err e) p q pairs = tt
+
+module _ {T : Type 0} where
+  pub both_worked : (b : BoardView) (os ot : List SeatView) (low high r : Result (Gathered T) NoMemory)
+      → IfOk low (λ g. HaveWorked b os g.seats.items (tickets_of g.pairs.items)) → IfOk high (λ g. HaveWorked b ot g.seats.items (tickets_of g.pairs.items))
+      → IfOk r (AreTogether low high) → IfOk r (λ g. HaveWorked b (os ++ ot) g.seats.items (tickets_of g.pairs.items))
+  both_worked b os ot (Ok l) (Ok h) (Ok g) p q is =
+      rw (is.0, ap tickets_of is.1 ∙ tickets-append l.pairs.items h.pairs.items) (worked_both b os ot l.seats.items h.seats.items (tickets_of l.pairs.items) (tickets_of h.pairs.items) p q)
+  both_worked b os ot (Err e) high (Ok g) p q is = absurd is
+  both_worked b os ot (Ok l) (Err e) (Ok g) p q is = absurd is
+  both_worked b os ot low high (Err e) p q is = tt
+
+  pub both_answer : (R : ℕ → Result T NoMemory → Type 0) (from : ℕ) (low high r : Result (Gathered T) NoMemory) → IfOk low (λ g. AnswersEach R from g.pairs.items) → IfOk high (λ g. AnswersEach R from g.pairs.items)
+      → IfOk r (AreTogether low high) → IfOk r (λ g. AnswersEach R from g.pairs.items)
+  both_answer R from (Ok l) (Ok h) (Ok g) p q is = subst (AnswersEach R from) (sym is.1) (All-append (λ x. R (from + x.0) (Ok x.1)) l.pairs.items h.pairs.items p q)
+  both_answer R from (Err e) high (Ok g) p q is = absurd is
+  both_answer R from (Ok l) (Err e) (Ok g) p q is = absurd is
+  both_answer R from low high (Err e) p q is = tt
 
 pub shares_push : (ss : List SeatView) (s : SeatView) → shares_of (ss ++ s ∷ []) ≡ shares_of ss + s.shares
 shares_push ss s = let r : shares_of (ss ++ s ∷ []) ≡ shares_of ss + (s.shares + 0) = shares-append ss (s ∷ []) in omega arith

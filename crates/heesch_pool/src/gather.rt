@@ -66,7 +66,7 @@ pub fn gather<R: Threads + Sync, T: Send + Sync + Drop, W: Answer<T> + Sync, H: 
 }
 
 /// What two groups of workers leave.
-fn together<T: Drop>(low: Gathered<T>, high: Gathered<T>) -> Result<Gathered<T>, NoMemory>
+pub fn together<T: Drop>(low: Gathered<T>, high: Gathered<T>) -> Result<Gathered<T>, NoMemory>
     ensures seats { IfOk result (λ g. g.seats.items ≡ low.seats.items ++ high.seats.items) }
     ensures pairs { IfOk result (λ g. g.pairs.items ≡ low.pairs.items ++ high.pairs.items) }
 {

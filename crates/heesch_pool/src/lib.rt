@@ -9,7 +9,7 @@
 //! making and its end. What a gate is given is shown by a test.
 #![tactic(auto)]
 
-mod beside;
+mod behind;
 mod crew;
 mod gate;
 mod gather;
@@ -21,7 +21,6 @@ mod seats;
 mod tests;
 mod workers;
 
-pub use beside::run_beside;
 pub use crew::Crew;
 pub use gate::{Gate, Open};
 pub use job::{Answer, Job};

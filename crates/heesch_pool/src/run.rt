@@ -1,15 +1,19 @@
 //! A job run by workers.
-ghost use Rattle.std.specs.Prelude.{◌≡◌, ◌≤◌, ◌+◌, IfOk, vec_len};
-ghost use Rattle.heesch_pool.specs.Pool.{AnswersFrom};
+ghost use Rattle.std.specs.Prelude.{◌≡◌, ◌≤◌, ◌<◌, ◌+◌, ℕ, true, All, Contains, IfOk, Some, slice_get, vec_len};
+ghost use Rattle.heesch_claims.specs.Machine.{times};
+ghost use Rattle.heesch_claims.specs.Board.{BelongsTo};
+ghost use Rattle.heesch_pool.specs.Pool.{AnswersFrom, shares_of, stands_with, tickets_of};
 
+use crate::behind::gather_behind;
 use crate::crew::Crew;
 use crate::gate::Gate;
 use crate::gather::{Gathered, gather};
 use crate::job::{Answer, Job};
 use crate::order::in_order;
-use crate::seats::{deal, reunite};
+use crate::seats::{Dealt, deal, deal_apart, reunite};
 use heesch_claims::Board;
 use heesch_io::NoMemory;
+use std::alloc::Global;
 use std::thread::Threads;
 
 impl<'a, R: Threads + Sync, H: Gate + Sync> Crew<'a, R, H> {
@@ -37,14 +41,41 @@ impl<'a, R: Threads + Sync, H: Gate + Sync> Crew<'a, R, H> {
         let workers = self.workers.min(count.max(1));
         let (mut board, seat) = Board::new(self.alloc, count)?;
         let seats = deal(self.alloc, &mut board, seat, workers)?;
-        let Gathered { seats, pairs } = gather(
-            self.rt, self.alloc, job, from, &board, seats, 0, self.gate,
-        )?;
-        let Some(seat) = reunite(&mut board, seats) else {
-            unreachable!()
+        let gathered = gather(self.rt, self.alloc, job, from, &board, seats, 0, self.gate)?;
+        items_of(self.alloc, board, gathered)
+    }
+
+    /// The same as `run_span`, where the caller's thread is one of the workers, and does what is done `first` before it
+    /// draws a number. The others work meanwhile. It is done at `NoMemory` too.
+    ///
+    /// It is called in the caller's thread, so need not be `Send`. What it leaves in what it borrows is known.
+    pub fn run_span_behind<T: Send + Sync + Drop, W: Answer<T> + Sync, A, F: FnMut() -> A>(
+        &self,
+        job: &Job<T, W>,
+        from: u32,
+        until: u32,
+        first: &mut F,
+    ) -> (Result<Vec<T>, NoMemory>, A)
+        requires span { (from ≤ until) × (until ≤ job.now.count) }
+        requires work { W.ready job.now.work }
+        requires first { F.pre first.old }
+        ensures len { IfOk result.0 (λ items. from + vec_len items ≡ until) }
+        ensures answers { IfOk result.0 (λ items. AnswersFrom (W.gives job.now.work) from items.items) }
+        ensures first { F.step first.old result.1 first.new }
+    {
+        let count = until - from;
+        let workers = self.workers.min(count.max(1));
+        let Dealt { board, others, own } = match deal_apart(self.alloc, count, workers) {
+            Ok(dealt) => dealt,
+            Err(refused) => return (Err(refused), first()),
         };
-        let _drawn = board.close(seat);
-        in_order(self.alloc, count, pairs)
+        let (gathered, done) = gather_behind(
+            self.rt, self.alloc, job, from, &board, others, own, self.gate, first,
+        );
+        match gathered {
+            Ok(gathered) => (items_of(self.alloc, board, gathered), done),
+            Err(refused) => (Err(refused), done),
+        }
     }
 
     /// The answers on each number below the job's count, in order: `run_span` from 0.
@@ -58,4 +89,27 @@ impl<'a, R: Threads + Sync, H: Gate + Sync> Crew<'a, R, H> {
     {
         self.run_span(job, 0, job.count)
     }
+}
+
+/// The items in the order of their tickets, where all workers went to their end.
+fn items_of<T: Drop>(
+    alloc: Global,
+    mut board: Board,
+    gathered: Gathered<T>,
+) -> Result<Vec<T>, NoMemory>
+    requires ended { All (λ s. BelongsTo s board × (s.ended ≡ true)) gathered.seats.items }
+    requires some { 0 < vec_len gathered.seats }
+    requires whole { shares_of gathered.seats.items ≡ 64 }
+    requires claimed { (x : ℕ) → stands_with x gathered.seats.items ≡ times x (tickets_of gathered.pairs.items) }
+    ensures len { IfOk result (λ items. vec_len items ≡ board.count) }
+    ensures placed { IfOk result
+        (λ items. (i : ℕ) (x : T) → slice_get items.items i ≡ Some x → Contains gathered.pairs.items (i, x)) }
+{
+    let Gathered { seats, pairs } = gathered;
+    let Some(seat) = reunite(&mut board, seats) else {
+        unreachable!()
+    };
+    let count = board.count();
+    let _drawn = board.close(seat);
+    in_order(alloc, count, pairs)
 }

@@ -1,5 +1,5 @@
 //! The seats of a board, dealt to workers and put together again.
-ghost use Rattle.std.specs.Prelude.{◌≡◌, ◌≤◌, ◌<◌, ◌+◌, ℕ, [], true, false, IfOk, IfSome, IsSome, All, vec_len};
+ghost use Rattle.std.specs.Prelude.{◌≡◌, ◌≤◌, ◌<◌, ◌+◌, ◌++◌, ℕ, [], true, false, IfOk, IfSome, IsSome, All, vec_len};
 ghost use Rattle.heesch_claims.specs.Machine.{times};
 ghost use Rattle.heesch_claims.specs.Board.{BelongsTo};
 ghost use Rattle.heesch_pool.specs.Pool.{AreReady, shares_of, stands_with};
@@ -29,6 +29,29 @@ pub fn deal(
     }
     seats.push(seat)?;
     Ok(seats)
+}
+
+/// A new board, the seat of the caller's worker, and those of the others.
+#[derive(Drop)]
+pub struct Dealt {
+    pub board: Board,
+    pub others: Vec<Seat>,
+    pub own: Vec<Seat>,
+}
+
+/// A new board of so many tickets, and a seat for each worker, of which the last is the caller's.
+pub fn deal_apart(alloc: Global, count: u32, workers: u32) -> Result<Dealt, NoMemory>
+    requires workers { (0 < workers) × (workers ≤ 64) }
+    ensures count { IfOk result (λ d. d.board.count ≡ count) }
+    ensures ready { IfOk result (λ d. AreReady d.board d.others.items × AreReady d.board d.own.items) }
+    ensures each { IfOk result (λ d. vec_len d.others + 1 ≡ workers) }
+    ensures own { IfOk result (λ d. vec_len d.own ≡ 1) }
+    ensures whole { IfOk result (λ d. shares_of (d.others.items ++ d.own.items) ≡ 64) }
+{
+    let (mut board, seat) = Board::new(alloc, count)?;
+    let mut others = deal(alloc, &mut board, seat, workers)?;
+    let own = others.split_off(others.len() - 1)?;
+    Ok(Dealt { board, others, own })
 }
 
 /// Joins all seats into one. `None` comes exactly where there is none.

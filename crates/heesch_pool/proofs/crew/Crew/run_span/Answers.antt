@@ -4,6 +4,6 @@ use Rattle.heesch_pool.proofs.crew.Crew.run_span.Goals as goal
 
 pub returns-clause-answers : goal.returns-clause-answers
 returns-clause-answers g c =
-    let pairs = c.in_ok-seats-2.field-0.pairs in
-    let each : AnswersEach (λ i r. g.W.Answer.gives c.args.job.now.work i r) c.args.from pairs.items = c.in_ok-seats-2.ensures.answers in
-    answers_placed (λ i r. g.W.Answer.gives c.args.job.now.work i r) c.args.from pairs.items c.in_order.result each c.in_order.ensures.placed
+    let pairs = c.in_ok-gathered.gathered.pairs in
+    let each : AnswersEach (λ i r. g.W.Answer.gives c.args.job.now.work i r) c.args.from pairs.items = c.in_ok-gathered.ensures.answers in
+    answers_placed (λ i r. g.W.Answer.gives c.args.job.now.work i r) c.args.from pairs.items c.items_of.result each c.items_of.ensures.placed
