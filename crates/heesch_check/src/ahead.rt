@@ -12,7 +12,7 @@ use crate::judging::Judge;
 use crate::reading::{Reading, gather};
 use heesch_grid::Grid;
 use heesch_io::{IoStop, NoMemory, Seq, Source};
-use heesch_pool::{Crew, Gate, run_beside};
+use heesch_pool::{Crew, Gate};
 use heesch_reader::{Item, Stream};
 use std::thread::Threads;
 
@@ -73,8 +73,8 @@ fn goes_on_beside(front: &[Item], placed: u32, reading: Reading, most: usize, wo
         && front.len() < most
 }
 
-/// Audits the items of a round, all of them, while the caller's thread frees those of the round before and then gathers
-/// those that follow.
+/// Audits the items of a round, all of them. The caller's thread, as one of the workers, first frees those of the round
+/// before and gathers those that follow.
 fn audit_and_gather<G: Grid + Send + Sync, T: Threads + Sync, R: Source, H: Gate + Sync>(
     crew: &Crew<'_, T, H>,
     source: &mut R,
@@ -100,13 +100,6 @@ fn audit_and_gather<G: Grid + Send + Sync, T: Threads + Sync, R: Source, H: Gate
     ensures failed { result.1 ≡ Err IoStop.Failed → Rose (R.faults source.old) (R.faults source.new) }
     ensures later { R.faults source.old ≤ R.faults source.new }
 {
-    let mut audits = || -> Result<Vec<bool>, NoMemory>
-        requires { (geometry_of judge.now.header.grid ≡ G.geometry) × AreLimits judge.now.header.limits
-            × AllByRecursion IsFit front.now × (before ≤ until) × (until ≤ before + length front.now)
-            × ArePlaced judge.now.header before (take (until - before) front.now) }
-        ensures { IfOk result
-            (λ audits. AreAuditsBehind judge.entry.now.header before front.entry.now audits.items) }
-    { judge.audits_between(crew, before, until, front) };
     let mut gathered = || -> Result<Pending, IoStop>
         requires { MayGather (R.left source.now) stream.now [] readings.More }
         ensures gathers { IfOk result
@@ -122,7 +115,7 @@ fn audit_and_gather<G: Grid + Send + Sync, T: Threads + Sync, R: Source, H: Gate
         let reading = gather(stream, source, &mut items, Reading::More, left)?;
         Ok(Pending { items, reading })
     };
-    run_beside(crew.rt, &mut audits, &mut gathered)
+    judge.audits_between(crew, before, until, front, &mut gathered)
 }
 
 /// Gathers the items of a round, behind those at hand, and audits the entries that stand first. By several workers
@@ -161,7 +154,8 @@ pub(crate) fn round_from<G: Grid + Send + Sync, T: Threads + Sync, R: Source, H:
     let before = judge.entries;
     let until = judge.placed(before, front);
     if !goes_on_beside(front, until - before, reading, most, crew.workers) {
-        let audits = judge.audits_between(crew, before, until, front)?;
+        let (audited, ()) = judge.audits_between(crew, before, until, front, &mut || ());
+        let audits = audited?;
         let ahead = Pending {
             items: Seq::new(crew.alloc),
             reading,

@@ -31,8 +31,8 @@ use std::thread::Threads;
 /// Entries are judged by rounds: items are gathered from as many pieces as that takes until there are enough, the input
 /// is at fault or ends, or as much is read as may be; the entries that are in their places are audited by the workers,
 /// each once, and the answer is that of the first item at fault. By one worker a round has 64 items. By more it has
-/// 128, and while they are audited the caller's thread frees those of the round before and gathers the next, so that
-/// there may be one thread more than there are workers. Where at least 96 were gathered, these are the next round.
+/// 128. The caller's thread is one of the workers: it frees the items of the round before and gathers the next while
+/// the others audit, and then audits too. Where at least 96 were gathered, these are the next round.
 ///
 /// The gate is told of each entry's number, from 0. Where one of the entries that are audited at once has the proofs
 /// of several triples, or coronas were sought for it, each is audited in portions: as many as the most triples of one,

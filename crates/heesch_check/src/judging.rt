@@ -152,25 +152,37 @@ impl<G: Grid + Send + Sync> Judge<G> {
 
     /// Whether each entry of the numbers from `before` to before `until` is true, in order: those that stand first
     /// among the items, each in its place.
-    pub fn audits_between<T: Threads + Sync, H: Gate + Sync>(
+    ///
+    /// The caller's thread is one of the workers, and does what is done `first` before it audits, at `NoMemory` too.
+    pub fn audits_between<T: Threads + Sync, H: Gate + Sync, A, F: FnMut() -> A>(
         &self,
         crew: &Crew<'_, T, H>,
         before: u32,
         until: u32,
         items: &[Item],
-    ) -> Result<Vec<bool>, NoMemory>
+        first: &mut F,
+    ) -> (Result<Vec<bool>, NoMemory>, A)
         requires grid { geometry_of self.now.header.grid ≡ G.geometry }
         requires limits { AreLimits self.now.header.limits }
         requires fit { AllByRecursion IsFit items.now }
         requires order { before ≤ until }
         requires some { until ≤ before + length items.now }
         requires placed { ArePlaced self.now.header before (take (until - before) items.now) }
-        ensures len { IfOk result (λ audits. before + vec_len audits ≡ until) }
-        ensures audits { IfOk result (λ audits. AreAuditsBehind self.now.header before items.now audits.items) }
+        requires first { F.pre first.old }
+        ensures len { IfOk result.0 (λ audits. before + vec_len audits ≡ until) }
+        ensures audits { IfOk result.0 (λ audits. AreAuditsBehind self.now.header before items.now audits.items) }
+        ensures first { F.step first.old result.1 first.new }
     {
         let handle = SharedHandle { rt: crew.rt };
         let crew = Crew::new(&handle, crew.alloc, crew.workers, crew.gate);
-        audits::<G, SharedHandle<'_, T>, H>(&crew, items, before, until, self.header.limits)
+        audits::<G, SharedHandle<'_, T>, H, A, F>(
+            &crew,
+            items,
+            before,
+            until,
+            self.header.limits,
+            first,
+        )
     }
 
     /// The answer where a line begins as the last one does in an input that is longer than is read. It comes too

@@ -16,8 +16,8 @@
 //! last and all other workers wait for it.
 //!
 //! With two workers or more the items of the next round are read while a round is audited, and those of the round
-//! before are freed (`round_from`): the audits begin in a new thread, since a source need not be `Send` and so is read
-//! by the caller's.
+//! before are freed (`round_from`). The caller's thread does both, since a source need not be `Send`, and then audits
+//! as one of the workers. So there are never more threads than workers.
 #![tactic(auto)]
 
 mod ahead;

@@ -134,24 +134,35 @@ fn joined(alloc: Global, answers: &[bool], count: usize) -> Result<Vec<bool>, No
 /// Whether each entry of the numbers from `from` to before `until` is true, in order, by as many workers as told. The
 /// first of the items has the number `from`.
 ///
+/// The caller's thread is one of the workers, and does what is done `first` before its portions, at `NoMemory` too.
+///
 /// One ticket of the pool is one portion of an entry, and the gate is told its number. The portions are numbered from
 /// `from` on, turn by turn: at each turn there is one of each entry, in the order of the entries.
-pub(crate) fn audits<G: Grid + Send + Sync, R: Threads + Sync + Copy, H: Gate + Sync>(
+pub(crate) fn audits<
+    G: Grid + Send + Sync,
+    R: Threads + Sync + Copy,
+    H: Gate + Sync,
+    A,
+    F: FnMut() -> A,
+>(
     crew: &Crew<'_, R, H>,
     items: &[Item],
     from: u32,
     until: u32,
     limits: Limits,
-) -> Result<Vec<bool>, NoMemory>
+    first: &mut F,
+) -> (Result<Vec<bool>, NoMemory>, A)
     requires span { from ≤ until }
     requires limits { AreLimits limits }
     requires fit { AllByRecursion IsFit items.now }
-    ensures len { IfOk result (λ audits. from + vec_len audits ≡ until) }
-    ensures audits { IfOk result (λ audits. AreAudits G.geometry limits items.now audits.items) }
+    requires first { F.pre first.old }
+    ensures len { IfOk result.0 (λ audits. from + vec_len audits ≡ until) }
+    ensures audits { IfOk result.0 (λ audits. AreAudits G.geometry limits items.now audits.items) }
+    ensures first { F.step first.old result.1 first.new }
 {
     let count = until - from;
     if count == 0 {
-        return Ok(Vec::new(crew.alloc));
+        return (Ok(Vec::new(crew.alloc)), first());
     }
     let portions = portions_of_each(items, count, u32::MAX - from);
     let end = from + count * portions;
@@ -168,8 +179,11 @@ pub(crate) fn audits<G: Grid + Send + Sync, R: Threads + Sync + Copy, H: Gate + 
         },
         end,
     );
-    let answers = crew.run_span(&job, from, end)?;
-    joined(crew.alloc, &answers, count as usize)
+    let (answers, done) = crew.run_span_behind(&job, from, end, first);
+    match answers {
+        Ok(answers) => (joined(crew.alloc, &answers, count as usize), done),
+        Err(refused) => (Err(refused), done),
+    }
 }
 
 /// How many of the audits from the first on say that an entry is true.

@@ -25,8 +25,8 @@ returns-in_err-reading-clause-no_further g c = stopped g (goal.at.returns-in_err
 
 -- ---- nothing is read beside the audits
 
-pub audits_between-requires-clause-fit : goal.audits_between-requires-clause-fit
-audits_between-requires-clause-fit g c κs within = rw c.as_slice-front.ensures (fit g (goal.at.audits_between-requires-clause-fit g c).In_ok-reading)
+pub audits_between-audited-requires-clause-fit : goal.audits_between-audited-requires-clause-fit
+audits_between-audited-requires-clause-fit g c κs within = rw c.as_slice-front.ensures (fit g (goal.at.audits_between-audited-requires-clause-fit g c).In_ok-reading)
 
 pub returns-in_err-audits-clause-no_further : goal.returns-in_err-audits-clause-no_further
 returns-in_err-audits-clause-no_further g c = stopped g (goal.at.returns-in_err-audits-clause-no_further g c).After-gather

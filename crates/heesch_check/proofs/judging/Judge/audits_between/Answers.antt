@@ -7,7 +7,7 @@ pub returns-clause-audits : goal.returns-clause-audits
 returns-clause-audits g c =
     let header = c.args.self.now.header in
     let found = c.args.items.now in
-    if_both c.audits.result
+    if_both c.audits.result.0
     (λ audits long are.
     let many = audits.ok.0 in
     record {
