@@ -73,8 +73,8 @@ fn goes_on_beside(front: &[Item], placed: u32, reading: Reading, most: usize, wo
         && front.len() < most
 }
 
-/// Audits the items of a round, all of them. The caller's thread, as one of the workers, first frees those of the round
-/// before and gathers those that follow.
+/// Audits the items of a round, all of them. The caller's thread is one of the workers: it first frees those of the
+/// round before and gathers those that follow.
 fn audit_and_gather<G: Grid + Send + Sync, T: Threads + Sync, R: Source, H: Gate + Sync>(
     crew: &Crew<'_, T, H>,
     source: &mut R,

@@ -3,6 +3,9 @@ pub mod Turning
 pub mod Gathering
 pub mod Sorting
 pub mod Moving
-pub mod Beyond
+pub mod Places
+pub mod Marks
 pub mod Universality
 pub mod Numbering
+pub mod Tiles
+pub mod Beside

@@ -13,7 +13,7 @@ use Rattle.heesch_grid.specs.Cells.{cell, cell_before, has, IsCellListOf}
 use Rattle.heesch_grid.specs.Geometry.{Geometry, IsGrid, IsIsometry, apply, image}
 use Rattle.heesch_grid.specs.Listing.{IsRising}
 use Rattle.heesch_grid.specs.Placement.{IsLeastIsometry}
-use Rattle.heesch_grid.specs.Vectors.{AreUnitsOf, IsWithin, plus}
+use Rattle.heesch_grid.specs.Vectors.{AreUnitsOf, IsWithin, plus, minus}
 use Rattle.heesch_grid.specs.Pairs.{Cell-eta}
 use Rattle.heesch_grid.specs.PatternLaws.{rises_moved}
 use Rattle.heesch_grid.proofs.Images.{unit_product}
@@ -49,7 +49,7 @@ moved_list s zs xs l = record {
 abbrev pub move_of : Geometry → Iso → Cell
 move_of g by = cell (pos g.unit *ℤ by.da) (pos g.unit *ℤ by.db)
 
-applied : (g : Geometry) (by : Iso) (c : Cell) → plus (move_of g by) (g.turn by.turn c) ≡ apply g by c
+pub applied : (g : Geometry) (by : Iso) (c : Cell) → plus (move_of g by) (g.turn by.turn c) ≡ apply g by c
 applied g by c = Cell-eta (plus (move_of g by) (g.turn by.turn c)) (apply g by c) (omega (arith, ints)) (omega (arith, ints))
 
 moved_image : (g : Geometry) (by : Iso) (xs : List Cell) → map (plus (move_of g by)) (map (g.turn by.turn) xs) ≡ image g by xs
@@ -150,3 +150,7 @@ module _ (g : Geometry) (law : IsGrid g) where
       let v = near c.0 (has-is xs c.0 c.1) in
       let e : apply g by c.0 ≡ plus (move_of g by) c.0 = sym (applied g by c.0) ∙ ap (λ k. plus (move_of g by) (g.turn k c.0)) turn ∙ ap (plus (move_of g by)) (law.identity c.0) in
       subst (IsWithin (n + m)) (sym e ∙ c.2) (record { a_low = omega (arith, ints, v.a_low, w.a_low); a_high = omega (arith, ints, v.a_high, w.a_high); b_low = omega (arith, ints, v.b_low, w.b_low); b_high = omega (arith, ints, v.b_high, w.b_high) })
+
+-- how far the one cell lies from the other
+pub away : (d from to : Cell) → plus d from ≡ to → d ≡ minus to from
+away d from to e = let a = ap (λ z. z.a) e in let b = ap (λ z. z.b) e in Cell-eta d (minus to from) (omega (arith, ints, a)) (omega (arith, ints, b))

@@ -1,40 +1,42 @@
--- Orientations that are moved: the placements that have a target and no barred cell.
-use Rattle.std.proofs.Common.{◌≡◌, refl, sym, ap, ◌∙◌, subst, ℕ, ◌+◌, ◌<◌, ◌≤◌, true, false, Bool, List, [], ◌∷◌, ◌++◌, map, length, take, get_or, inl, inr, ℤ, pos, ◌+ℤ◌, ◌-ℤ◌, neg_ℤ, ◌*ℤ◌, ◌≤ℤ◌, ◌<ℤ◌, ◌&&◌, ◌||◌, not, nat_abs, Contains, arith, true≢false}
-use Rattle.std.specs.List.{list_any}
+-- Images of a shape that are moved, and its forms.
+use Rattle.std.proofs.Common.{◌≡◌, refl, sym, ap, ◌∙◌, subst, ℕ, ◌+◌, ◌<◌, ◌≤◌, true, List, [], ◌∷◌, ◌++◌, map, length, take, get_or, inl, inr, ℤ, pos, ◌+ℤ◌, ◌-ℤ◌, neg_ℤ, ◌*ℤ◌, ◌≤ℤ◌, ◌<ℤ◌, negsuc, ◌*◌, ◌/◌, ◌%◌, Contains, arith}
 use Rattle.std.proofs.lemmas.Int.{ints}
-use Rattle.std.proofs.lemmas.Bool.{and_from, and_parts, not-true, not_from_false, or_cases, cases_lt}
+use Rattle.std.proofs.lemmas.Nat.{mul-le}
+use Rattle.std.proofs.lemmas.Bool.{or_cases, cases_lt}
 use Rattle.std.proofs.lemmas.List.Elements.{All-contains, Contains-append_cases, Contains-append_left, Contains-append_right}
 use Rattle.std.proofs.lemmas.List.{take_more, length-append, get_or_append_left, get_or_push}
-use Rattle.std.specs.Prelude.{IsTrue, int_lt}
-use Rattle.std.specs.Ordering.{int_eq}
-use Rattle.std.specs.Cmp.{signed_Decides}
-use Rattle.heesch_grid.specs.Listing.{IsRising, ListsExactly}
+use Rattle.heesch_grid.specs.Listing.{ListsExactly}
 use Rattle.heesch_grid.proofs.Images.{wider, turn_within}
 use Rattle.heesch_shape.proofs.Loops.{has_more}
 use Rattle.heesch_grid.specs.declared.Cell.{Cell}
 use Rattle.heesch_grid.specs.declared.isometries.Iso.{Iso}
-use Rattle.heesch_grid.specs.Cells.{cell, cell_before, same_cell, cells_before, has, IsCellListOf}
+use Rattle.heesch_grid.specs.Cells.{cell, same_cell, cells_before, has, IsCellListOf}
 use Rattle.heesch_grid.specs.Geometry.{Geometry, IsGrid, apply, image}
-use Rattle.heesch_grid.specs.Integers.{mul_add, mul_sub}
+use Rattle.heesch_grid.specs.Integers.{mul_add, mul_neg, mul_sub}
+use Rattle.std.specs.Int.{int_div_euclid}
 use Rattle.heesch_grid.specs.Pairs.{Cell-eta, has-true, same_cell-true}
-use Rattle.heesch_grid.specs.Placement.{IsPlacement}
-use Rattle.heesch_grid.specs.Vectors.{AreUnitsOf, IsWithin, plus, minus}
-use Rattle.heesch_grid.proofs.CellFacts.{has-is, meet-true, meet-is}
-use Rattle.heesch_grid.proofs.ListFacts.{any_member, member_any, no_member, member_here, member_cases}
+use Rattle.heesch_grid.specs.Placement.{IsLeastIsometry, IsPlacement}
+use Rattle.heesch_grid.specs.Vectors.{IsWithin, plus, minus}
+use Rattle.heesch_grid.proofs.CellFacts.{has-is}
+use Rattle.heesch_grid.proofs.ListFacts.{no_member, member_here, member_cases}
 use Rattle.heesch_grid.proofs.WindowFacts.{map_member}
-use Rattle.heesch_index.specs.Marking.{IsBetween, Marked, Span, is_marked}
-use Rattle.heesch_place.specs.Found.{Adds, FromOne, IsMoved, AreTurned, AreOrientations, IsMovedOver, IsInRows, IsPlacementOver}
+use Rattle.heesch_place.specs.Found.{FromOne, IsMoved, AreTurned}
+use Rattle.heesch_place.specs.Spots.{AreForms, AreUnitsBack, BeginsInBlock, IsInBlock, head_of}
 use Rattle.heesch_place.specs.Steps.{IsFirstOf}
-use Rattle.heesch_place.proofs.Gathering.{adds_one, adds_nothing, adds_same, any_default, member_at}
-use Rattle.heesch_place.proofs.Moves.{moved_list, image_list, one_step, head_of, must_be_units, leads}
+use Rattle.heesch_place.proofs.Gathering.{any_default, member_at}
+use Rattle.heesch_place.proofs.Moves.{moved_list, move_of, image_list, leads}
 
 -- the step of so many units
-abbrev scaled : Geometry → Cell → Cell
+abbrev pub scaled : Geometry → Cell → Cell
 scaled g units = cell (pos g.unit *ℤ units.a) (pos g.unit *ℤ units.b)
 
-map_twice : (f h k : Cell → Cell) (xs : List Cell) → ((c : Cell) → f (h c) ≡ k c) → map f (map h xs) ≡ map k xs
+pub map_twice : (f h k : Cell → Cell) (xs : List Cell) → ((c : Cell) → f (h c) ≡ k c) → map f (map h xs) ≡ map k xs
 map_twice f h k [] e = refl
 map_twice f h k (x ∷ xs) e = λ i. e x i ∷ map_twice f h k xs e i
+
+pub map_same : (xs : List Cell) → map (λ c. c) xs ≡ xs
+map_same [] = refl
+map_same (x ∷ xs) = ap (λ zs. x ∷ zs) (map_same xs)
 
 across : (n : ℕ) (z u v : ℤ) → (pos n *ℤ (v -ℤ u)) +ℤ ((pos n *ℤ u) +ℤ z) ≡ (pos n *ℤ v) +ℤ z
 across n z u v = omega (arith, ints, mul_sub (pos n) v u)
@@ -116,19 +118,22 @@ turned_near g law shape turned k less near l c h =
 
 -- the lists are lists of the others, moved near 0
 pub record AreSettled (g : Geometry) (turned lists : List (List Cell)) : Type 0 where
+  pub long : length lists ≡ length turned
   pub only : (x : List Cell) → Contains lists x → FromOne (IsMoved g) turned x
   pub near : (x : List Cell) (c : Cell) → Contains lists x → has x c ≡ true → IsWithin 5000 c
+  pub begins : (x : List Cell) → Contains lists x → BeginsInBlock g x
   pub every : (t : List Cell) → Contains turned t → (x : List Cell) × Contains lists x × IsMoved g t x
 
 module _ (g : Geometry) (turned : List (List Cell)) where
   pub settled_none : AreSettled g [] []
-  settled_none = record { only = λ x m. absurd (no_member x m); near = λ x c m h. absurd (no_member x m); every = λ t m. absurd (no_member t m) }
+  settled_none = record { long = refl; only = λ x m. absurd (no_member x m); near = λ x c m h. absurd (no_member x m); begins = λ x m. absurd (no_member x m); every = λ t m. absurd (no_member t m) }
 
-  pub settled_more : (i : ℕ) (old new : List (List Cell)) (made : List Cell) → i < length turned → AreSettled g (take i turned) old → IsMoved g (get_or turned i []) made → ((c : Cell) → has made c ≡ true → IsWithin 5000 c) → new ≡ old ++ made ∷ [] → AreSettled g (take (i + 1) turned) new
-  settled_more i old new made less a m near is =
+  pub settled_more : (i : ℕ) (old new : List (List Cell)) (made : List Cell) → i < length turned → AreSettled g (take i turned) old → IsMoved g (get_or turned i []) made → ((c : Cell) → has made c ≡ true → IsWithin 5000 c) → BeginsInBlock g made → new ≡ old ++ made ∷ [] → AreSettled g (take (i + 1) turned) new
+  settled_more i old new made less a m near begins is =
       let t = get_or turned i [] in
       let taken = take_more turned i [] less in
       record {
+        long = ap length is ∙ length-append old (made ∷ []) ∙ ap (λ n. n + 1) a.long ∙ sym (ap length taken ∙ length-append (take i turned) (t ∷ []));
         only = λ x n. elim (Contains-append_cases old (made ∷ []) x (subst (λ zs. Contains zs x) is n)) [
           | inl o ↦ let h = a.only x o in record { source = h.source; inside = subst (λ zs. Contains zs h.source) (sym taken) (Contains-append_left (take i turned) (t ∷ []) h.source h.inside); gives = h.gives }
           | inr o ↦ elim (member_cases made [] x o) [
@@ -140,6 +145,10 @@ module _ (g : Geometry) (turned : List (List Cell)) where
           | inl o ↦ a.near x c o h
           | inr o ↦ elim (member_cases made [] x o) [ inl e ↦ near c (ap (λ zs. has zs c) e ∙ h) | inr none ↦ absurd (no_member x none) ]
         ];
+        begins = λ x n. elim (Contains-append_cases old (made ∷ []) x (subst (λ zs. Contains zs x) is n)) [
+          | inl o ↦ a.begins x o
+          | inr o ↦ elim (member_cases made [] x o) [ inl e ↦ subst (BeginsInBlock g) e begins | inr none ↦ absurd (no_member x none) ]
+        ];
         every = λ u n. elim (Contains-append_cases (take i turned) (t ∷ []) u (subst (λ zs. Contains zs u) taken n)) [
           | inl o ↦ let h = a.every u o in (h.0, subst (λ zs. Contains zs h.0) (sym is) (Contains-append_left old (made ∷ []) h.0 h.1), h.2)
           | inr o ↦ elim (member_cases t [] u o) [
@@ -149,9 +158,10 @@ module _ (g : Geometry) (turned : List (List Cell)) where
         ];
       }
 
-  -- what the settled lists have are the orientations
-  pub orientations : (shape : List Cell) (all zs : List (List Cell)) → AreTurned g shape turned → AreSettled g turned all → ListsExactly cells_before (Contains all) zs → AreOrientations g shape zs
-  orientations shape all zs turns a l = record {
+  -- what the settled lists have are the forms
+  pub forms : IsGrid g → (shape : List Cell) (all zs : List (List Cell)) → length zs ≤ length all → AreTurned g shape turned → AreSettled g turned all → ListsExactly cells_before (Contains all) zs → AreForms g shape zs
+  forms law shape all zs few turns a l = record {
+    few = let e = a.long in let f = turns.long in let most = law.turns_range.1 in omega arith;
     placed = λ x n.
         let h = a.only x (All-contains (Contains all) zs x l.only n) in
         let k = h.inside in
@@ -159,171 +169,99 @@ module _ (g : Geometry) (turned : List (List Cell)) where
         let same : get_or turned k.0 [] ≡ h.source = any_default turned k.0 [] h.source k.1 ∙ k.2 in
         turned_moved g k.0 shape h.source x less (subst (IsCellListOf (map (g.turn k.0) shape)) same (turns.each k.0 less)) h.gives;
     near = λ x c n. a.near x c (All-contains (Contains all) zs x l.only n);
+    begins = λ x n. a.begins x (All-contains (Contains all) zs x l.only n);
     every = λ tile p.
         let k = p.by.turn in
         let t = get_or turned k [] in
         let inside : Contains turned t = member_at turned k [] (let less = p.is_isometry in let e = turns.long in omega arith) in
         let h = a.every t inside in
         record { source = h.0; inside = l.every h.0 h.1; gives = moved_across g t h.0 tile h.2 (placement_turned g shape t tile p (turns.each k p.is_isometry)) };
+    rising = l.rising;
   }
 
--- ---- how far cells lie from a first one
-pub reach_more : (tiles : List (List Cell)) (i : ℕ) (d : List Cell) (m n a b : ℕ) (f : Cell) → i < length tiles → ((t : List Cell) (first c : Cell) → Contains (take i tiles) t → IsFirstOf t first → has t c ≡ true → IsWithin m (minus first c)) → m ≤ n → a + b ≤ n → IsFirstOf (get_or tiles i d) f → IsWithin a f → ((c : Cell) → has (get_or tiles i d) c ≡ true → IsWithin b c) → (t : List Cell) (first c : Cell) → Contains (take (i + 1) tiles) t → IsFirstOf t first → has t c ≡ true → IsWithin n (minus first c)
-reach_more tiles i d m n a b f less old up sum begins near_f near t first c inside is h =
-    elim (Contains-append_cases (take i tiles) (get_or tiles i d ∷ []) t (subst (λ zs. Contains zs t) (take_more tiles i d less) inside)) [
-      | inl o ↦ wider m n (minus first c) up (old t first c o is h)
-      | inr o ↦ elim (member_cases (get_or tiles i d) [] t o) [
-        | inl e ↦
-            let v = subst (IsWithin a) (head_of f first begins.rest is.rest (sym begins.is ∙ e ∙ is.is)) near_f in
-            let w = near c (ap (λ zs. has zs c) e ∙ h) in
-            record { a_low = omega (arith, ints, v.a_low, w.a_high); a_high = omega (arith, ints, v.a_high, w.a_low); b_low = omega (arith, ints, v.b_low, w.b_high); b_high = omega (arith, ints, v.b_high, w.b_low) }
-        | inr none ↦ absurd (no_member t none)
-      ]
-    ]
+-- ---- units below a coordinate
+pub euclid : (z unit : ℤ) → pos 1 ≤ℤ unit → ((unit *ℤ int_div_euclid z unit) ≤ℤ z) × (z <ℤ ((unit *ℤ int_div_euclid z unit) +ℤ unit))
+euclid (pos a) (pos n) low =
+    let l : 1 ≤ n = omega (arith, ints) in
+    let k : n * (a / n) + a % n ≡ a = omega arith in
+    let less : a % n < n = omega arith in
+    (omega (arith, ints, k), omega (arith, ints, k, less))
+euclid (negsuc a) (pos n) low =
+    let l : 1 ≤ n = omega (arith, ints) in
+    let k : n * (a / n) + a % n ≡ a = omega arith in
+    let less : a % n < n = omega arith in
+    let e : (pos n *ℤ negsuc (a / n)) ≡ neg_ℤ (pos n *ℤ pos (a / n + 1)) = ap (λ z. pos n *ℤ z) (back (a / n)) ∙ mul_neg (pos n) (pos (a / n + 1)) in
+    (omega (arith, ints, k, less, e), omega (arith, ints, k, less, e))
+  where
+    back : (m : ℕ) → negsuc m ≡ neg_ℤ (pos (m + 1))
+    back m = omega (arith, ints)
+euclid z (negsuc n) low = absurd (omega (arith, ints))
 
--- ---- one orientation and one first cell
-any_moved : (p : Cell → Bool) (f : Cell → Cell) (xs : List Cell) → list_any p (map f xs) ≡ list_any (λ c. p (f c)) xs
-any_moved p f [] = refl
-any_moved p f (x ∷ xs) = ap (λ b. p (f x) || b) (any_moved p f xs)
+-- ---- where a moved list begins
+pub first_is : (xs : List Cell) (x : Cell) → IsFirstOf xs x → head_of xs ≡ x
+first_is xs x f = ap head_of f.is
 
-module _ (g : Geometry) (targets barred : Marked) (first : Cell) (t : List Cell) (x s : Cell) (fx : IsFirstOf t x) (d : plus s x ≡ first) where
-  abbrev over : List Cell → Type 0
-  over = IsMovedOver g targets barred first t
+pub head_moved : (m : Cell) (xs : List Cell) → 1 ≤ length xs → head_of (map (plus m) xs) ≡ plus m (head_of xs)
+head_moved m [] l = absurd (omega arith)
+head_moved m (x ∷ xs) l = refl
 
-  abbrev has_marked : Marked → Bool
-  has_marked marks = list_any (λ c. is_marked marks (plus s c)) t
-
-  step_is : (tile : List Cell) (h : IsMovedOver g targets barred first t tile) → scaled g h.moved.units ≡ s
-  step_is tile h = one_step t tile x first s (scaled g h.moved.units) fx h.begins d h.moved.is
-
-  tile_is : (tile : List Cell) (h : IsMovedOver g targets barred first t tile) → tile ≡ map (plus s) t
-  tile_is tile h = h.moved.is ∙ ap (λ m. map (plus m) t) (step_is tile h)
-
-  marked_is : (marks : Marked) (tile : List Cell) → tile ≡ map (plus s) t → list_any (is_marked marks) tile ≡ has_marked marks
-  marked_is marks tile is = ap (list_any (is_marked marks)) is ∙ any_moved (is_marked marks) (plus s) t
-
-  pub no_units : (old : List (List Cell)) (unit : ℤ) → unit ≡ pos g.unit → ((units : Cell) → AreUnitsOf unit units s → ⊥) → Adds (IsMovedOver g targets barred first t) old old
-  no_units old unit e none =
-      adds_nothing over old (λ tile h.
-      let u = h.moved.units in
-      none (cell u.a u.b) (must_be_units g unit (record { turn = 0; da = u.a; db = u.b }) s e (step_is tile h)))
-
-  pub not_fitting : (old : List (List Cell)) → (list_any (λ c. is_marked targets (plus s c)) t && not (list_any (λ c. is_marked barred (plus s c)) t)) ≡ false → Adds (IsMovedOver g targets barred first t) old old
-  not_fitting old none =
-      adds_nothing over old (λ tile h.
-      let meets : has_marked targets ≡ true = sym (marked_is targets tile (tile_is tile h)) ∙ h.meets in
-      let clear : has_marked barred ≡ false = sym (marked_is barred tile (tile_is tile h)) ∙ h.clear in
-      true≢false (sym (and_from (has_marked targets) (not (has_marked barred)) meets (not_from_false (has_marked barred) clear)) ∙ none))
-
-  pub fitting : (old new : List (List Cell)) (made : List Cell) (units : Cell) → scaled g units ≡ s → made ≡ map (plus (scaled g units)) t → (list_any (λ c. is_marked targets (plus s c)) t && not (list_any (λ c. is_marked barred (plus s c)) t)) ≡ true → new ≡ old ++ made ∷ [] → Adds (IsMovedOver g targets barred first t) old new
-  fitting old new made units e is both pushed =
-      let parts = and_parts (has_marked targets) (not (has_marked barred)) both in
-      let is' : made ≡ map (plus s) t = is ∙ ap (λ m. map (plus m) t) e in
-      adds_one over old new made pushed (record {
-        moved = record { units = units; is = is };
-        begins = record { rest = map (plus s) fx.rest; is = is' ∙ ap (map (plus s)) fx.is ∙ ap (λ z. z ∷ map (plus s) fx.rest) d };
-        meets = marked_is targets made is' ∙ parts.0;
-        clear = marked_is barred made is' ∙ not-true (has_marked barred) parts.1;
-      }) (λ tile h. tile_is tile h ∙ sym is')
-
--- ---- all orientations and all first cells of a box
-
--- the corners of the least box that has 0 and the targets
-module _ (targets : List Cell) (from to low high : Cell) (from_is : from ≡ cell (pos 0) (pos 0)) (to_is : to ≡ cell (pos 0) (pos 0)) (span : Span from to targets low high) where
-  pub zero_between : IsBetween low high (cell (pos 0) (pos 0))
-  zero_between =
-      let fa = ap (λ z. z.a) from_is in
-      let fb = ap (λ z. z.b) from_is in
-      let ta = ap (λ z. z.a) to_is in
-      let tb = ap (λ z. z.b) to_is in
-      span.old (cell (pos 0) (pos 0)) (record { a_low = omega (arith, ints, fa); a_high = omega (arith, ints, ta); b_low = omega (arith, ints, fb); b_high = omega (arith, ints, tb) })
-
-  pub corners_near : (n : ℕ) → ((c : Cell) → has targets c ≡ true → IsWithin n c) → IsWithin n low × IsWithin n high
-  corners_near n near =
-      let least = cell (neg_ℤ (pos n)) (neg_ℤ (pos n)) in
-      let greatest = cell (pos n) (pos n) in
-      let zero : IsBetween least greatest (cell (pos 0) (pos 0)) = record { a_low = omega (arith, ints); a_high = omega (arith, ints); b_low = omega (arith, ints); b_high = omega (arith, ints) } in
-      let both = span.least least greatest (subst (IsBetween least greatest) (sym from_is) zero) (subst (IsBetween least greatest) (sym to_is) zero)
-      (λ c h. let w = near c h in record { a_low = w.a_low; a_high = w.a_high; b_low = w.b_low; b_high = w.b_high }) in
-      let l = both.0 in
-      let h = both.1 in
-      (record { a_low = l.a_low; a_high = l.a_high; b_low = l.b_low; b_high = l.b_high }, record { a_low = h.a_low; a_high = h.a_high; b_low = h.b_low; b_high = h.b_high })
-
--- no cell lies below the first one
-rows_after : (c d : Cell) → IsTrue (cell_before c d) → c.b ≤ℤ d.b
-rows_after c d t = elim (or_cases (int_lt c.b d.b) (int_eq c.b d.b && int_lt c.a d.a) t) [
-  | inl l ↦ omega (arith, ints, l)
-  | inr e ↦ omega (arith, ints, (signed_Decides c.b d.b).0 (and_parts (int_eq c.b d.b) (int_lt c.a d.a) e).0)
-]
-
-no_row_below : (xs : List Cell) (x c : Cell) → IsRising cell_before xs → IsFirstOf xs x → Contains xs c → x.b ≤ℤ c.b
-no_row_below xs x c rising first m =
-    let all : IsRising cell_before (x ∷ first.rest) = subst (IsRising cell_before) first.is rising in
-    elim (member_cases x first.rest c (subst (λ zs. Contains zs c) first.is m)) [
-      | inl e ↦ let same = ap (λ z. z.b) e in omega (arith, ints, same)
-      | inr k ↦ rows_after x c (All-contains (λ y. IsTrue (cell_before x y)) first.rest c all.0 k)
-    ]
-
-module _ (g : Geometry) (shape targets : List Cell) (marks barred : Marked) (orientations : List (List Cell)) (is : AreOrientations g shape orientations) (marked : (c : Cell) → is_marked marks c ≡ has targets c) where
-  pub over_only : (tile : List Cell) (first : Cell) → FromOne (IsMovedOver g marks barred first) orientations tile → IsPlacementOver g shape targets barred tile
-  over_only tile first h =
-      let d = any_member (is_marked marks) tile h.gives.meets in
+module _ (g : Geometry) where
+  pub begins_in_block : (unit : ℤ) (by : Iso) (units first : Cell) (xs ys : List Cell) → unit ≡ pos g.unit → by.da ≡ units.a → by.db ≡ units.b → IsFirstOf xs first → ys ≡ map (plus (move_of g by)) xs → AreUnitsBack unit first units → BeginsInBlock g ys
+  begins_in_block unit by units first xs ys e ea eb f is h =
+      let begins : head_of ys ≡ plus (move_of g by) first = ap head_of (is ∙ ap (map (plus (move_of g by))) f.is) in
+      let a : (unit *ℤ units.a) ≡ (pos g.unit *ℤ by.da) = ap (λ u. u *ℤ units.a) e ∙ ap (λ z. pos g.unit *ℤ z) (sym ea) in
+      let b : (unit *ℤ units.b) ≡ (pos g.unit *ℤ by.db) = ap (λ u. u *ℤ units.b) e ∙ ap (λ z. pos g.unit *ℤ z) (sym eb) in
       record {
-        placement = placement_moved g shape h.source tile (is.placed h.source h.inside) h.gives.moved;
-        meets = meet-is targets tile d.0 (has-true targets d.0 (sym (marked d.0) ∙ d.2)) d.1;
-        clear = h.gives.clear;
+        some = subst (λ zs. 1 ≤ length zs) (sym (is ∙ ap (map (plus (move_of g by))) f.is)) (omega arith);
+        in_block = subst (IsInBlock g) (sym begins) (record {
+          a_low = omega (arith, ints, h.a_low, a);
+          a_high = omega (arith, ints, h.a_high, a, e);
+          b_low = omega (arith, ints, h.b_low, b);
+          b_high = omega (arith, ints, h.b_high, b, e);
+        });
       }
 
-  begins_with : (xs : List Cell) (c : Cell) → Contains xs c → (x : Cell) × IsFirstOf xs x
-  begins_with [] c m = absurd (no_member c m)
-  begins_with (x ∷ xs) c m = (x, record { rest = xs; is = refl })
+  -- a move takes the least isometry of a tile to that of the moved tile
+  shifted_image : (by to : Iso) (units : Cell) (shape : List Cell) → to.turn ≡ by.turn → to.da ≡ by.da +ℤ units.a → to.db ≡ by.db +ℤ units.b → map (plus (scaled g units)) (image g by shape) ≡ image g to shape
+  shifted_image by to units shape turn a b =
+      map_twice (plus (scaled g units)) (apply g by) (apply g to) shape (λ c. Cell-eta (plus (scaled g units) (apply g by c)) (apply g to c)
+      (further g.unit (g.turn by.turn c).a by.da units.a ∙ (λ i. (g.turn (sym turn i) c).a +ℤ (pos g.unit *ℤ sym a i)))
+      (further g.unit (g.turn by.turn c).b by.db units.b ∙ (λ i. (g.turn (sym turn i) c).b +ℤ (pos g.unit *ℤ sym b i))))
 
-  -- the placements begin at most so far from the targets, and in no row above them
-  module _ (from to : Cell) (far : ℕ) (within : (c : Cell) → has targets c ≡ true → IsBetween from to c) (reach : (t : List Cell) (first c : Cell) → Contains orientations t → IsFirstOf t first → has t c ≡ true → IsWithin far (minus first c)) where
-    record Begins (tile : List Cell) : Type 0 where
-      first : Cell
-      a_low : (from.a -ℤ pos far) ≤ℤ first.a
-      a_high : first.a ≤ℤ (to.a +ℤ pos far)
-      b_low : (from.b -ℤ pos far) ≤ℤ first.b
-      b_high : first.b ≤ℤ to.b
-      one : FromOne (IsMovedOver g marks barred first) orientations tile
+  pub least_moved : (shape tile : List Cell) (by to : Iso) (units : Cell) → to.turn ≡ by.turn → to.da ≡ by.da +ℤ units.a → to.db ≡ by.db +ℤ units.b → IsLeastIsometry g shape tile by → IsLeastIsometry g shape (map (plus (scaled g units)) tile) to
+  least_moved shape tile by to units turn a b h = record {
+    is_isometry = subst (λ k. k < g.turns) (sym turn) h.is_isometry;
+    gives = subst (λ zs. IsCellListOf zs (map (plus (scaled g units)) tile)) (shifted_image by to units shape turn a b) (moved_list (scaled g units) (image g by shape) tile h.gives);
+    least = λ other less l.
+        let back : Cell = cell (neg_ℤ units.a) (neg_ℤ units.b) in
+        let from : Iso = record { turn = other.turn; da = other.da +ℤ neg_ℤ units.a; db = other.db +ℤ neg_ℤ units.b } in
+        let gone : map (plus (scaled g back)) (map (plus (scaled g units)) tile) ≡ tile = map_twice (plus (scaled g back)) (plus (scaled g units)) (λ c. c) tile (λ c. Cell-eta (plus (scaled g back) (plus (scaled g units) c)) c (undone g.unit c.a units.a) (undone g.unit c.b units.b)) ∙ map_same tile in
+        let k = h.least from less (subst (λ zs. IsCellListOf zs tile) (shifted_image other from back shape refl refl refl) (subst (IsCellListOf (map (plus (scaled g back)) (image g other shape))) gone (moved_list (scaled g back) (image g other shape) (map (plus (scaled g units)) tile) l))) in
+        subst (λ n. n ≤ other.turn) (sym turn) k;
+  }
+    where
+      undone : (n : ℕ) (z u : ℤ) → (pos n *ℤ neg_ℤ u) +ℤ ((pos n *ℤ u) +ℤ z) ≡ z
+      undone n z u = omega (arith, ints, mul_neg (pos n) u)
 
-    over_every : (tile : List Cell) → IsPlacementOver g shape targets barred tile → Begins tile
-    over_every tile h =
-        let o = is.every tile h.placement in
-        let t = o.source in
-        let s = scaled g o.gives.units in
-        let d = meet-true targets tile h.meets in
-        let c = map_member (plus s) t d.0 (subst (λ zs. Contains zs d.0) o.gives.is d.2) in
-        let x = begins_with t c.0 c.1 in
-        let begins : IsFirstOf tile (plus s x.0) = record { rest = map (plus s) x.1.rest; is = o.gives.is ∙ ap (map (plus s)) x.1.is } in
-        let w = within d.0 (has-is targets d.0 d.1) in
-        let r = reach t x.0 c.0 o.inside x.1 (has-is t c.0 c.1) in
-        let ea = ap (λ z. z.a) c.2 in
-        let eb = ap (λ z. z.b) c.2 in
-        let below = no_row_below tile (plus s x.0) d.0 h.placement.is_list.rising begins d.2 in
-        record {
-          first = plus s x.0;
-          a_low = omega (arith, ints, w.a_low, r.a_low, ea);
-          a_high = omega (arith, ints, w.a_high, r.a_high, ea);
-          b_low = omega (arith, ints, w.b_low, r.b_low, eb);
-          b_high = omega (arith, ints, w.b_high, below);
-          one = record { source = t; inside = o.inside; gives = record { moved = o.gives; begins = begins; meets = member_any (is_marked marks) tile d.0 d.2 (marked d.0 ∙ has-is targets d.0 d.1); clear = h.clear } };
-        }
+-- ---- isometries near 0
+factor_high : (n : ℕ) (z : ℤ) (m : ℕ) → 1 ≤ n → (pos n *ℤ z) ≤ℤ pos m → z ≤ℤ pos m
+factor_high n (pos k) m l h = let e = mul-le 1 k n k l (omega arith) in omega (arith, ints, h, e)
+factor_high n (negsuc k) m l h = omega (arith, ints)
 
-    -- a coordinate by its place from the low one on
-    placed_from : (low z : ℤ) (n : ℕ) → low ≤ℤ z → z <ℤ (low +ℤ pos n) → (i : ℕ) × (i < n) × (low +ℤ pos i ≡ z)
-    placed_from low z n above less = (nat_abs (z -ℤ low), omega (arith, ints, above, less), omega (arith, ints, above, less))
+factor_low : (n : ℕ) (z : ℤ) (m : ℕ) → 1 ≤ n → neg_ℤ (pos m) ≤ℤ (pos n *ℤ z) → neg_ℤ (pos m) ≤ℤ z
+factor_low n z m l h = let e = mul_neg (pos n) z in let k = factor_high n (neg_ℤ z) m l (omega (arith, ints, e, h)) in omega (arith, ints, k)
 
-    -- what all rows have are the placements over the targets
-    pub rows_over : (low : Cell) (wide tall : ℕ) (old new : List (List Cell)) → low.a ≡ from.a -ℤ pos far → low.b ≡ from.b -ℤ pos far → (to.a +ℤ pos far) <ℤ (low.a +ℤ pos wide) → to.b <ℤ (low.b +ℤ pos tall)
-        → Adds (IsInRows g marks barred orientations low wide tall) old new → Adds (IsPlacementOver g shape targets barred) old new
-    rows_over low wide tall old new a_is b_is a_room b_room a =
-        adds_same (IsInRows g marks barred orientations low wide tall) (IsPlacementOver g shape targets barred) old new
-        (λ tile h. over_only tile (cell (low.a +ℤ pos h.2.0) (low.b +ℤ pos h.0)) h.2.2)
-        (λ tile h.
-        let f = over_every tile h in
-        let i = placed_from low.a f.first.a wide (omega (arith, ints, a_is, f.a_low)) (omega (arith, ints, a_room, f.a_high)) in
-        let j = placed_from low.b f.first.b tall (omega (arith, ints, b_is, f.b_low)) (omega (arith, ints, b_room, f.b_high)) in
-        (j.0, j.1, (i.0, i.1, subst (λ c. FromOne (IsMovedOver g marks barred c) orientations tile) (sym (Cell-eta (cell (low.a +ℤ pos i.0) (low.b +ℤ pos j.0)) f.first i.2 j.2)) f.one)))
-        a
+-- the isometry that gives a tile near 0 of a shape near 0 moves by few units
+pub isometry_near : (g : Geometry) → IsGrid g → (shape tile : List Cell) (by : Iso) (c : Cell) → by.turn < g.turns → IsCellListOf (image g by shape) tile → Contains tile c → ((d : Cell) → has shape d ≡ true → IsWithin 200 d) → IsWithin 5000 c → IsWithin 10000 (cell by.da by.db)
+isometry_near g law shape tile by c less l inside near w =
+    let d = map_member (apply g by) shape c (All-contains (Contains (image g by shape)) tile c l.only inside) in
+    let v = turn_within g law by.turn 200 d.0 less (near d.0 (has-is shape d.0 d.1)) in
+    let a = ap (λ z. z.a) d.2 in
+    let b = ap (λ z. z.b) d.2 in
+    let some = law.unit_range.0 in
+    record {
+      a_low = factor_low g.unit by.da 10000 some (omega (arith, ints, v.a_low, v.a_high, w.a_low, w.a_high, a));
+      a_high = factor_high g.unit by.da 10000 some (omega (arith, ints, v.a_low, v.a_high, w.a_low, w.a_high, a));
+      b_low = factor_low g.unit by.db 10000 some (omega (arith, ints, v.b_low, v.b_high, w.b_low, w.b_high, b));
+      b_high = factor_high g.unit by.db 10000 some (omega (arith, ints, v.b_low, v.b_high, w.b_low, w.b_high, b));
+    }

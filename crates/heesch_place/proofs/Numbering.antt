@@ -85,7 +85,7 @@ cmp_up x y v less = go (variable_cmp x v) refl
         subst (λ o. ordering_index o ≤ ordering_index (variable_cmp y v)) (sym e) (subst (λ o. 2 ≤ ordering_index o) (sym f) (omega arith))
 
 -- ---- rising lists by their places
-rising_at : {X : Type 0} (before : X → X → Bool) (xs : List X) → IsRising before xs → (i j : ℕ) (d : X) → i < j → j < length xs → before (get_or xs i d) (get_or xs j d) ≡ true
+pub rising_at : {X : Type 0} (before : X → X → Bool) (xs : List X) → IsRising before xs → (i j : ℕ) (d : X) → i < j → j < length xs → before (get_or xs i d) (get_or xs j d) ≡ true
 rising_at before [] r i j d l m = absurd (omega arith)
 rising_at before (x ∷ xs) r i zero d l m = absurd (omega arith)
 rising_at {X} before (x ∷ xs) r zero (suc j) d l m = All-contains (λ y. IsTrue (before x y)) xs (get_or xs j d) r.0 (member_at xs j d (omega arith))
@@ -96,7 +96,7 @@ item_at [] i l = absurd (omega arith)
 item_at (x ∷ xs) zero l = (x, refl, refl)
 item_at (x ∷ xs) (suc i) l = let r = item_at xs i (omega arith) in (r.0, r.1, r.2)
 
-get_or-mapped : {X Y : Type 0} (f : X → Y) (xs : List X) (i : ℕ) (d : X) (e : Y) → i < length xs → get_or (map f xs) i e ≡ f (get_or xs i d)
+pub get_or-mapped : {X Y : Type 0} (f : X → Y) (xs : List X) (i : ℕ) (d : X) (e : Y) → i < length xs → get_or (map f xs) i e ≡ f (get_or xs i d)
 get_or-mapped f [] i d e l = absurd (omega arith)
 get_or-mapped f (x ∷ xs) zero d e l = refl
 get_or-mapped f (x ∷ xs) (suc i) d e l = get_or-mapped f xs i d e (omega arith)

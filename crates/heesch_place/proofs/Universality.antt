@@ -1,5 +1,5 @@
 -- Levels one after another are the universe, and lie near 0.
-use Rattle.std.proofs.Common.{◌≡◌, ℕ, zero, suc, ◌+◌, ◌-◌, ◌*◌, ◌≤◌, Bool, true, ◌&&◌, ◌==◌, ◌-ℤ◌, List, [], ◌∷◌, ◌++◌, map, length, All, Contains, refl, sym, ap, subst, ◌∙◌, arith, inl, inr, append_assoc}
+use Rattle.std.proofs.Common.{◌≡◌, ℕ, zero, suc, ◌+◌, ◌-◌, ◌*◌, ◌≤◌, true, ◌&&◌, ◌==◌, ◌-ℤ◌, List, [], ◌∷◌, ◌++◌, map, Contains, refl, sym, ap, subst, ◌∙◌, arith, inl, inr, append_assoc}
 use Rattle.std.specs.Prelude.{IsTrue, nat_lt}
 use Rattle.std.proofs.lemmas.Int.{ints}
 use Rattle.std.proofs.lemmas.Bool.{lt-ltb, eq-eqb, or_left, or_right, and_from, cases_lt}
@@ -17,22 +17,14 @@ use Rattle.heesch_grid.specs.Vectors.{IsWithin}
 use Rattle.heesch_grid.proofs.CellFacts.{has-is}
 use Rattle.heesch_grid.proofs.GridFacts.{touching_near}
 use Rattle.heesch_grid.proofs.Images.{turn_within}
-use Rattle.heesch_grid.proofs.ListFacts.{All-from_members, member_cases, member_here, member_there, no_member}
-use Rattle.heesch_grid.proofs.ModelToCoronas.{level_placement}
+use Rattle.heesch_grid.proofs.ListFacts.{All-from_members, member_cases, no_member}
 use Rattle.heesch_grid.proofs.TileFacts.{contact}
 use Rattle.heesch_grid.proofs.WindowFacts.{map_member, member_map}
 use Rattle.heesch_place.specs.Found.{IsBeyond}
+use Rattle.heesch_place.proofs.Gathering.{rising_append}
 use Rattle.heesch_place.specs.Universes.{HaveLeast, AddTiles}
 
 -- ---- rising lists
-rising_append : {X : Type 0} (before : X → X → Bool) (xs ys : List X) → IsRising before xs → IsRising before ys → ((x y : X) → Contains xs x → Contains ys y → before x y ≡ true) → IsRising before (xs ++ ys)
-rising_append before [] ys r s h = s
-rising_append {X} before (x ∷ xs) ys r s h =
-    (All-from_members (λ y. IsTrue (before x y)) (xs ++ ys) first, rising_append before xs ys r.1 s (λ z y m n. h z y (member_there x xs z m) n))
-  where
-    first : (y : X) → Contains (xs ++ ys) y → before x y ≡ true
-    first y m = elim (Contains-append_cases xs ys y m) [ inl k ↦ All-contains (λ y. IsTrue (before x y)) xs y r.0 k | inr k ↦ h x y (member_here x xs) k ]
-
 abbrev variable_at : ℕ → List Cell → Variable
 variable_at k tile = record { level = k; tile = tile }
 
@@ -89,9 +81,6 @@ module _ (g : Geometry) (shape : List Cell) where
         every = λ t h. b.every t (record { placement = h.0; apart = h.1; clear = h.2; touched = record { source = h.3.0; inside = l.every h.3.0 h.3.1; gives = h.3.2 } });
       })
 
-  pub level_placements : (k : ℕ) (tiles : List (List Cell)) → ListsExactly cells_before (IsAtLevel g shape k) tiles → All (IsPlacement g shape) tiles
-  level_placements k tiles l = All-from_members (IsPlacement g shape) tiles (λ t m. level_placement g shape k t (All-contains (IsAtLevel g shape k) tiles t l.only m))
-
   -- ---- distances
   module _ (law : IsGrid g) (near : (c : Cell) → has shape c ≡ true → IsWithin 200 c) where
     wider : (m n : ℕ) (c : Cell) → m ≤ n → IsWithin m c → IsWithin n c
@@ -132,9 +121,9 @@ module _ (g : Geometry) (shape : List Cell) where
         let w = stepped (200 + 1000 * suc n) k.first k.second old (touching_near g law k.first k.second k.touching) in
         wider (200 + 1000 * suc n + 4 + 800) (200 + 1000 * suc (suc n)) c (omega arith) (whole_near tile (200 + 1000 * suc n + 4) k.second c h.0 k.in_second w m)
 
-    pub level_near : (k : ℕ) (tiles : List (List Cell)) → k ≤ 6 → ListsExactly cells_before (IsAtLevel g shape k) tiles → (tile : List Cell) (c : Cell) → Contains tiles tile → has tile c ≡ true → IsWithin 90000 c
+    pub level_near : (k : ℕ) (tiles : List (List Cell)) → k ≤ 6 → ListsExactly cells_before (IsAtLevel g shape k) tiles → (tile : List Cell) (c : Cell) → Contains tiles tile → has tile c ≡ true → IsWithin 50000 c
     level_near k tiles few l tile c m h =
-        wider (200 + 1000 * k) 90000 c (omega arith) (at_level_near k tile c (All-contains (IsAtLevel g shape k) tiles tile l.only m) (has-true tile c h))
+        wider (200 + 1000 * k) 50000 c (omega arith) (at_level_near k tile c (All-contains (IsAtLevel g shape k) tiles tile l.only m) (has-true tile c h))
 
 -- ---- entries
 module _ {E : Type 0} (variable : E → Variable) (by : E → Iso) (g : Geometry) (shape : List Cell) (level : ℕ) where
@@ -157,16 +146,6 @@ module _ {E : Type 0} (variable : E → Variable) (by : E → Iso) (g : Geometry
       | inr n ↦ elim (member_cases e [] x n) [ inl s ↦ subst (λ z. IsLeastIsometry g shape (variable z).tile (by z)) s least | inr none ↦ absurd (no_member x none) ]
     ]));
   }
-
-  -- the tiles that a loop has taken, and those that are left
-  pub tiles_all : (taken left tiles : List (List Cell)) (old new : List E) → length left ≡ 0 → taken ++ left ≡ tiles → AddTiles variable by g shape level taken old new → AddTiles variable by g shape level tiles old new
-  tiles_all taken left tiles old new none whole a =
-      subst (λ ts. AddTiles variable by g shape level ts old new) (all left none taken ∙ whole) a
-    where
-      all : (left : List (List Cell)) → length left ≡ 0 → (taken : List (List Cell)) → taken ≡ taken ++ left
-      all [] e [] = refl
-      all [] e (t ∷ ts) = ap (λ zs. t ∷ zs) (all [] e ts)
-      all (x ∷ xs) e taken = absurd (omega arith)
 
 -- the entries of a level after a universe
 level_added : {E : Type 0} (variable : E → Variable) (by : E → Iso) (g : Geometry) (shape : List Cell) (k : ℕ) (tiles : List (List Cell)) (old new : List E) → AddTiles variable by g shape (k + 1) tiles old new → IsUniverse g shape k (map variable old) → HaveLeast variable by g shape old → ListsExactly cells_before (IsAtLevel g shape (k + 1)) tiles → IsUniverse g shape (k + 1) (map variable new) × HaveLeast variable by g shape new

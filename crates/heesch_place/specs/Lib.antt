@@ -1,3 +1,4 @@
 pub mod Universes
 pub mod Steps
 pub mod Found
+pub mod Spots

@@ -1,154 +1,90 @@
-//! The placements of one level.
-ghost use Rattle.std.specs.Prelude.{◌≡◌, true, List, Contains, IfOk};
-ghost use Rattle.std.specs.List.{list_any};
+//! The placements of one level, by their spots.
+ghost use Rattle.std.specs.Prelude.{◌≡◌, ◌≤◌, true, map, length, Contains, IfOk};
 ghost use Rattle.heesch_grid.specs.declared.Cell.{Cell};
-ghost use Rattle.heesch_grid.specs.Cells.{cells_before, has};
+ghost use Rattle.heesch_grid.specs.Cells.{has};
 ghost use Rattle.heesch_grid.specs.CoronaFormula.{IsAtLevel};
-ghost use Rattle.heesch_grid.specs.Geometry.{IsCell};
-ghost use Rattle.heesch_grid.specs.Listing.{ListsExactly};
-ghost use Rattle.heesch_grid.specs.Placement.{touch};
 ghost use Rattle.heesch_grid.specs.Vectors.{IsWithin};
-ghost use Rattle.heesch_place.specs.Found.{is_apart_at, IsBeyond};
+ghost use Rattle.heesch_place.specs.declared.spots.Spot.{Spot};
+ghost use Rattle.heesch_place.specs.Found.{IsBeyond};
+ghost use Rattle.heesch_place.specs.Spots.{AreBesideSome, AreForms, AreSpotsOf, AreStepsOf, IsSpot, tile_at};
 
-use crate::around::Targets;
-use crate::onto::placements_over;
+use crate::lists::add;
 use crate::prototile::Prototile;
-use heesch_grid::{Cell, Grid};
-use heesch_index::{CellMarks, CellSets, CellTable};
+use crate::spots::{Spot, SpotMarks, radius_of};
+use crate::turned::first_of;
+use heesch_grid::Grid;
 use heesch_io::NoMemory;
-use heesch_shape::Shape;
 use std::alloc::Global;
-use std::marker::Model;
-use std::slice::from_ref;
 
-/// The placements of a level, with a table by cell and the cells that touch one of them.
-#[derive(Drop)]
-pub(crate) struct Level<G: Grid> {
-    tiles: Vec<Shape<G>>,
-    table: CellTable,
-    targets: Targets,
-}
-
-impl<G: Grid> Model for Level<G> {
-    ghost use Rattle.std.specs.Prelude.{List};
-    ghost use Rattle.heesch_grid.specs.declared.Cell.{Cell};
-    ghost use Rattle.heesch_place.specs.Found.{IsLevelOf};
-
-    ghost Value = { List (List Cell) };
-
-    ghost view = { λ s. s.tiles.items };
-
-    ghost invariant = { λ s. IsLevelOf G.geometry s.tiles.items s.table s.targets };
-}
-
-/// The table of the tiles.
-fn table_of<G: Grid>(alloc: Global, tiles: &[Shape<G>]) -> Result<CellTable, NoMemory>
-    ensures { IfOk result (λ table. table ≡ tiles.now) }
-{
-    let mut sets = CellSets::new(alloc);
-    for tile in tiles {
-        sets.push(tile.cells())?;
-    }
-    CellTable::of(alloc, sets)
-}
-
-/// The placements that touch the shape, by their cell lists. For each cell that may be the first of
-/// one, each orientation is tried once.
+/// The placements that touch the shape, in the order of their cell lists.
 pub(crate) fn first_level<G: Grid>(
     alloc: Global,
     prototile: &Prototile<G>,
-) -> Result<Vec<Shape<G>>, NoMemory>
-    requires { (c : Cell) → has prototile.now c ≡ true → IsWithin 200 c }
-    ensures { IfOk result (λ tiles. ListsExactly cells_before (IsAtLevel G.geometry prototile.now 1) tiles.items) }
+) -> Result<Vec<Spot>, NoMemory>
+    requires { (c : Cell) → has prototile.now.formed.shape c ≡ true → IsWithin 200 c }
+    ensures { IfOk result (λ spots. AreSpotsOf G.geometry prototile.now.formed.forms
+        (IsAtLevel G.geometry prototile.now.formed.shape 1) spots.items) }
 {
-    let shape = prototile.shape();
-    let targets = Targets::around(alloc, from_ref(shape))?;
-    let own = CellMarks::of(alloc, shape.cells())?;
-    placements_over(alloc, prototile, &targets, &own)
+    let forms = prototile.forms();
+    forms.beside(alloc, forms.shape())
 }
 
-impl<G: Grid> Level<G> {
-    /// The level of these tiles.
-    pub(crate) fn of(alloc: Global, tiles: Vec<Shape<G>>) -> Result<Level<G>, NoMemory>
-        ensures { IfOk result (λ level. level ≡ tiles.items) }
-    {
-        let table = table_of(alloc, tiles.as_slice())?;
-        let targets = Targets::around(alloc, tiles.as_slice())?;
-        Ok(Level {
-            tiles,
-            table,
-            targets,
-        })
+/// For each form, how far behind that of its first cell the marks stand of the spots whose tiles touch it.
+fn steps_of<G: Grid>(
+    alloc: Global,
+    prototile: &Prototile<G>,
+    marks: &SpotMarks,
+) -> Result<Vec<Vec<u32>>, NoMemory>
+    requires forms { marks.now.forms ≡ length prototile.now.formed.forms }
+    requires reach { prototile.now.reach ≤ marks.now.radius }
+    ensures { IfOk result (λ all.
+        AreStepsOf G.geometry prototile.now marks.now.radius (map (λ v. v.items) all.items)) }
+{
+    let forms = prototile.forms();
+    let mut all = Vec::new(alloc);
+    for form in 0..forms.count() {
+        let first = first_of(forms.form(form).shape().cells());
+        let steps = marks.offsets(alloc, prototile.beside(form), first, prototile.reach())?;
+        add(&mut all, steps)?;
     }
+    Ok(all)
+}
 
-    /// The tiles, alone.
-    pub(crate) fn into_tiles(self) -> Vec<Shape<G>>
-        ensures { result.items ≡ self }
-    {
-        self.tiles
+/// Marks of the spots whose tiles touch one of the tiles. For each of these one mark is set for each spot beside it.
+fn beside_some<G: Grid>(
+    alloc: Global,
+    prototile: &Prototile<G>,
+    inner: &[Spot],
+) -> Result<SpotMarks, NoMemory>
+    requires spots { (s : Spot) → Contains inner.now s → IsSpot G.geometry prototile.now.formed.forms s }
+    requires near { (s : Spot) → Contains inner.now s → IsWithin 50000 s.first }
+    ensures beside { IfOk result (AreBesideSome G.geometry prototile.now.formed.forms
+        (map (tile_at prototile.now.formed.forms) inner.now)) }
+    ensures forms { IfOk result (λ _. AreForms G.geometry prototile.now.formed.shape prototile.now.formed.forms) }
+{
+    let reach = prototile.reach();
+    let radius = radius_of(inner) + reach;
+    let mut marks = SpotMarks::within(alloc, radius, prototile.forms().count())?;
+    let steps = steps_of(alloc, prototile, &marks)?;
+    for spot in inner {
+        marks.add_at(steps[spot.form as usize].as_slice(), reach, spot.first);
     }
+    Ok(marks)
+}
 
-    /// Whether one of the tiles has the cell and is apart from the tile.
-    fn is_apart_at(&self, c: Cell, tile: &Shape<G>) -> bool
-        ensures { result ≡ is_apart_at self.now tile.now c }
-    {
-        let numbers = self.table.covering(c);
-        if numbers.is_empty() || tile.has(c) {
-            return false;
-        }
-        for number in numbers {
-            if !self.tiles[*number as usize - 1].meets(tile) {
-                return true;
-            }
-        }
-        false
-    }
-
-    /// Whether one of the tiles has a cell that touches c and is apart from the tile. The cells around c
-    /// are looked at only where c touches one of the tiles.
-    fn is_reached_from(&self, c: Cell, tile: &Shape<G>) -> bool
-        requires cell { IsCell G.geometry c }
-        requires within { IsWithin 1000000 c }
-        ensures { result ≡ list_any (is_apart_at self.now tile.now) (G.geometry.touching c) }
-    {
-        if !self.targets.has(c) {
-            return false;
-        }
-        for i in 0..G::TOUCHING {
-            if self.is_apart_at(G::touching(c, i), tile) {
-                return true;
-            }
-        }
-        false
-    }
-
-    /// Whether one of the tiles touches the tile. Only tiles that have a cell next to one of its own
-    /// are looked at, up to the first that is apart from it.
-    fn touches(&self, tile: &Shape<G>) -> bool
-        ensures { result ≡ list_any (λ inner. touch G.geometry inner tile.now) self.now }
-    {
-        let cells = tile.cells();
-        for c in cells {
-            if self.is_reached_from(*c, tile) {
-                return true;
-            }
-        }
-        false
-    }
-
-    /// The placements apart from the shape and not touching it that touch one of the tiles, by their
-    /// cell lists. For each cell that may be the first of one, each orientation is tried once.
-    pub(crate) fn next(
-        &self,
-        alloc: Global,
-        prototile: &Prototile<G>,
-    ) -> Result<Vec<Shape<G>>, NoMemory>
-        requires { (tile : List Cell) (c : Cell) → Contains self.now tile → has tile c ≡ true → IsWithin 90000 c }
-        ensures { IfOk result (λ tiles.
-            ListsExactly cells_before (IsBeyond G.geometry prototile.now self.now) tiles.items) }
-    {
-        let mut tiles = placements_over(alloc, prototile, &self.targets, prototile.near())?;
-        tiles.retain(|tile| self.touches(tile));
-        Ok(tiles)
-    }
+/// The placements apart from the shape and not touching it that touch one of the tiles, in the order of their cell
+/// lists.
+pub(crate) fn next_level<G: Grid>(
+    alloc: Global,
+    prototile: &Prototile<G>,
+    inner: &[Spot],
+) -> Result<Vec<Spot>, NoMemory>
+    requires spots { (s : Spot) → Contains inner.now s → IsSpot G.geometry prototile.now.formed.forms s }
+    requires near { (s : Spot) → Contains inner.now s → IsWithin 50000 s.first }
+    ensures { IfOk result (λ spots. AreSpotsOf G.geometry prototile.now.formed.forms
+        (IsBeyond G.geometry prototile.now.formed.shape (map (tile_at prototile.now.formed.forms) inner.now))
+        spots.items) }
+{
+    let spots = beside_some(alloc, prototile, inner)?.spots(alloc)?;
+    prototile.barred().others(alloc, spots.as_slice())
 }

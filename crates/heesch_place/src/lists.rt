@@ -1,5 +1,5 @@
 //! Lists that grow, and are then sorted and kept once.
-ghost use Rattle.std.specs.Prelude.{◌≡◌, ◌++◌, ◌∷◌, [], Contains, OnOk};
+ghost use Rattle.std.specs.Prelude.{◌≡◌, ◌≤◌, ◌++◌, ◌∷◌, [], length, Contains, OnOk};
 ghost use Rattle.heesch_grid.specs.Cells.{cells_before};
 ghost use Rattle.heesch_grid.specs.Listing.{ListsExactly};
 
@@ -19,7 +19,8 @@ pub(crate) fn add<T: Drop>(all: &mut Vec<T>, item: T) -> Result<(), NoMemory>
 
 /// The same tiles, each once, in the order of their cell lists.
 pub(crate) fn listed_tiles<G: Grid>(mut all: Vec<Shape<G>>) -> Vec<Shape<G>>
-    ensures { ListsExactly cells_before (Contains all.items) result.items }
+    ensures listed { ListsExactly cells_before (Contains all.items) result.items }
+    ensures few { length result.items ≤ length all.items }
 {
     all.sort_unstable();
     all.dedup();

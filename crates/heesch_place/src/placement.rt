@@ -1,14 +1,15 @@
 //! A placement of a shape.
-ghost use Rattle.std.specs.Prelude.{◌≡◌, ◌<◌, All};
-ghost use Rattle.heesch_grid.specs.Cells.{meet, IsCellListOf};
+ghost use Rattle.std.specs.Prelude.{◌≡◌, ◌<◌, ◌*ℤ◌, pos, true, map, List, All};
+ghost use Rattle.heesch_grid.specs.declared.Cell.{Cell};
+ghost use Rattle.heesch_grid.specs.Cells.{cell, has, meet, IsCellListOf};
 ghost use Rattle.heesch_grid.specs.Geometry.{image};
-ghost use Rattle.heesch_grid.specs.Vectors.{IsWithin};
+ghost use Rattle.heesch_grid.specs.Vectors.{IsWithin, plus};
 ghost use Rattle.heesch_grid.specs.Placement.{touch, IsPlacement, IsLeastIsometry};
 ghost use Rattle.heesch_shape.specs.Walks.{IsShape};
 
-use crate::prototile::Prototile;
+use crate::images::Images;
 use crate::turned::{leading, turned};
-use heesch_grid::{Grid, Iso};
+use heesch_grid::{Cell, Grid, Iso};
 use heesch_shape::Shape;
 use std::marker::Model;
 
@@ -50,18 +51,45 @@ impl<G: Grid> Placement<G> {
         Placement { by, tile }
     }
 
-    /// The placement of the prototile that has just the cells of the tile.
-    pub(crate) fn onto(prototile: &Prototile<G>, tile: Shape<G>) -> Placement<G>
-        requires { IsPlacement G.geometry prototile.now tile }
+    /// The placement that has just the cells of the tile.
+    pub(crate) fn onto(images: &Images<G>, tile: Shape<G>) -> Placement<G>
+        requires { IsPlacement G.geometry images.now tile }
         ensures tile { result.tile ≡ tile }
-        ensures least { IsLeastIsometry G.geometry prototile.now result.tile result.by }
+        ensures least { IsLeastIsometry G.geometry images.now result.tile result.by }
     {
-        for (k, turned) in prototile.turned().iter().enumerate() {
+        for (k, turned) in images.turned().iter().enumerate() {
             if let Some(by) = leading(turned.cells(), k as u32, &tile) {
                 return Placement { by, tile };
             }
         }
         unreachable!()
+    }
+
+    /// The placement, moved by so many units. It is one of the same turn, which is the least that gives it.
+    pub(crate) fn moved(&self, units: Cell) -> Placement<G>
+        requires near { IsWithin 10000 (cell self.now.by.da self.now.by.db) }
+        requires cells { (c : Cell) → has self.now.tile c ≡ true → IsWithin 5000 c }
+        requires units { IsWithin 105000 units }
+        ensures tile { result.tile
+            ≡ map (plus (cell (pos G.geometry.unit *ℤ units.a) (pos G.geometry.unit *ℤ units.b))) self.now.tile }
+        ensures least { (shape : List Cell) → IsLeastIsometry G.geometry shape self.now.tile self.now.by
+            → IsLeastIsometry G.geometry shape result.tile result.by }
+    {
+        let _cells = self.tile.cells();
+        let step = Iso {
+            turn: 0,
+            da: units.a,
+            db: units.b,
+        };
+        let by = Iso {
+            turn: self.by.turn,
+            da: self.by.da + units.a,
+            db: self.by.db + units.b,
+        };
+        Placement {
+            by,
+            tile: self.tile.image(step),
+        }
     }
 
     /// The isometry.

@@ -1,171 +1,151 @@
 //! The shape whose placements are listed, and what is made of it once.
-ghost use Rattle.std.specs.Prelude.{◌≡◌, ◌<◌, ◌≤◌, ◌≤ℤ◌, pos, nat_abs, true, List, Contains, IfOk};
+ghost use Rattle.std.specs.Prelude.{◌≡◌, ◌<◌, ◌≤◌, ℕ, true, map, length, Contains, IfOk, slice_index_or, []};
 ghost use Rattle.heesch_grid.specs.declared.Cell.{Cell};
 ghost use Rattle.heesch_grid.specs.Cells.{has};
-ghost use Rattle.heesch_grid.specs.Vectors.{IsWithin};
-ghost use Rattle.heesch_place.specs.Found.{IsMoved, AreTurned, AreOrientations, AreNear};
+ghost use Rattle.heesch_grid.specs.Listing.{ListsExactly};
+ghost use Rattle.heesch_grid.specs.Vectors.{IsWithin, minus};
+ghost use Rattle.heesch_place.specs.declared.spots.Spot.{Spot};
+ghost use Rattle.heesch_place.specs.Spots.{AreBarred, AreBeside, AreForms, AreInReach, AreWithinEach, IsBeside};
+ghost use Rattle.heesch_place.specs.Spots.{head_of, spot_before};
 
 use crate::around::cells_touching;
-use crate::lists::{add, listed_tiles};
+use crate::forms::Forms;
+use crate::lists::add;
+use crate::spots::{Spot, SpotMarks, radius_of, widened};
 use crate::turned::first_of;
-use heesch_grid::{Cell, Grid, Iso};
-use heesch_index::CellMarks;
+use heesch_grid::Grid;
 use heesch_io::NoMemory;
 use heesch_shape::Shape;
 use std::alloc::Global;
 use std::marker::Model;
-use std::slice::from_ref;
 
-/// The shape whose placements are listed: its images under each turn, its orientations, and marks of
-/// its cells and of those that touch them.
+/// The shape whose placements are listed: its forms, the spots whose tiles touch each of them, how far from its first
+/// cell such a tile begins, and marks of the spots whose tiles meet or touch the shape.
 #[derive(Drop)]
 pub(crate) struct Prototile<G: Grid> {
-    shape: Shape<G>,
-    turned: Vec<Shape<G>>,
-    orientations: Vec<Shape<G>>,
-    near: CellMarks,
+    forms: Forms<G>,
+    beside: Vec<Vec<Spot>>,
+    reach: u32,
+    barred: SpotMarks,
 }
 
 impl<G: Grid> Model for Prototile<G> {
-    ghost use Rattle.std.specs.Prelude.{List};
-    ghost use Rattle.heesch_grid.specs.declared.Cell.{Cell};
-    ghost use Rattle.heesch_place.specs.Found.{IsPrepared};
+    ghost use Rattle.std.specs.Prelude.{map};
+    ghost use Rattle.heesch_place.specs.Spots.{IsPrepared, Prepared};
 
-    ghost Value = { List Cell };
+    ghost Value = { Prepared };
 
-    ghost view = { λ p. p.shape };
+    ghost view = { λ p. record { formed = p.forms; reach = p.reach } };
 
-    ghost invariant = { λ p. IsPrepared G.geometry p.shape p.turned.items p.orientations.items p.near };
+    ghost invariant = { λ p. IsPrepared G.geometry p.forms (map (λ v. v.items) p.beside.items) p.reach p.barred };
 }
 
-/// The images of the shape under each turn, in the order of the turns.
-fn all_turned<G: Grid>(alloc: Global, shape: &Shape<G>) -> Result<Vec<Shape<G>>, NoMemory>
-    requires { (c : Cell) → has shape.now c ≡ true → IsWithin 200 c }
-    ensures { IfOk result (λ all. AreTurned G.geometry shape.now all.items) }
+/// Marks of the spots whose tiles meet or touch the shape.
+fn barred_by<G: Grid>(alloc: Global, forms: &Forms<G>) -> Result<SpotMarks, NoMemory>
+    requires { (c : Cell) → has forms.now.shape c ≡ true → IsWithin 200 c }
+    ensures { IfOk result (AreBarred G.geometry forms.now) }
+{
+    let shape = forms.shape();
+    let mut cells = cells_touching(alloc, shape)?;
+    cells.extend_from_slice(shape.cells())?;
+    forms.over(alloc, cells.as_slice())
+}
+
+/// The greater of the two.
+fn greater(m: u32, n: u32) -> u32
+    ensures first { m ≤ result }
+    ensures second { n ≤ result }
+    ensures least { (k : ℕ) → m ≤ k → n ≤ k → result ≤ k }
+{
+    m.max(n)
+}
+
+/// For each form the spots whose tiles touch it.
+fn beside_each<G: Grid>(alloc: Global, forms: &Forms<G>) -> Result<Vec<Vec<Spot>>, NoMemory>
+    ensures listed { IfOk result (λ all. AreBeside G.geometry forms.now.forms (map (λ v. v.items) all.items)) }
+    ensures near { IfOk result (λ all. AreWithinEach 20000 (map (λ v. v.items) all.items)) }
 {
     let mut all = Vec::new(alloc);
-    for k in 0..G::TURNS {
-        let by = Iso {
-            turn: k,
-            da: 0,
-            db: 0,
-        };
-        add(&mut all, shape.image(by))?;
+    for form in 0..forms.count() {
+        let spots = forms.beside(alloc, forms.form(form).shape())?;
+        add(&mut all, spots)?;
     }
     Ok(all)
 }
 
-/// How many units lie below the coordinate.
-fn units_below(z: i32, unit: i32) -> i32
-    requires { pos 1 ≤ℤ unit }
-    ensures { nat_abs result ≤ nat_abs z }
+/// How far from the first cell of its form a spot of these begins, or more.
+fn reach_of<G: Grid>(forms: &Forms<G>, beside: &[Vec<Spot>]) -> u32
+    requires long { length beside.now ≡ length forms.now.forms }
+    requires near { AreWithinEach 20000 (map (λ v. v.items) beside.now) }
+    ensures reach { AreInReach forms.now.forms (map (λ v. v.items) beside.now) result }
+    ensures small { result ≤ 30000 }
 {
-    z.div_euclid(unit)
-}
-
-/// How many units move the cell to the block at the origin.
-fn units_back(c: Cell, unit: i32) -> Cell
-    requires positive { pos 1 ≤ℤ unit }
-    requires near { IsWithin 400 c }
-    ensures { IsWithin 400 result }
-{
-    Cell {
-        a: -units_below(c.a, unit),
-        b: -units_below(c.b, unit),
+    let mut reach = 0;
+    for form in 0..forms.count() {
+        let first = first_of(forms.form(form).shape().cells());
+        let spots = beside[form as usize].as_slice();
+        reach = greater(reach, radius_of(spots) + widened(0, first));
     }
-}
-
-/// The tile, moved by whole units to where its first cell lies in the block at the origin.
-fn settled<G: Grid>(tile: &Shape<G>) -> Shape<G>
-    requires { (c : Cell) → has tile.now c ≡ true → IsWithin 400 c }
-    ensures moved { IsMoved G.geometry tile.now result }
-    ensures near { (c : Cell) → has result c ≡ true → IsWithin 5000 c }
-{
-    let units = units_back(first_of(tile.cells()), G::UNIT);
-    tile.image(Iso {
-        turn: 0,
-        da: units.a,
-        db: units.b,
-    })
-}
-
-/// The orientations of the shape, each once. Those of them that are moved to have the same first
-/// cell stand in the same order, whatever that cell.
-fn orientations_of<G: Grid>(
-    alloc: Global,
-    shape: &Shape<G>,
-    turned: &[Shape<G>],
-) -> Result<Vec<Shape<G>>, NoMemory>
-    requires near { (c : Cell) → has shape.now c ≡ true → IsWithin 200 c }
-    requires turned { AreTurned G.geometry shape.now turned.now }
-    ensures { IfOk result (λ all. AreOrientations G.geometry shape.now all.items) }
-{
-    let mut all = Vec::new(alloc);
-    for tile in turned {
-        add(&mut all, settled(tile))?;
-    }
-    Ok(listed_tiles(all))
-}
-
-/// Marks of the cells of the shape and of the cells that touch one of them.
-fn near_marks<G: Grid>(alloc: Global, shape: &Shape<G>) -> Result<CellMarks, NoMemory>
-    ensures { IfOk result (AreNear G.geometry shape.now) }
-{
-    let mut cells = cells_touching(alloc, from_ref(shape))?;
-    cells.extend_from_slice(shape.cells())?;
-    CellMarks::of(alloc, cells.as_slice())
+    reach
 }
 
 impl<G: Grid> Prototile<G> {
     /// What is made of a shape near 0.
     pub(crate) fn of(alloc: Global, shape: Shape<G>) -> Result<Prototile<G>, NoMemory>
         requires { (c : Cell) → has shape c ≡ true → IsWithin 200 c }
-        ensures { IfOk result (λ prototile. prototile ≡ shape) }
+        ensures { IfOk result (λ prototile. prototile.formed.shape ≡ shape) }
     {
-        let turned = all_turned(alloc, &shape)?;
-        let orientations = orientations_of(alloc, &shape, turned.as_slice())?;
-        let near = near_marks(alloc, &shape)?;
+        let forms = Forms::of(alloc, shape)?;
+        let beside = beside_each(alloc, &forms)?;
+        let reach = reach_of(&forms, beside.as_slice());
+        let barred = barred_by(alloc, &forms)?;
         Ok(Prototile {
-            shape,
-            turned,
-            orientations,
-            near,
+            forms,
+            beside,
+            reach,
+            barred,
         })
     }
 
-    /// The shape.
-    pub(crate) fn shape(&self) -> &Shape<G>
-        ensures { result.now ≡ self.now }
+    /// Its forms.
+    pub(crate) fn forms(&self) -> &Forms<G>
+        ensures is { result.now ≡ self.now.formed }
+        ensures forms { AreForms G.geometry self.now.formed.shape self.now.formed.forms }
     {
-        &self.shape
+        let _shape = self.forms.shape();
+        &self.forms
     }
 
     /// The shape, alone.
     pub(crate) fn into_shape(self) -> Shape<G>
-        ensures { result ≡ self }
+        ensures { result ≡ self.formed.shape }
     {
-        self.shape
+        self.forms.into_shape()
     }
 
-    /// Its images under each turn, in the order of the turns.
-    pub(crate) fn turned(&self) -> &[Shape<G>]
-        ensures { AreTurned G.geometry self.now result.now }
+    /// The spots whose tiles touch the form of this place.
+    pub(crate) fn beside(&self, form: u32) -> &[Spot]
+        requires { form < length self.now.formed.forms }
+        ensures listed { ListsExactly spot_before
+            (IsBeside G.geometry self.now.formed.forms (slice_index_or self.now.formed.forms form [])) result.now }
+        ensures reach { (s : Spot) → Contains result.now s
+            → IsWithin self.now.reach (minus s.first (head_of (slice_index_or self.now.formed.forms form []))) }
     {
-        self.turned.as_slice()
+        self.beside[form as usize].as_slice()
     }
 
-    /// Its orientations: each placement is one of them, moved.
-    pub(crate) fn orientations(&self) -> &[Shape<G>]
-        ensures { AreOrientations G.geometry self.now result.now }
+    /// How far from the first cell of a form a tile begins that touches it, or more.
+    pub(crate) fn reach(&self) -> u32
+        ensures reach { result ≡ self.now.reach }
+        ensures small { result ≤ 30000 }
     {
-        self.orientations.as_slice()
+        self.reach
     }
 
-    /// Marks of its cells and of the cells that touch one of them. A tile with none of these is apart from
-    /// it and does not touch it.
-    pub(crate) fn near(&self) -> &CellMarks
-        ensures { AreNear G.geometry self.now result.now }
+    /// Marks of the spots whose tiles meet or touch the shape.
+    pub(crate) fn barred(&self) -> &SpotMarks
+        ensures { AreBarred G.geometry self.now.formed result.now }
     {
-        &self.near
+        &self.barred
     }
 }

@@ -1,18 +1,22 @@
 //! The variables of a corona formula.
 ghost use Rattle.std.specs.Prelude.{◌≡◌, true, ◌+◌, ◌≤◌, ◌<◌, ◌^◌, ℕ};
-ghost use Rattle.std.specs.Prelude.{List, map, length, nat_le, All, IfOk, OnOk, MatchOption};
+ghost use Rattle.std.specs.Prelude.{map, length, nat_le, Contains, IfOk, OnOk, MatchOption};
 ghost use Rattle.heesch_grid.specs.declared.Cell.{Cell};
 ghost use Rattle.heesch_grid.specs.Cells.{has};
 ghost use Rattle.heesch_grid.specs.Polyform.{IsCanonicalListOf};
-ghost use Rattle.heesch_grid.specs.Placement.{IsPlacement, IsLeastIsometry};
+ghost use Rattle.heesch_grid.specs.Placement.{IsLeastIsometry};
 ghost use Rattle.heesch_grid.specs.CoronaFormula.{Variable, IsUniverse, IsNumbered};
 ghost use Rattle.heesch_grid.specs.Vectors.{IsWithin};
+ghost use Rattle.heesch_place.specs.declared.spots.Spot.{Spot};
+ghost use Rattle.heesch_place.specs.Spots.{IsSpot, tile_at};
 ghost use Rattle.heesch_place.specs.Universes.{IsUniverseOf, covering, level_at, variable_cmp, HaveLeast, AddTiles};
 
-use crate::level::{Level, first_level};
+use crate::forms::Forms;
+use crate::level::{first_level, next_level};
 use crate::lists::add;
 use crate::placement::Placement;
 use crate::prototile::Prototile;
+use crate::spots::Spot;
 use heesch_grid::{Cell, Grid};
 use heesch_index::{CellSets, CellTable};
 use heesch_io::{NoMemory, Seq};
@@ -71,20 +75,22 @@ impl<G: Grid> Model for Universe<G> {
         u.shape u.level u.entries.items u.table };
 }
 
-/// Adds a variable of this level for each of the tiles.
+/// Adds a variable of this level for each of the spots.
 fn add_entries<G: Grid>(
     entries: &mut Vec<Entry<G>>,
-    prototile: &Prototile<G>,
+    forms: &Forms<G>,
     level: u32,
-    tiles: Vec<Shape<G>>,
+    spots: &[Spot],
 ) -> Result<(), NoMemory>
-    requires { All (IsPlacement G.geometry prototile.now) tiles.items }
+    requires spots { (s : Spot) → Contains spots.now s → IsSpot G.geometry forms.now.forms s }
+    requires near { (s : Spot) → Contains spots.now s → IsWithin 100000 s.first }
     ensures { OnOk result
-        (AddTiles (λ e. record { level = e.level; tile = e.place.tile }) (λ e. e.place.by) G.geometry prototile.now
-        level tiles.items entries.old.items entries.new.items) }
+        (AddTiles (λ e. record { level = e.level; tile = e.place.tile }) (λ e. e.place.by) G.geometry forms.now.shape
+        level (map (tile_at forms.now.forms) spots.now) entries.old.items entries.new.items) }
 {
-    for tile in tiles {
-        let place = Placement::onto(prototile, tile);
+    entries.reserve(spots.len())?;
+    for spot in spots {
+        let place = forms.placement_at(*spot);
         add(entries, Entry { level, place })?;
     }
     Ok(())
@@ -97,22 +103,22 @@ fn entries_of<G: Grid>(
     level: u32,
 ) -> Result<Vec<Entry<G>>, NoMemory>
     requires level { (1 ≤ level) × (level ≤ 6) }
-    requires near { (c : Cell) → has prototile.now c ≡ true → IsWithin 200 c }
+    requires near { (c : Cell) → has prototile.now.formed.shape c ≡ true → IsWithin 200 c }
     ensures universe { IfOk result (λ all.
-        IsUniverse G.geometry prototile.now level
+        IsUniverse G.geometry prototile.now.formed.shape level
         (map (λ e. record { level = e.level; tile = e.place.tile }) all.items)) }
     ensures least { IfOk result (λ all.
         HaveLeast (λ e. record { level = e.level; tile = e.place.tile }) (λ e. e.place.by) G.geometry
-        prototile.now all.items) }
+        prototile.now.formed.shape all.items) }
 {
+    let forms = prototile.forms();
     let mut entries = Vec::new(alloc);
-    let mut tiles = first_level(alloc, prototile)?;
+    let mut spots = first_level(alloc, prototile)?;
     for k in 1..level {
-        let inner = Level::of(alloc, tiles)?;
-        tiles = inner.next(alloc, prototile)?;
-        add_entries(&mut entries, prototile, k, inner.into_tiles())?;
+        add_entries(&mut entries, forms, k, spots.as_slice())?;
+        spots = next_level(alloc, prototile, spots.as_slice())?;
     }
-    add_entries(&mut entries, prototile, level, tiles)?;
+    add_entries(&mut entries, forms, level, spots.as_slice())?;
     Ok(entries)
 }
 
@@ -142,9 +148,8 @@ impl<G: Grid> Universe<G> {
     /// The universe of a canonical shape, at a level from 1 to 6. A universe of 2^31 variables or more
     /// counts as want of memory.
     ///
-    /// For each level, each cell that a placement of it may begin with is tried once, with each
-    /// orientation of the shape; so the cost grows with the area that the levels fill and not with the
-    /// square of the number of variables.
+    /// For each variable below the last level one mark is set for each placement that touches its tile; so
+    /// the cost grows with the number of variables, times that of the placements around one tile.
     pub fn of(alloc: Global, shape: &Shape<G>, level: u32) -> Result<Universe<G>, NoMemory>
         requires level { (1 ≤ level) × (level ≤ 6) }
         requires canonical { IsCanonicalListOf G.geometry shape.now shape.now }

@@ -12,10 +12,8 @@ use std::alloc::Global;
 use std::mem;
 use std::thread::{Threads, join_mut};
 
-/// One worker for each seat. The other seats go to a new thread. The caller's does what is done first, and then works
-/// from its own seat.
-///
-/// What is done first need not be `Send`. What it leaves in what it borrows is known too.
+/// One worker for each seat. The seats of the others go to a new thread, by halves. The caller's thread does what is
+/// done `first`, and then is the last worker.
 pub fn gather_behind<
     R: Threads + Sync,
     T: Send + Sync + Drop,

@@ -7,6 +7,9 @@
 //! A runtime, an allocator, a number of workers and a gate go from call to call as one value, `Crew`, which keeps
 //! that the workers are 1 to 64. A job has no more workers than tickets: a thread that finds no ticket costs its
 //! making and its end. What a gate is given is shown by a test.
+//!
+//! The caller's thread is one of the workers. By `run_span_behind` it first does something else while the others work,
+//! so that there are never more threads than workers.
 #![tactic(auto)]
 
 mod behind;

@@ -45,10 +45,10 @@ impl<'a, R: Threads + Sync, H: Gate + Sync> Crew<'a, R, H> {
         items_of(self.alloc, board, gathered)
     }
 
-    /// The same as `run_span`, where the caller's thread is one of the workers, and does what is done `first` before it
-    /// draws a number. The others work meanwhile. It is done at `NoMemory` too.
+    /// The same as `run_span`, where the caller's thread does what is done `first` before it draws a number as one of
+    /// the workers. The others work meanwhile, so one worker or one number has no other. At `NoMemory` it is done too.
     ///
-    /// It is called in the caller's thread, so need not be `Send`. What it leaves in what it borrows is known.
+    /// What is done first need not be `Send`. What it leaves in what it borrows is known.
     pub fn run_span_behind<T: Send + Sync + Drop, W: Answer<T> + Sync, A, F: FnMut() -> A>(
         &self,
         job: &Job<T, W>,

@@ -49,6 +49,17 @@ impl Hold {
         }
     }
 
+    /// Whether so many others pass, within the turns that any thread may need.
+    fn have_passed(&self, others: u64) -> bool {
+        for _ in 0..TURNS {
+            if self.passed.load(Ordering::SeqCst) >= others {
+                return true;
+            }
+            thread::yield_now();
+        }
+        false
+    }
+
     fn has_expired(&self) -> bool {
         self.expired.load(Ordering::SeqCst) != 0
     }
@@ -180,6 +191,34 @@ fn the_gate_is_told_workers_and_numbers(rt: HostRuntime) -> Result<(), Fail> {
     let gate = Told::new();
     let items = Crew::new(&rt, rt.alloc(), 2, &gate).run_span(&job, 4, 9)?;
     assert!(rt; items.as_slice() == [2, 2, 3, 3, 4].as_slice());
+    let (first, second, others) = gate.notes();
+    assert!(rt; first != 0 && second != 0 && others == 0);
+    assert!(rt; first.checked_add(second) == Some(0b1_1111_0000));
+    Ok(())
+}
+
+#[test]
+fn others_work_while_the_caller_does_something_else(rt: HostRuntime) -> Result<(), Fail> {
+    let job = Job::new(Halves { refused: None }, 8);
+    let gate = Hold::new(8, 0, 0);
+    let (items, have_passed) = Crew::new(&rt, rt.alloc(), 2, &gate).run_span_behind(
+        &job,
+        0,
+        8,
+        &mut || gate.have_passed(8),
+    );
+    assert!(rt; items?.as_slice() == [0, 0, 1, 1, 2, 2, 3, 3].as_slice());
+    assert!(rt; have_passed);
+    Ok(())
+}
+
+/// The last worker is the caller's thread. The gate holds the other until it has drawn a number.
+#[test]
+fn the_caller_works_once_it_has_done_something_else(rt: HostRuntime) -> Result<(), Fail> {
+    let job = Job::new(Halves { refused: None }, 10);
+    let gate = Told::new();
+    let (items, ()) = Crew::new(&rt, rt.alloc(), 2, &gate).run_span_behind(&job, 4, 9, &mut || ());
+    assert!(rt; items?.as_slice() == [2, 2, 3, 3, 4].as_slice());
     let (first, second, others) = gate.notes();
     assert!(rt; first != 0 && second != 0 && others == 0);
     assert!(rt; first.checked_add(second) == Some(0b1_1111_0000));

@@ -1,50 +1,49 @@
-use Rattle.std.proofs.Common.{◌≡◌, [], Contains, get_or, pos, sym, subst, ap, ◌∙◌, arith}
+use Rattle.std.proofs.Common.{◌≡◌, inl, inr, [], true, Contains, get_or, sym, subst, ap, ◌∙◌, arith}
+use Rattle.std.proofs.lemmas.Result.{IfOk-weaker}
 use Rattle.heesch_grid.specs.declared.Cell.{Cell}
-use Rattle.heesch_grid.specs.Cells.{cell, has}
+use Rattle.heesch_grid.specs.Cells.{cell_before, has, origin}
 use Rattle.heesch_grid.specs.Geometry.{Touching}
-use Rattle.heesch_place.specs.Found.{Adds, FromOne}
+use Rattle.heesch_grid.specs.Listing.{ListsExactly}
+use Rattle.heesch_grid.specs.Pairs.{has-true}
+use Rattle.heesch_grid.proofs.CellFacts.{has-is}
+use Rattle.heesch_grid.proofs.ListFacts.{no_member}
 use Rattle.heesch_index.specs.Marking.{is_marked}
-use Rattle.heesch_place.proofs.Beyond.{once_covered, around_once}
-use Rattle.heesch_place.proofs.Gathering.{from_none, from_more, from_all, member_at}
-use Rattle.heesch_place.proofs.around.cells_touching.Given as given
+use Rattle.heesch_shape.proofs.Loops.{has_at}
+use Rattle.heesch_shape.proofs.Touches.{shape_cells}
+use Rattle.heesch_place.specs.Found.{Adds, FromOne}
+use Rattle.heesch_place.proofs.Gathering.{from_none, from_more, from_all, relisted}
 use Rattle.heesch_place.proofs.around.cells_touching.Goals as goal
-use Rattle.heesch_place.proofs.around.cells_touching.Goals.{After-deref-c-items}
-
-abbrev zero_cell : Cell
-zero_cell = cell (pos 0) (pos 0)
-
-marked : (g : given.Over) (c : After-deref-c-items g) (d : Cell) → is_marked c.in_ok-of.field-0 d ≡ has c.in_ok-covered.covered.items d
-marked g c d = c.in_ok-of.ensures d ∙ ap (λ zs. has zs d) c.as_slice.ensures.value
-
--- the cell at a place of the list is a cell of a tile
-covered : (g : given.Over) (c : After-deref-c-items g) (d : Cell) → Contains c.deref-c-items.result.now d → Contains c.in_ok-covered.covered.items d
-covered g c d m =
-    once_covered g.G.Grid.geometry c.args.tiles.now c.in_ok-covered.covered.items c.in_ok-once.once.items c.in_ok-of.field-0 c.in_ok-covered.ensures.exact (marked g c) c.in_ok-once.ensures d (subst (λ zs. Contains zs d) c.deref-c-items.ensures.value m)
 
 pub add_touching-requires-clause-cell : goal.add_touching-requires-clause-cell
 add_touching-requires-clause-cell g c =
-    let ds = c.deref-c-items.result.now in
-    let d = get_or ds c.loop-c.c-index zero_cell in
-    c.in_ok-covered.ensures.cells d (covered g (goal.at.add_touching-requires-clause-cell g c).After-deref-c-items d (member_at ds c.loop-c.c-index zero_cell c.loop-c-test.true))
+    let xs = c.cells-c-items.result.now in
+    let x = get_or xs c.loop-c.c-index origin in
+    shape_cells g.G.Grid.geometry c.args.tile.now c.cells-c-items.ensures.shape x (ap (λ zs. has zs x) (sym c.cells-c-items.ensures.cells) ∙ has_at xs c.loop-c.c-index origin c.loop-c-test.true)
 
 pub add_touching-requires-clause-within : goal.add_touching-requires-clause-within
 add_touching-requires-clause-within g c =
-    let ds = c.deref-c-items.result.now in
-    let d = get_or ds c.loop-c.c-index zero_cell in
-    c.in_ok-covered.ensures.within d (covered g (goal.at.add_touching-requires-clause-within g c).After-deref-c-items d (member_at ds c.loop-c.c-index zero_cell c.loop-c-test.true))
+    let xs = c.cells-c-items.result.now in
+    let x = get_or xs c.loop-c.c-index origin in
+    c.cells-c-items.ensures.shape.within x (ap (λ zs. has zs x) (sym c.cells-c-items.ensures.cells) ∙ has_at xs c.loop-c.c-index origin c.loop-c-test.true)
 
 pub loop-c-init : goal.loop-c-init
-loop-c-init g c = subst (Adds (FromOne (Touching g.G.Grid.geometry) []) []) (sym c.new-all.ensures.items) (from_none (Touching g.G.Grid.geometry) c.deref-c-items.result.now [])
+loop-c-init g c =
+    let R = Touching g.G.Grid.geometry in
+    subst (Adds (FromOne R []) []) (sym c.new-all.ensures.items) (from_none R c.cells-c-items.result.now (Contains []))
 
 pub loop-c-preserved : goal.loop-c-preserved
 loop-c-preserved g c =
-    from_more (Touching g.G.Grid.geometry) c.deref-c-items.result.now c.loop-c.c-index zero_cell [] c.loop-c.all.items c.add_touching.new.all.items c.loop-c-test.true c.loop-c.invariant c.in_ok-add_touching.ensures
+    from_more (Touching g.G.Grid.geometry) c.cells-c-items.result.now c.loop-c.c-index origin (Contains []) (Contains c.loop-c.all.items) (Contains c.add_touching.new.all.items) c.loop-c-test.true c.loop-c.invariant c.in_ok-add_touching.ensures
 
 pub returns : goal.returns
 returns g c =
-    let at = (goal.at.returns g c).After-deref-c-items in
     let geometry = g.G.Grid.geometry in
-    let ds = c.deref-c-items.result.now in
     let all = c.loop-c.all.items in
-    let made = from_all (Touching geometry) ds c.loop-c.c-index [] all (omega (arith, c.loop-c-test.false, c.loop-c.auto.c-index-end)) c.loop-c.invariant in
-    around_once geometry c.args.tiles.now c.in_ok-covered.covered.items c.in_ok-once.once.items c.in_ok-of.field-0 c.in_ok-covered.ensures.exact (marked g at) c.in_ok-once.ensures all (subst (λ zs. Adds (FromOne (Touching geometry) zs) [] all) c.deref-c-items.ensures.value made)
+    let marks = c.in_ok-of.field-0 in
+    let made = from_all (Touching geometry) c.cells-c-items.result.now c.loop-c.c-index (Contains []) (Contains all) (omega (arith, c.loop-c-test.false, c.loop-c.auto.c-index-end)) c.loop-c.invariant in
+    let marked : (d : Cell) → is_marked marks d ≡ has all d = λ d. c.in_ok-of.ensures d ∙ ap (λ zs. has zs d) c.as_slice.ensures.value in
+    let around : Adds (FromOne (Touching geometry) c.args.tile.now) [] all = subst (λ zs. Adds (FromOne (Touching geometry) zs) [] all) c.cells-c-items.ensures.cells made in
+    IfOk-weaker c.cells-2.result (λ cells. ListsExactly cell_before (λ d. is_marked marks d ≡ true) cells.items) (λ cells. ListsExactly cell_before (FromOne (Touching geometry) c.args.tile.now) cells.items)
+    (λ cells l. relisted cell_before (λ d. is_marked marks d ≡ true) (FromOne (Touching geometry) c.args.tile.now) cells.items l
+    (λ d h. elim (around.only d (has-true all d (sym (marked d) ∙ h))) [ inl none ↦ absurd (no_member d none) | inr r ↦ r ])
+    (λ d r. marked d ∙ has-is all d (around.all d r))) c.cells-2.ensures

@@ -1,31 +1,22 @@
-use Rattle.std.proofs.Common.{◌≡◌, [], ◌∷◌, ap, subst, ◌∙◌}
+use Rattle.std.proofs.Common.{Global, Vec, sym, ap, subst, ◌∙◌, arith}
 use Rattle.std.proofs.lemmas.Result.{IfOk-weaker}
-use Rattle.heesch_grid.specs.declared.Cell.{Cell}
-use Rattle.heesch_grid.specs.Listing.{ListsExactly}
-use Rattle.heesch_grid.specs.Cells.{cells_before, has}
+use Rattle.heesch_grid.specs.Cells.{has}
 use Rattle.heesch_grid.specs.CoronaFormula.{IsAtLevel}
-use Rattle.heesch_index.specs.Marking.{is_marked}
-use Rattle.heesch_place.specs.Found.{Adds, TouchesSome, IsPlacementOver}
-use Rattle.heesch_place.proofs.Beyond.{targets_near, one_near, first_level}
-use Rattle.heesch_place.proofs.level.first_level.Given as given
+use Rattle.heesch_grid.specs.Listing.{ListsExactly}
+use Rattle.heesch_grid.proofs.Images.{wider}
+use Rattle.heesch_place.specs.declared.spots.Spot.{Spot}
+use Rattle.heesch_place.specs.Spots.{AreSpotsOf, Formed, IsBeside, spot_before}
+use Rattle.heesch_place.proofs.Beside.{first_listed}
 use Rattle.heesch_place.proofs.level.first_level.Goals as goal
-use Rattle.heesch_place.proofs.level.first_level.Goals.{In_ok-targets}
 
-around : (g : given.Over) (c : In_ok-targets g) → Adds (TouchesSome g.G.Grid.geometry (c.args.prototile.now ∷ [])) [] c.in_ok-targets.targets
-around g c = subst (λ ts. Adds (TouchesSome g.G.Grid.geometry ts) [] c.in_ok-targets.targets) (c.from_ref.ensures.value ∙ ap (λ s. s ∷ []) c.shape-shape.ensures) c.in_ok-targets.ensures
-
-pub placements_over-requires : goal.placements_over-requires
-placements_over-requires g c =
-    let shape = c.args.prototile.now in
-    let targets = c.in_ok-targets.targets in
-    targets_near g.G.Grid.geometry g.met.G.Grid.laws shape (shape ∷ []) targets (around g (goal.at.placements_over-requires g c).In_ok-targets) (one_near g.G.Grid.geometry g.met.G.Grid.laws shape c.requires)
+pub beside-requires : goal.beside-requires
+beside-requires g c d h =
+    wider 200 5000 d (omega arith) (c.requires d (ap (λ zs. has zs d) (sym (c.shape.ensures.shape ∙ ap (λ (f : Formed). f.shape) c.forms-forms.ensures.is)) ∙ h))
 
 pub returns : goal.returns
 returns g c =
     let geometry = g.G.Grid.geometry in
-    let shape = c.args.prototile.now in
-    let targets = c.in_ok-targets.targets in
-    let own = c.in_ok-own.own in
-    let marked : (d : Cell) → is_marked own d ≡ has shape d = λ d. c.in_ok-own.ensures d ∙ ap (λ zs. has zs d) (c.cells.ensures.cells ∙ c.shape-shape.ensures) in
-    IfOk-weaker c.placements_over.result (λ all. ListsExactly cells_before (IsPlacementOver geometry shape targets own) all.items) (λ all. ListsExactly cells_before (IsAtLevel geometry shape 1) all.items)
-    (λ all over. first_level geometry g.met.G.Grid.laws shape targets own all.items (around g (goal.at.returns g c).In_ok-targets) marked over) c.placements_over.ensures
+    let f = c.forms-forms.result.now in
+    IfOk-weaker c.beside.result (λ (v : Vec Spot Global). ListsExactly spot_before (IsBeside geometry f.forms c.shape.result.now) v.items) (λ (v : Vec Spot Global). AreSpotsOf geometry c.args.prototile.now.formed.forms (IsAtLevel geometry c.args.prototile.now.formed.shape 1) v.items)
+    (λ v l. subst (λ (f : Formed). AreSpotsOf geometry f.forms (IsAtLevel geometry f.shape 1) v.items) c.forms-forms.ensures.is
+    (first_listed geometry g.met.G.Grid.laws f.forms f.shape c.shape.ensures.forms v.items (subst (λ t. ListsExactly spot_before (IsBeside geometry f.forms t) v.items) c.shape.ensures.shape l))) c.beside.ensures.listed

@@ -5,8 +5,8 @@ use Rattle.heesch_grid.specs.Cells.{cell_cmp}
 use Rattle.heesch_place.proofs.Sorting.{listed_lists}
 use Rattle.heesch_place.proofs.lists.listed_tiles.Goals as goal
 
-pub returns : goal.returns
-returns g c =
+pub returns-clause-listed : goal.returns-clause-listed
+returns-clause-listed g c =
     let sorted = c.sort_unstable.new.self.items in
     let once = c.dedup.new.self.items in
     listed_lists c.args.all.items sorted once c.sort_unstable.ensures.permutation c.sort_unstable.ensures.sorted (dedup_is (eq_by_cmp (slice_cmp cell_cmp)) sorted once c.dedup.ensures.filtered)

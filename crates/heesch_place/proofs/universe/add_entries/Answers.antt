@@ -1,15 +1,21 @@
-use Rattle.std.proofs.Common.{[], ◌∷◌, ◌++◌, List, length, Contains, sym, ap, subst, ◌∙◌, arith, append_assoc}
-use Rattle.std.specs.Vec.Iter.{into_iter_items}
-use Rattle.std.proofs.lemmas.List.Elements.{All-contains, Contains-append_right}
+use Rattle.std.proofs.Common.{◌≡◌, ◌+◌, [], ◌∷◌, ◌++◌, List, get_or, take, map, sym, ap, subst, ◌∙◌, arith}
+use Rattle.std.proofs.Math.Seq.{take-length}
+use Rattle.std.proofs.lemmas.List.{map-append, take_more}
 use Rattle.heesch_grid.specs.declared.Cell.{Cell}
 use Rattle.heesch_grid.specs.declared.isometries.Iso.{Iso}
+use Rattle.heesch_grid.specs.Cells.{origin}
 use Rattle.heesch_grid.specs.CoronaFormula.{Variable}
-use Rattle.heesch_grid.specs.Placement.{IsPlacement}
-use Rattle.heesch_grid.proofs.ListFacts.{member_here}
-use Rattle.heesch_place.proofs.Universality.{tiles_none, tiles_push, tiles_all}
+use Rattle.heesch_place.specs.declared.spots.Spot.{Spot}
+use Rattle.heesch_place.specs.Spots.{tile_at}
+use Rattle.heesch_place.specs.Universes.{AddTiles}
+use Rattle.heesch_place.proofs.Gathering.{member_at}
+use Rattle.heesch_place.proofs.Universality.{tiles_none, tiles_push}
 use Rattle.heesch_place.specs.declared.universe.Entry.{Entry}
 use Rattle.heesch_place.proofs.universe.add_entries.Given as given
 use Rattle.heesch_place.proofs.universe.add_entries.Goals as goal
+
+abbrev none : Spot
+none = record { form = 0; first = origin }
 
 abbrev variable : (g : given.Over) → Entry g.row.G.Denot → Variable
 variable g e = record { level = e.level; tile = e.place.tile }
@@ -17,37 +23,35 @@ variable g e = record { level = e.level; tile = e.place.tile }
 abbrev by : (g : given.Over) → Entry g.row.G.Denot → Iso
 by g e = e.place.by
 
-pub onto-place-requires : goal.onto-place-requires
-onto-place-requires g c =
-    let tile = c.in-Some.tile in
-    let taken = c.loop-tile.yielded in
-    let rest = into_iter_items c.next.new.self in
-    let m = Contains-append_right taken (tile ∷ rest) tile (member_here tile rest) in
-    let whole = ap (λ ts. taken ++ ts) (sym c.in-Some.ensures.steps.0) ∙ c.loop-tile.invariant.whole in
-    All-contains (IsPlacement g.G.Grid.geometry c.args.prototile.now) c.args.tiles.items tile c.requires (subst (λ ts. Contains ts tile) whole m)
+pub placement_at-place-requires-clause-is_spot : goal.placement_at-place-requires-clause-is_spot
+placement_at-place-requires-clause-is_spot g c = c.requires.spots (get_or c.args.spots.now c.loop-spot.spot-index none) (member_at c.args.spots.now c.loop-spot.spot-index none c.loop-spot-test.true)
 
-pub loop-tile-init : goal.loop-tile-init
-loop-tile-init g c =
-    let made = c.into_iter-tile-iterator.ensures.into_iter_gives in
-    record {
-      whole = made.0;
-      left = omega (arith, made.1, ap length made.0, c.args.tiles.ok.0);
-      added = tiles_none (variable g) (by g) g.G.Grid.geometry c.args.prototile.now c.args.level c.args.entries.now.items;
-    }
+pub placement_at-place-requires-clause-first : goal.placement_at-place-requires-clause-first
+placement_at-place-requires-clause-first g c = c.requires.near (get_or c.args.spots.now c.loop-spot.spot-index none) (member_at c.args.spots.now c.loop-spot.spot-index none c.loop-spot-test.true)
 
-pub loop-tile-preserved : goal.loop-tile-preserved
-loop-tile-preserved g c =
-    let tile = c.in-Some.tile in
-    let taken = c.loop-tile.yielded in
-    let rest = into_iter_items c.next.new.self in
-    let steps = c.in-Some.ensures.steps in
-    record {
-      whole = append_assoc taken (tile ∷ []) rest ∙ ap (λ ts. taken ++ ts) (sym steps.0) ∙ c.loop-tile.invariant.whole;
-      left = omega (arith, steps.1, c.loop-tile.invariant.left, ap length steps.0);
-      added = tiles_push (variable g) (by g) g.G.Grid.geometry c.args.prototile.now c.args.level taken tile c.args.entries.now.items c.loop-tile.entries.items c.add.new.all.items _ c.loop-tile.invariant.added c.in_ok-add.ensures (ap (λ (t : List Cell). record { level = c.args.level; tile = t }) c.onto-place.ensures.tile) c.onto-place.ensures.least;
-    }
+pub loop-spot-init : goal.loop-spot-init
+loop-spot-init g c =
+    let f = c.args.forms.now in
+    let old = c.args.entries.now.items in
+    subst (AddTiles (variable g) (by g) g.G.Grid.geometry f.shape c.args.level [] old) (sym c.reserve.ensures.items) (tiles_none (variable g) (by g) g.G.Grid.geometry f.shape c.args.level old)
+
+pub loop-spot-preserved : goal.loop-spot-preserved
+loop-spot-preserved g c =
+    let f = c.args.forms.now in
+    let spots = c.args.spots.now in
+    let l = c.loop-spot in
+    let i = l.spot-index in
+    let s = get_or spots i none in
+    let tile = tile_at f.forms in
+    let new = c.add.new.all.items in
+    let pushed = tiles_push (variable g) (by g) g.G.Grid.geometry f.shape c.args.level (map tile (take i spots)) (tile s) c.args.entries.now.items l.entries.items new _ l.invariant c.in_ok-add.ensures (ap (λ (t : List Cell). record { level = c.args.level; tile = t }) c.placement_at-place.ensures.tile) c.placement_at-place.ensures.least in
+    let more : map tile (take (i + 1) spots) ≡ map tile (take i spots) ++ tile s ∷ [] = ap (map tile) (take_more spots i none c.loop-spot-test.true) ∙ map-append tile (take i spots) (s ∷ []) in
+    subst (λ ts. AddTiles (variable g) (by g) g.G.Grid.geometry f.shape c.args.level ts c.args.entries.now.items new) (sym more) pushed
 
 pub returns : goal.returns
 returns g c =
-    let left = into_iter_items c.loop-tile.tile-iterator in
-    tiles_all (variable g) (by g) g.G.Grid.geometry c.args.prototile.now c.args.level c.loop-tile.yielded left c.args.tiles.items c.args.entries.now.items c.loop-tile.entries.items (omega (arith, c.in-None.ensures.steps.0, c.loop-tile.invariant.left)) c.loop-tile.invariant.whole c.loop-tile.invariant.added
+    let f = c.args.forms.now in
+    let spots = c.args.spots.now in
+    let l = c.loop-spot in
+    let all : take l.spot-index spots ≡ spots = ap (λ n. take n spots) (omega (arith, c.loop-spot-test.false, l.auto.spot-index-end)) ∙ take-length spots in
+    subst (λ zs. AddTiles (variable g) (by g) g.G.Grid.geometry f.shape c.args.level (map (tile_at f.forms) zs) c.args.entries.now.items l.entries.items) all l.invariant

@@ -11,12 +11,12 @@ below : (g : given.Over) (c : After-cells g) → c.loop-k.k < g.G.Grid.geometry.
 below g c = omega (arith, c.loop-k-test.true, c.turned-turned-items.ensures.long)
 
 -- the cells are those of the prototile under turn k
-list : (g : given.Over) (c : After-cells g) → IsCellListOf (map (g.G.Grid.geometry.turn c.loop-k.k) c.args.prototile.now) c.cells.result.now
+list : (g : given.Over) (c : After-cells g) → IsCellListOf (map (g.G.Grid.geometry.turn c.loop-k.k) c.args.images.now) c.cells.result.now
 list g c =
     let turned = c.turned-turned-items.result.now in
     let k = c.loop-k.k in
     let is : c.cells.result.now ≡ get_or turned k [] = c.cells.ensures.cells ∙ c.turned-item.is ∙ any_default turned k c.turned-item.result [] c.loop-k-test.true in
-    subst (IsCellListOf (map (g.G.Grid.geometry.turn k) c.args.prototile.now)) (sym is) (c.turned-turned-items.ensures.each k (below g c))
+    subst (IsCellListOf (map (g.G.Grid.geometry.turn k) c.args.images.now)) (sym is) (c.turned-turned-items.ensures.each k (below g c))
 
 pub leading-requires-clause-some : goal.leading-requires-clause-some
 leading-requires-clause-some g c = omega (arith, c.cells.ensures.shape.polyform.some, ap length c.cells.ensures.cells)
@@ -29,7 +29,7 @@ pub returns-in-Some-clause-least : goal.returns-in-Some-clause-least
 returns-in-Some-clause-least g c =
     let at = (goal.at.returns-in-Some-clause-least g c).After-cells in
     let geometry = g.G.Grid.geometry in
-    let shape = c.args.prototile.now in
+    let shape = c.args.images.now in
     let by = c.in-Some.by in
     let turn = c.in-Some.ensures.turn in
     let few : by.turn < geometry.turns = let less = below g at in omega (arith, turn, less) in
@@ -39,7 +39,7 @@ pub loop-k-preserved : goal.loop-k-preserved
 loop-k-preserved g c =
     let at = (goal.at.loop-k-preserved g c).After-cells in
     let geometry = g.G.Grid.geometry in
-    let shape = c.args.prototile.now in
+    let shape = c.args.images.now in
     none_more geometry shape c.args.tile c.loop-k.k c.loop-k.invariant (λ other turn l. c.in_default.ensures.none other (leads geometry c.loop-k.k other shape c.cells.result.now c.args.tile turn (list g at) l))
 
 pub unreachable-requires : goal.unreachable-requires

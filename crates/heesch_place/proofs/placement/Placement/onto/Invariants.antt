@@ -6,4 +6,4 @@ use Rattle.heesch_place.proofs.placement.Placement.onto.Given as goal
 
 abbrev pub invariant-loop-k : goal.invariant-loop-k
 invariant-loop-k g l =
-    (other : Iso) → other.turn < l.k → IsCellListOf (image g.G.Grid.geometry other l.prototile) l.tile → ⊥
+    (other : Iso) → other.turn < l.k → IsCellListOf (image g.G.Grid.geometry other l.images) l.tile → ⊥

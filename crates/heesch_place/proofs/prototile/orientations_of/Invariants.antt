@@ -1,6 +1,0 @@
-use Rattle.std.proofs.Common.{take}
-use Rattle.heesch_place.proofs.Moving.{AreSettled}
-use Rattle.heesch_place.proofs.prototile.orientations_of.Given as goal
-
-abbrev pub invariant-loop-tile : goal.invariant-loop-tile
-invariant-loop-tile g l = AreSettled g.G.Grid.geometry (take l.tile-index l.turned) l.all.items
