@@ -13,7 +13,7 @@ use Rattle.heesch_io.specs.Input.{IsAllOf, ReadsNoFurther}
 use Rattle.heesch_given.specs.Given.{AreGiven, HasFault, GivesShapes, GivesFault, DecideNothing}
 use Rattle.heesch_given.specs.Steps.{IsRead, IsFrontStop, IsWholeStop, IsStopBeyond}
 
--- bytes were read since the source had `first` left, so many, and they decide nothing
+-- bytes were read since the source had `first` left, so many, and they begin a list of shapes
 pub record Going (g : Geometry) (first now : Option (List ℕ)) (count : ℕ) (shapes : List (List Cell)) (s : Scanned) : Type 0 where
   pub bytes : List ℕ
   pub consumed : Consumes first now bytes
@@ -109,11 +109,11 @@ beyond_not_failed g first before count old s e o is told = subst (IsStopBeyond g
 
 -- ---- what is read
 
-pub no_further : (g : Geometry) (first before now : Option (List ℕ)) (count more : ℕ) (room : List ℕ) (old : List (List Cell)) (s : Scanned) → Going g first before count old s → more ≤ length room → Consumes before now (take more room) → length room ≤ 4096 → ReadsNoFurther (DecideNothing g) first now
-no_further g first before now count more room old s o fits c few = record {
+pub no_further : (most : ℕ) (g : Geometry) (first before now : Option (List ℕ)) (count more : ℕ) (room : List ℕ) (old : List (List Cell)) (s : Scanned) → Going g first before count old s → count ≤ most → more ≤ length room → Consumes before now (take more room) → length room ≤ 4096 → ReadsNoFurther (DecideNothing most g) first now
+no_further most g first before now count more room old s o few fits c page = record {
   bytes = o.bytes;
   last = take more room;
   consumed = consumes_both first before now o.bytes (take more room) o.consumed c;
-  one_piece = omega (arith, few, fits, length-take-le more room fits);
-  undecided = o.read.undecided;
+  one_piece = omega (arith, page, fits, length-take-le more room fits);
+  undecided = record { begin = o.read.begin; in_time = omega (arith, few, o.count_is) };
 }

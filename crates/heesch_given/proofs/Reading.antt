@@ -44,7 +44,7 @@ no_shape g line first fault l is =
 
 pub nothing_read : (g : Geometry) (s : Scanned) → IsScanned [] s → IsRead g [] [] s
 nothing_read g s scanned = record {
-  undecided = record {
+  begin = record {
     given = [];
     line = [];
     text = refl;
@@ -59,16 +59,16 @@ nothing_read g s scanned = record {
 }
 
 -- as many lines ended as shapes were kept
-pub as_many : (g : Geometry) (bytes : List ℕ) (shapes : List (List Cell)) (s : Scanned) → (r : IsRead g bytes shapes s) → length r.undecided.given ≡ length shapes
-as_many g bytes shapes s r = length_all_zip (IsCanonicalOf g) r.undecided.given shapes r.canonical
+pub as_many : (g : Geometry) (bytes : List ℕ) (shapes : List (List Cell)) (s : Scanned) → (r : IsRead g bytes shapes s) → length r.begin.given ≡ length shapes
+as_many g bytes shapes s r = length_all_zip (IsCanonicalOf g) r.begin.given shapes r.canonical
 
 -- a byte of the line
 pub line_goes_on : (g : Geometry) (bytes : List ℕ) (shapes : List (List Cell)) (old new : Scanned) (byte : ℕ) → (r : IsRead g bytes shapes old) → length shapes < 10000 → byte ≢ 10
-    → IsScanned (r.undecided.line ++ byte ∷ []) new → IsRead g (bytes ++ byte ∷ []) shapes new
+    → IsScanned (r.begin.line ++ byte ∷ []) new → IsRead g (bytes ++ byte ∷ []) shapes new
 line_goes_on g bytes shapes old new byte r less other scanned =
-    let u = r.undecided in
+    let u = r.begin in
     record {
-      undecided = record {
+      begin = record {
         given = u.given;
         line = u.line ++ byte ∷ [];
         text = ap (λ (t : List ℕ). t ++ byte ∷ []) u.text ∙ append_assoc (list_text u.given) u.line (byte ∷ []);
@@ -84,12 +84,12 @@ line_goes_on g bytes shapes old new byte r less other scanned =
 
 -- the newline of a shape
 pub line_ends : (g : Geometry) (bytes : List ℕ) (old new : List (List Cell)) (s t : Scanned) → (r : IsRead g bytes old s) → length old < 10000
-    → AddsShape g r.undecided.line old new → IsScanned [] t → IsRead g (bytes ++ 10 ∷ []) new t
+    → AddsShape g r.begin.line old new → IsScanned [] t → IsRead g (bytes ++ 10 ∷ []) new t
 line_ends g bytes old new s t r less a scanned =
-    let u = r.undecided in
+    let u = r.begin in
     let longer : length (u.given ++ a.shape.cells ∷ []) ≡ length u.given + 1 = length-append u.given (a.shape.cells ∷ []) in
     record {
-      undecided = record {
+      begin = record {
         given = u.given ++ a.shape.cells ∷ [];
         line = [];
         text = ap (λ (x : List ℕ). x ++ 10 ∷ []) u.text
@@ -113,7 +113,7 @@ line_ends g bytes old new s t r less a scanned =
 pub one_too_many : (most : ℕ) (g : Geometry) (bytes : List ℕ) (shapes : List (List Cell)) (s : Scanned) (byte : ℕ) (rest : List ℕ) → IsRead g bytes shapes s → 10000 ≤ length shapes → length bytes ≤ most
     → HasFault most g (bytes ++ byte ∷ rest) (length shapes + 1) 7
 one_too_many most g bytes shapes s byte rest r many few =
-    let u = r.undecided in
+    let u = r.begin in
     let same = as_many g bytes shapes s r in
     let full : length u.given ≡ 10000 = omega (arith, many, same, u.few) in
     let whole : bytes ≡ list_text u.given = u.text ∙ ap (λ (l : List ℕ). list_text u.given ++ l) (u.full full) ∙ append-nil (list_text u.given) in
@@ -140,9 +140,9 @@ bytes_long given line bytes text = ap length text ∙ length-append (list_text g
 
 -- a line that ended is at fault
 pub ended_fault : (most : ℕ) (g : Geometry) (bytes : List ℕ) (shapes : List (List Cell)) (s : Scanned) (number : ℕ) (rest : List ℕ) → (r : IsRead g bytes shapes s) → length shapes < 10000
-    → IsLineFault g r.undecided.line number → length (bytes ++ 10 ∷ []) ≤ most → HasFault most g ((bytes ++ 10 ∷ []) ++ rest) (length shapes + 1) number
+    → IsLineFault g r.begin.line number → length (bytes ++ 10 ∷ []) ≤ most → HasFault most g ((bytes ++ 10 ∷ []) ++ rest) (length shapes + 1) number
 ended_fault most g bytes shapes s number rest r less own few =
-    let u = r.undecided in
+    let u = r.begin in
     let same = as_many g bytes shapes s r in
     let long = bytes_long u.given u.line bytes u.text in
     let one_more = length-append bytes (10 ∷ []) in
@@ -162,10 +162,10 @@ ended_fault most g bytes shapes s number rest r less own few =
     }
 
 -- the last line, which has no newline, is at fault
-pub last_fault : (most : ℕ) (g : Geometry) (bytes : List ℕ) (shapes : List (List Cell)) (s : Scanned) (number : ℕ) → (r : IsRead g bytes shapes s) → r.undecided.line ≢ []
-    → IsLineFault g r.undecided.line number → length bytes ≤ most → HasFault most g bytes (length shapes + 1) number
+pub last_fault : (most : ℕ) (g : Geometry) (bytes : List ℕ) (shapes : List (List Cell)) (s : Scanned) (number : ℕ) → (r : IsRead g bytes shapes s) → r.begin.line ≢ []
+    → IsLineFault g r.begin.line number → length bytes ≤ most → HasFault most g bytes (length shapes + 1) number
 last_fault most g bytes shapes s number r some own few =
-    let u = r.undecided in
+    let u = r.begin in
     let same = as_many g bytes shapes s r in
     let long = bytes_long u.given u.line bytes u.text in
     let less : length u.given < 10000 = not_full (length u.given) u.few (λ full. some (u.full full)) in
@@ -190,7 +190,7 @@ last_fault most g bytes shapes s number r some own few =
 pub beyond_fault : (g : Geometry) (bytes : List ℕ) (shapes : List (List Cell)) (s : Scanned) (byte : ℕ) (rest : List ℕ) → IsRead g bytes shapes s → length shapes < 10000
     → HasFault (length bytes) g (bytes ++ byte ∷ rest) (length shapes + 1) 8
 beyond_fault g bytes shapes s byte rest r less =
-    let u = r.undecided in
+    let u = r.begin in
     let same = as_many g bytes shapes s r in
     let long = bytes_long u.given u.line bytes u.text in
     let longer = length-append bytes (byte ∷ rest) in
@@ -209,17 +209,17 @@ beyond_fault g bytes shapes s byte rest r less =
       line_is = omega (arith, same);
     }
   where
-    late : (whole : List ℕ) → length bytes ≡ length (list_text r.undecided.given) + length r.undecided.line → length (bytes ++ byte ∷ rest) ≡ length bytes + length (byte ∷ rest) → length r.undecided.line ≤ length whole
-        → EndsInTime (length bytes) (bytes ++ byte ∷ rest) r.undecided.given whole → ⊥
+    late : (whole : List ℕ) → length bytes ≡ length (list_text r.begin.given) + length r.begin.line → length (bytes ++ byte ∷ rest) ≡ length bytes + length (byte ∷ rest) → length r.begin.line ≤ length whole
+        → EndsInTime (length bytes) (bytes ++ byte ∷ rest) r.begin.given whole → ⊥
     late whole long longer more (inl ends) = omega (arith, long, more, ends)
     late whole long longer more (inr short) = omega (arith, longer, short)
 
 -- ---- the end of the text
 
 -- all lines have ended
-pub all_ended : (most : ℕ) (g : Geometry) (bytes : List ℕ) (shapes : List (List Cell)) (s : Scanned) → (r : IsRead g bytes shapes s) → r.undecided.line ≡ [] → length bytes ≤ most → AreGiven most g bytes shapes
+pub all_ended : (most : ℕ) (g : Geometry) (bytes : List ℕ) (shapes : List (List Cell)) (s : Scanned) → (r : IsRead g bytes shapes s) → r.begin.line ≡ [] → length bytes ≤ most → AreGiven most g bytes shapes
 all_ended most g bytes shapes s r none few =
-    let u = r.undecided in
+    let u = r.begin in
     record {
       given = u.given;
       listed = record {
@@ -233,9 +233,9 @@ all_ended most g bytes shapes s r none few =
     }
 
 -- the last line has no newline
-pub last_ends : (most : ℕ) (g : Geometry) (bytes : List ℕ) (old new : List (List Cell)) (s : Scanned) → (r : IsRead g bytes old s) → r.undecided.line ≢ [] → AddsShape g r.undecided.line old new → length bytes ≤ most → AreGiven most g bytes new
+pub last_ends : (most : ℕ) (g : Geometry) (bytes : List ℕ) (old new : List (List Cell)) (s : Scanned) → (r : IsRead g bytes old s) → r.begin.line ≢ [] → AddsShape g r.begin.line old new → length bytes ≤ most → AreGiven most g bytes new
 last_ends most g bytes old new s r some a few =
-    let u = r.undecided in
+    let u = r.begin in
     let longer : length (u.given ++ a.shape.cells ∷ []) ≡ length u.given + 1 = length-append u.given (a.shape.cells ∷ []) in
     let less : length u.given < 10000 = not_full (length u.given) u.few (λ full. some (u.full full)) in
     let one : lines_of u.line ≡ cells_text a.shape.cells ∷ [] = last_line u.line some u.one_line ∙ ap (λ (l : List ℕ). l ∷ []) a.shape.text in
@@ -265,15 +265,15 @@ front_stop_later g front more stops.NoMemory h = tt
 
 -- the answer to a newline
 pub newline_stops : (g : Geometry) (bytes : List ℕ) (old new : List (List Cell)) (s t : Scanned) (e : InputStop ℕ) → (r : IsRead g bytes old s) → length old < 10000
-    → EndsLine g r.undecided.line old new t (Err e) → IsFrontStop g (bytes ++ 10 ∷ []) e
+    → EndsLine g r.begin.line old new t (Err e) → IsFrontStop g (bytes ++ 10 ∷ []) e
 newline_stops g bytes old new s t (stops.Fault line number) r less h = λ most rest few.
     subst (λ (l : ℕ). HasFault most g ((bytes ++ 10 ∷ []) ++ rest) l number) (sym h.0) (ended_fault most g bytes old s number rest r less h.1 few)
 newline_stops g bytes old new s t stops.Failed r less h = absurd h
 newline_stops g bytes old new s t stops.NoMemory r less h = tt
 
 -- the answer to the end of the bytes
-pub end_stops : (most : ℕ) (g : Geometry) (bytes : List ℕ) (old new : List (List Cell)) (s t : Scanned) (e : InputStop ℕ) → (r : IsRead g bytes old s) → r.undecided.line ≢ [] → length bytes ≤ most
-    → EndsLine g r.undecided.line old new t (Err e) → IsWholeStop most g bytes e
+pub end_stops : (most : ℕ) (g : Geometry) (bytes : List ℕ) (old new : List (List Cell)) (s t : Scanned) (e : InputStop ℕ) → (r : IsRead g bytes old s) → r.begin.line ≢ [] → length bytes ≤ most
+    → EndsLine g r.begin.line old new t (Err e) → IsWholeStop most g bytes e
 end_stops most g bytes old new s t (stops.Fault line number) r some few h =
     subst (λ (l : ℕ). HasFault most g bytes l number) (sym h.0) (last_fault most g bytes old s number r some h.1 few)
 end_stops most g bytes old new s t stops.Failed r some few h = absurd h
@@ -281,12 +281,12 @@ end_stops most g bytes old new s t stops.NoMemory r some few h = tt
 
 -- the answer to a byte that is a newline
 pub newline_goes_on : (g : Geometry) (bytes : List ℕ) (byte : ℕ) (old new : List (List Cell)) (s t : Scanned) (result : Result (Unit {0}) (InputStop ℕ)) → byte ≡ 10 → (r : IsRead g bytes old s) → length old < 10000
-    → EndsLine g r.undecided.line old new t result → IfOk result (λ _. IsRead g (bytes ++ byte ∷ []) new t)
+    → EndsLine g r.begin.line old new t result → IfOk result (λ _. IsRead g (bytes ++ byte ∷ []) new t)
 newline_goes_on g bytes byte old new s t (Ok u) is r less e = subst (λ (b : ℕ). IsRead g (bytes ++ b ∷ []) new t) (sym is) (line_ends g bytes old new s t r less e.0 e.1)
 newline_goes_on g bytes byte old new s t (Err stop) is r less e = tt
 
 pub newline_told : (g : Geometry) (bytes : List ℕ) (byte : ℕ) (old new : List (List Cell)) (s t : Scanned) (result : Result (Unit {0}) (InputStop ℕ)) → byte ≡ 10 → (r : IsRead g bytes old s) → length old < 10000
-    → EndsLine g r.undecided.line old new t result → IfErr result (IsFrontStop g (bytes ++ byte ∷ []))
+    → EndsLine g r.begin.line old new t result → IfErr result (IsFrontStop g (bytes ++ byte ∷ []))
 newline_told g bytes byte old new s t (Ok u) is r less e = tt
 newline_told g bytes byte old new s t (Err stop) is r less e = subst (λ (b : ℕ). IsFrontStop g (bytes ++ b ∷ []) stop) (sym is) (newline_stops g bytes old new s t stop r less e)
 

@@ -90,8 +90,8 @@ GivesFault most g left NoMemory = ⊤
 
 -- ---- what is read of the source
 
--- the bytes decide nothing yet: each line that ended in them is a shape, and line 10,001 doesn't begin
-pub record DecideNothing (g : Geometry) (bytes : List ℕ) : Type 0 where
+-- the bytes begin a list of shapes: each line that ended in them is a shape, and line 10,001 doesn't begin
+pub record BeginList (g : Geometry) (bytes : List ℕ) : Type 0 where
   pub given : List (List Cell)
   pub line : List ℕ
   pub text : bytes ≡ list_text given ++ line
@@ -100,6 +100,11 @@ pub record DecideNothing (g : Geometry) (bytes : List ℕ) : Type 0 where
   pub shapes : All (IsFaultless g) given
   pub few : length given ≤ 10000
   pub full : length given ≡ 10000 → line ≡ []
+
+-- the bytes decide nothing yet: they begin a list of shapes, and no more than the most are read
+pub record DecideNothing (most : ℕ) (g : Geometry) (bytes : List ℕ) : Type 0 where
+  pub begin : BeginList g bytes
+  pub in_time : length bytes ≤ most
 
 -- ---- statements
 

@@ -6,15 +6,15 @@ use Rattle.heesch_grid.specs.Geometry.{Geometry}
 use Rattle.heesch_line.specs.Scanning.{Scanned, IsScanned}
 use Rattle.heesch_line.specs.declared.stops.InputStop.{InputStop}
 use Rattle.heesch_line.specs.declared.stops.InputStop.TheVariants.{Fault, Failed, NoMemory}
-use Rattle.heesch_given.specs.Given.{IsCanonicalOf, IsShapeLine, IsLineFault, HasFault, DecideNothing}
+use Rattle.heesch_given.specs.Given.{IsCanonicalOf, IsShapeLine, IsLineFault, HasFault, BeginList}
 
--- the bytes were read and decide nothing; these are the canonical lists of the shapes, and the line that didn't end was read
+-- the bytes were read and begin a list of shapes; these are the canonical lists of the shapes, and the line that didn't end was read
 pub record IsRead (g : Geometry) (bytes : List ℕ) (shapes : List (List Cell)) (s : Scanned) : Type 0 where
-  pub undecided : DecideNothing g bytes
-  pub canonical : AllZip (IsCanonicalOf g) undecided.given shapes
-  pub scanned : IsScanned undecided.line s
+  pub begin : BeginList g bytes
+  pub canonical : AllZip (IsCanonicalOf g) begin.given shapes
+  pub scanned : IsScanned begin.line s
 
--- bytes were read that decide nothing
+-- bytes were read that begin a list of shapes
 abbrev pub MayGoOn : Geometry → List (List Cell) → Scanned → Type 0
 MayGoOn g shapes s = (bytes : List ℕ) × IsRead g bytes shapes s
 

@@ -31,7 +31,7 @@ pub fn shapes_given<G: Grid, R: Source, const MOST: u64>(
     ensures ok { IfOk result (λ shapes. GivesShapes MOST G.geometry (R.left source.old) shapes.items) }
     ensures stop { IfErr result (GivesFault MOST G.geometry (R.left source.old)) }
     ensures ended { OnOk result (IsAtEnd (R.left source.new)) }
-    ensures no_further { ReadsNoFurther (DecideNothing G.geometry) (R.left source.old) (R.left source.new) }
+    ensures no_further { ReadsNoFurther (DecideNothing MOST G.geometry) (R.left source.old) (R.left source.new) }
     ensures failed { result ≡ Err InputStop.Failed → Rose (R.faults source.old) (R.faults source.new) }
     ensures later { R.faults source.old ≤ R.faults source.new }
 {

@@ -38,8 +38,8 @@ pub returns-in_err-take-clause-no_further : goal.returns-in_err-take-clause-no_f
 returns-in_err-take-clause-no_further g c =
     let room : c.min-room.result ≡ min (g.row.MOST - c.pieces.count) 4096 = c.min-room.ensures in
     let long : length c.read.new.into ≡ c.min-room.result = search rules in
-    no_further g.G.Grid.geometry (g.R.Source.left c.args.source.now) (g.R.Source.left c.pieces.source) (g.R.Source.left c.read.new.self) c.pieces.count c.in_ok-read.read c.read.new.into c.pieces.lines.shapes.items c.pieces.lines.line
-    c.pieces.invariant.going c.in_ok-read.ensures.bound.0 c.in_ok-read.ensures.bytes.0 (omega (arith, room, long))
+    no_further g.row.MOST g.G.Grid.geometry (g.R.Source.left c.args.source.now) (g.R.Source.left c.pieces.source) (g.R.Source.left c.read.new.self) c.pieces.count c.in_ok-read.read c.read.new.into c.pieces.lines.shapes.items c.pieces.lines.line
+    c.pieces.invariant.going c.pieces.invariant.within c.in_ok-read.ensures.bound.0 c.in_ok-read.ensures.bytes.0 (omega (arith, room, long))
 
 pub returns-in_err-take-clause-failed : goal.returns-in_err-take-clause-failed
 returns-in_err-take-clause-failed g c = λ e.
@@ -83,8 +83,8 @@ returns-clause-stop g c =
 
 pub returns-clause-no_further : goal.returns-clause-no_further
 returns-clause-no_further g c =
-    no_further g.G.Grid.geometry (g.R.Source.left c.args.source.now) (g.R.Source.left c.pieces.source) (g.R.Source.left c.read-2.new.self) c.pieces.count c.in_ok-read-2.field-0 c.read-2.new.into c.pieces.lines.shapes.items c.pieces.lines.line
-    c.pieces.invariant.going c.in_ok-read-2.ensures.bound.0 c.in_ok-read-2.ensures.bytes.0 (omega (arith, c.read-2.auto.into))
+    no_further g.row.MOST g.G.Grid.geometry (g.R.Source.left c.args.source.now) (g.R.Source.left c.pieces.source) (g.R.Source.left c.read-2.new.self) c.pieces.count c.in_ok-read-2.field-0 c.read-2.new.into c.pieces.lines.shapes.items c.pieces.lines.line
+    c.pieces.invariant.going c.pieces.invariant.within c.in_ok-read-2.ensures.bound.0 c.in_ok-read-2.ensures.bytes.0 (omega (arith, c.read-2.auto.into))
 
 pub returns-clause-failed : goal.returns-clause-failed
 returns-clause-failed g c = λ e.

@@ -8,15 +8,15 @@ use Rattle.heesch_given.proofs.lines.GivenLines.finish.Goals.{then-has_begun+in_
 
 pub returns-in_err-end_line-clause-stop : goal.returns-in_err-end_line-clause-stop
 returns-in_err-end_line-clause-stop g c = λ before most few read.
-    let some : read.undecided.line ≢ [] = (c.has_begun.ensures read.undecided.line read.scanned).0 c.if-has_begun.true in
+    let some : read.begin.line ≢ [] = (c.has_begun.ensures read.begin.line read.scanned).0 c.if-has_begun.true in
     let told : IsWholeStop most g.G.Grid.geometry before c.in_err-end_line.field-0.0 =
     end_stops most g.G.Grid.geometry before c.args.self.shapes.items c.end_line.new.self.shapes.items c.args.self.line c.end_line.new.self.line c.in_err-end_line.field-0.0 read some few
-    (c.in_err-end_line.ensures read.undecided.line read.scanned) in
+    (c.in_err-end_line.ensures read.begin.line read.scanned) in
     search rules
 
 pub returns-clause-ok : goal.returns-clause-ok
 returns-clause-ok g c = λ before most few read.
-    let line = read.undecided.line in
+    let line = read.begin.line in
     let begun = c.has_begun.ensures line read.scanned in
     elim c.if-has_begun.branch [
       | then-has_begun+in_ok-end_line w ↦
@@ -28,4 +28,4 @@ returns-clause-ok g c = λ before most few read.
     ]
 
 pub end_line-requires : goal.end_line-requires
-end_line-requires g c = (c.requires.1.undecided.line, c.requires.1.scanned)
+end_line-requires g c = (c.requires.1.begin.line, c.requires.1.scanned)

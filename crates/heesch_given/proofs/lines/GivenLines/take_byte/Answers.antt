@@ -9,17 +9,17 @@ returns-then-len-ge-MOST_SHAPES-clause-stop g c = λ before read.
 pub returns-then-byte-eq10-clause-ok : goal.returns-then-byte-eq10-clause-ok
 returns-then-byte-eq10-clause-ok g c = λ before read.
     newline_goes_on g.G.Grid.geometry before c.args.byte c.args.self.now.shapes.items c.end_line.new.self.shapes.items c.args.self.now.line c.end_line.new.self.line c.end_line.result c.if-byte-eq10.true read
-    (omega (arith, c.len.ensures, c.if-len-ge-MOST_SHAPES.false)) (c.end_line.ensures read.undecided.line read.scanned)
+    (omega (arith, c.len.ensures, c.if-len-ge-MOST_SHAPES.false)) (c.end_line.ensures read.begin.line read.scanned)
 
 pub returns-then-byte-eq10-clause-stop : goal.returns-then-byte-eq10-clause-stop
 returns-then-byte-eq10-clause-stop g c = λ before read.
     newline_told g.G.Grid.geometry before c.args.byte c.args.self.now.shapes.items c.end_line.new.self.shapes.items c.args.self.now.line c.end_line.new.self.line c.end_line.result c.if-byte-eq10.true read
-    (omega (arith, c.len.ensures, c.if-len-ge-MOST_SHAPES.false)) (c.end_line.ensures read.undecided.line read.scanned)
+    (omega (arith, c.len.ensures, c.if-len-ge-MOST_SHAPES.false)) (c.end_line.ensures read.begin.line read.scanned)
 
 pub returns-in-Ok-clause-ok : goal.returns-in-Ok-clause-ok
 returns-in-Ok-clause-ok g c = λ before read.
     line_goes_on g.G.Grid.geometry before c.args.self.now.shapes.items c.args.self.now.line c.take.new.self c.args.byte read (omega (arith, c.len.ensures, c.if-len-ge-MOST_SHAPES.false)) c.if-byte-eq10.false
-    (c.in-Ok.ensures.taken read.undecided.line read.scanned)
+    (c.in-Ok.ensures.taken read.begin.line read.scanned)
 
 pub end_line-requires : goal.end_line-requires
-end_line-requires g c = (c.requires.1.undecided.line, c.requires.1.scanned)
+end_line-requires g c = (c.requires.1.begin.line, c.requires.1.scanned)
