@@ -328,7 +328,7 @@ going_no_further first before now s table going piece =
       last = piece.0;
       consumed = consumes_both first before now h.bytes piece.0 h.consumed piece.1;
       one_piece = piece.2;
-      undecided = record { all = going.found; begins = h.begins; grid = t.grid; of_grid = t.of_grid; shapes = t.shapes };
+      undecided = record { few = h.at_most; all = going.found; begins = h.begins; grid = t.grid; of_grid = t.of_grid; shapes = t.shapes };
     }
 
 -- the end was read at the end of the input

@@ -107,8 +107,9 @@ OneTally = (input text other : List ℕ) → IsTallied (Some input) text → IsT
 
 -- ---- what is read of the source
 
--- the bytes decide nothing yet: they begin a catalogue, and the entries that are whole in them are shapes
+-- the bytes, no more than are read, decide nothing yet: they begin a catalogue, and the entries that are whole in them are shapes
 pub record DecideNothing (bytes : List ℕ) : Type 0 where
+  pub few : length bytes ≤ input_max
   pub all : List Item
   pub begins : Begins bytes all
   pub grid : GridName
