@@ -59,13 +59,26 @@ piece_stops most first before now count more room rest given after old new line_
 
 -- ---- what is read
 
-pub no_further : (first before now : Option (List ℕ)) (count more : ℕ) (room : List ℕ) (kept : Kept) (given : List Item) → Going first before count kept given → more ≤ length room → Consumes before now (take more room) → length room ≤ 4096 → ReadsNoFurther DecideNothing first now
-no_further first before now count more room kept given o fits c few = record {
+-- the bytes that were read decide nothing
+going_undecided : (most : ℕ) (first now : Option (List ℕ)) (count : ℕ) (kept : Kept) (given : List Item) → (o : Going first now count kept given) → count ≤ most → DecideNothing most o.bytes
+going_undecided most first now count kept given o few = record {
+  few = omega (arith, few, o.count_is);
+  ended = o.fed.ended;
+  left = kept.left;
+  stage = kept.stage;
+  text = o.fed.text;
+  one_line = o.fed.one_line;
+  forms = o.fed.forms;
+  walk = o.fed.walk;
+}
+
+pub no_further : (most : ℕ) (first before now : Option (List ℕ)) (count more : ℕ) (room : List ℕ) (kept : Kept) (given : List Item) → Going first before count kept given → count ≤ most → more ≤ length room → Consumes before now (take more room) → length room ≤ 4096 → ReadsNoFurther (DecideNothing most) first now
+no_further most first before now count more room kept given o few fits c page = record {
   bytes = o.bytes;
   last = take more room;
   consumed = consumes_both first before now o.bytes (take more room) o.consumed c;
-  one_piece = omega (arith, few, fits, length-take-le more room fits);
-  undecided = record { ended = o.fed.ended; left = kept.left; stage = kept.stage; text = o.fed.text; one_line = o.fed.one_line; forms = o.fed.forms; walk = o.fed.walk };
+  one_piece = omega (arith, page, fits, length-take-le more room fits);
+  undecided = going_undecided most first before count kept given o few;
 }
 
 -- ---- the end
@@ -111,7 +124,7 @@ pub record AtEnd (result : Result (List Item) (InputStop ℕ)) (most : ℕ) (fir
   pub ok : IfOk result (GivesJoined most first)
   pub stop : IfErr result (GivesFault most first)
   pub ended : OnOk result (IsAtEnd now)
-  pub no_further : ReadsNoFurther DecideNothing first now
+  pub no_further : ReadsNoFurther (DecideNothing most) first now
   pub not_failed : result ≡ Err stops.Failed → ⊥
 
 pub at_end : (result : Result (List Item) (InputStop ℕ)) (most : ℕ) (first before now : Option (List ℕ)) (count more : ℕ) (room : List ℕ) (kept : Kept) (given : List Item) → Going first before count kept given → count ≤ most
@@ -121,7 +134,7 @@ at_end result most first before now count more room kept given o few none some p
   ok = end_given result most first before now count more room kept given o few none some c ended joined;
   stop = end_stopped result most first before now count more room kept given o few none some c ended stopped;
   ended = if_ok result;
-  no_further = no_further first before now count more room kept given o fits c page;
+  no_further = no_further most first before now count more room kept given o few fits c page;
   not_failed = λ failed. end_not_failed result first before count kept given o failed stopped;
 }
   where
@@ -154,13 +167,13 @@ ends_stopped before (line_stops.Fault line fault) h = h
 ends_stopped before line_stops.NoMemory h = tt
 
 -- the source failed, and gave nothing
-pub no_further_kept : (first before now : Option (List ℕ)) (count : ℕ) (kept : Kept) (given : List Item) → Going first before count kept given → Keeps before now → ReadsNoFurther DecideNothing first now
-no_further_kept first before now count kept given o same = record {
+pub no_further_kept : (most : ℕ) (first before now : Option (List ℕ)) (count : ℕ) (kept : Kept) (given : List Item) → Going first before count kept given → count ≤ most → Keeps before now → ReadsNoFurther (DecideNothing most) first now
+no_further_kept most first before now count kept given o few same = record {
   bytes = o.bytes;
   last = [];
   consumed = consumes_both first before now o.bytes [] o.consumed (keeps_consumes before now same);
   one_piece = omega arith;
-  undecided = record { ended = o.fed.ended; left = kept.left; stage = kept.stage; text = o.fed.text; one_line = o.fed.one_line; forms = o.fed.forms; walk = o.fed.walk };
+  undecided = going_undecided most first before count kept given o few;
 }
   where
     keeps_consumes : (old new : Option (List ℕ)) → Keeps old new → Consumes old new []

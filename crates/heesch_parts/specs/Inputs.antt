@@ -32,8 +32,9 @@ GivesFault most left (stops.Fault line fault) = (text : List ℕ) × IsAllOf lef
 GivesFault most left stops.Failed = ⊤
 GivesFault most left stops.NoMemory = ⊤
 
--- the bytes decide nothing yet: each line that ended in them may stand behind those before it
-pub record DecideNothing (bytes : List ℕ) : Type 0 where
+-- the bytes, no more than the most that are read, decide nothing yet: each line that ended in them may stand behind those before it
+pub record DecideNothing (most : ℕ) (bytes : List ℕ) : Type 0 where
+  pub few : length bytes ≤ most
   pub ended : List PartLine
   pub left : List ℕ
   pub stage : Stage

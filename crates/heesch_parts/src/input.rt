@@ -30,7 +30,7 @@ pub fn joined<R: Source, const MOST: u64>(
     ensures ok { IfOk result (GivesJoined MOST (R.left source.old)) }
     ensures stop { IfErr result (GivesFault MOST (R.left source.old)) }
     ensures ended { OnOk result (IsAtEnd (R.left source.new)) }
-    ensures no_further { ReadsNoFurther DecideNothing (R.left source.old) (R.left source.new) }
+    ensures no_further { ReadsNoFurther (DecideNothing MOST) (R.left source.old) (R.left source.new) }
     ensures failed { result ≡ Err InputStop.Failed → Rose (R.faults source.old) (R.faults source.new) }
     ensures later { R.faults source.old ≤ R.faults source.new }
 {

@@ -27,7 +27,7 @@ pub fn joined_text<R: Source, const MOST: u64>(
     ensures ok { IfOk result (λ text. GivesText MOST (R.left source.old) text.items) }
     ensures stop { IfErr result (GivesFault MOST (R.left source.old)) }
     ensures ended { OnOk result (IsAtEnd (R.left source.new)) }
-    ensures no_further { ReadsNoFurther DecideNothing (R.left source.old) (R.left source.new) }
+    ensures no_further { ReadsNoFurther (DecideNothing MOST) (R.left source.old) (R.left source.new) }
     ensures failed { result ≡ Err InputStop.Failed → Rose (R.faults source.old) (R.faults source.new) }
     ensures later { R.faults source.old ≤ R.faults source.new }
 {

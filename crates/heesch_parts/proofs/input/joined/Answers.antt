@@ -6,7 +6,7 @@ use Rattle.heesch_parts.proofs.input.joined.Goals as goal
 
 pub returns-in_err-read-clause-no_further : goal.returns-in_err-read-clause-no_further
 returns-in_err-read-clause-no_further g c =
-    no_further_kept (g.R.Source.left c.args.source.now) (g.R.Source.left c.pieces.source) (g.R.Source.left c.read.new.self) c.pieces.count c.pieces.joiner.kept c.pieces.items c.pieces.invariant.going c.in_err-read.ensures.bytes
+    no_further_kept g.row.MOST (g.R.Source.left c.args.source.now) (g.R.Source.left c.pieces.source) (g.R.Source.left c.read.new.self) c.pieces.count c.pieces.joiner.kept c.pieces.items c.pieces.invariant.going c.pieces.invariant.within c.in_err-read.ensures.bytes
 
 -- a piece has room for a byte, and for no more than may be read
 room_of : (most count room long : ℕ) → count < most → room ≡ min (most - count) 4096 → long ≡ room → (0 < long) × (count + long ≤ most) × (long ≤ 4096)
@@ -31,8 +31,8 @@ returns-in_err-feed-clause-stop g c =
 pub returns-in_err-feed-clause-no_further : goal.returns-in_err-feed-clause-no_further
 returns-in_err-feed-clause-no_further g c =
     let room = room_of g.row.MOST c.pieces.count c.min-room.result (length c.read.new.into) c.pieces-test.true c.min-room.ensures (search rules) in
-    no_further (g.R.Source.left c.args.source.now) (g.R.Source.left c.pieces.source) (g.R.Source.left c.read.new.self) c.pieces.count c.in_ok-read.read c.read.new.into c.pieces.joiner.kept c.pieces.items
-    c.pieces.invariant.going c.in_ok-read.ensures.bound.0 c.in_ok-read.ensures.bytes.0 room.2
+    no_further g.row.MOST (g.R.Source.left c.args.source.now) (g.R.Source.left c.pieces.source) (g.R.Source.left c.read.new.self) c.pieces.count c.in_ok-read.read c.read.new.into c.pieces.joiner.kept c.pieces.items
+    c.pieces.invariant.going c.pieces.invariant.within c.in_ok-read.ensures.bound.0 c.in_ok-read.ensures.bytes.0 room.2
 
 pub pieces-preserved : goal.pieces-preserved
 pieces-preserved g c =
@@ -47,7 +47,7 @@ pieces-preserved g c =
 
 pub returns-in_err-read-2-clause-no_further : goal.returns-in_err-read-2-clause-no_further
 returns-in_err-read-2-clause-no_further g c =
-    no_further_kept (g.R.Source.left c.args.source.now) (g.R.Source.left c.pieces.source) (g.R.Source.left c.read-2.new.self) c.pieces.count c.pieces.joiner.kept c.pieces.items c.pieces.invariant.going c.in_err-read-2.ensures.bytes
+    no_further_kept g.row.MOST (g.R.Source.left c.args.source.now) (g.R.Source.left c.pieces.source) (g.R.Source.left c.read-2.new.self) c.pieces.count c.pieces.joiner.kept c.pieces.items c.pieces.invariant.going c.pieces.invariant.within c.in_err-read-2.ensures.bytes
 
 pub returns-then-branch-eq0 : goal.returns-then-branch-eq0
 returns-then-branch-eq0 g c =
@@ -67,5 +67,5 @@ returns-clause-stop g c =
 
 pub returns-clause-no_further : goal.returns-clause-no_further
 returns-clause-no_further g c =
-    no_further (g.R.Source.left c.args.source.now) (g.R.Source.left c.pieces.source) (g.R.Source.left c.read-2.new.self) c.pieces.count c.in_ok-read-2.field-0 c.read-2.new.into c.pieces.joiner.kept c.pieces.items
-    c.pieces.invariant.going c.in_ok-read-2.ensures.bound.0 c.in_ok-read-2.ensures.bytes.0 (omega (arith, c.read-2.auto.into))
+    no_further g.row.MOST (g.R.Source.left c.args.source.now) (g.R.Source.left c.pieces.source) (g.R.Source.left c.read-2.new.self) c.pieces.count c.in_ok-read-2.field-0 c.read-2.new.into c.pieces.joiner.kept c.pieces.items
+    c.pieces.invariant.going c.pieces.invariant.within c.in_ok-read-2.ensures.bound.0 c.in_ok-read-2.ensures.bytes.0 (omega (arith, c.read-2.auto.into))
