@@ -75,6 +75,7 @@ lacks_items first before now found front gathered s enough h m few piece = recor
   bytes = h.bytes;
   last = piece.0;
   consumed = consumes_both first before now h.bytes piece.0 h.consumed piece.1;
+  at_most = h.at_most;
   one_piece = piece.2;
   more = m.0;
   begins = subst (λ (x : List Item). Begins h.bytes (found ++ x)) m.1 h.begins;
@@ -114,7 +115,7 @@ stops_before first before now found items some enough fit stops = elim stops [
   | inl same ↦ inl same
   | inr l ↦
       let few = l.few in
-      inr (record { bytes = l.bytes; last = l.last; consumed = l.consumed; one_piece = l.one_piece; more = l.more; begins = l.begins; few = omega (arith, few, fit) })
+      inr (record { bytes = l.bytes; last = l.last; consumed = l.consumed; at_most = l.at_most; one_piece = l.one_piece; more = l.more; begins = l.begins; few = omega (arith, few, fit) })
 ]
 
 -- reading went on behind the items that were gathered
@@ -128,6 +129,7 @@ stops_on first before middle now found items front some enough fit m stops on = 
         bytes = l.bytes;
         last = l.last;
         consumed = l.consumed;
+        at_most = l.at_most;
         one_piece = l.one_piece;
         more = m.0 ++ l.more;
         begins = subst (λ (x : List Item). Begins l.bytes (found ++ x)) all l.begins;
@@ -146,6 +148,7 @@ stops_behind first before now found front left enough fit stops = elim stops [
         bytes = l.bytes;
         last = l.last;
         consumed = l.consumed;
+        at_most = l.at_most;
         one_piece = l.one_piece;
         more = l.more;
         begins = subst (Begins l.bytes) (append_assoc found front l.more) l.begins;
@@ -302,7 +305,7 @@ reads_no_further first before now all s h judged piece = record {
   last = piece.0;
   consumed = consumes_both first before now h.bytes piece.0 h.consumed piece.1;
   one_piece = piece.2;
-  undecided = record { all = all; begins = h.begins; judged = judged };
+  undecided = record { few = h.at_most; all = all; begins = h.begins; judged = judged };
 }
 
 lacking : (first now : Option (List ℕ)) (found front : List Item) (enough : ℕ) → (l : LacksItems first now found front enough) → LackRound (found ++ (front ++ l.more)) → ReadsNoFurther DecideNothing first now
@@ -311,7 +314,7 @@ lacking first now found front enough l lack = record {
   last = l.last;
   consumed = l.consumed;
   one_piece = l.one_piece;
-  undecided = record { all = found ++ (front ++ l.more); begins = l.begins; judged = inr lack };
+  undecided = record { few = l.at_most; all = found ++ (front ++ l.more); begins = l.begins; judged = inr lack };
 }
 
 -- items that were gathered behind a header still begin with it

@@ -14,7 +14,7 @@ use Rattle.heesch_reader.specs.declared.progress.AtHand.{AtHand}
 use Rattle.heesch_reader.specs.declared.progress.AtHand.TheVariants as endings
 use Rattle.heesch_reader.specs.Endings.{ending_of}
 use Rattle.heesch_io.specs.Input.{IsAllOf, ReadsNoFurther, piece_max}
-use Rattle.heesch_reader.specs.Taking.{Streamed, Begins, HasRead, IsCatalogue, HasFault, HasTooMany}
+use Rattle.heesch_reader.specs.Taking.{Streamed, Begins, HasRead, IsCatalogue, HasFault, HasTooMany, input_max}
 use Rattle.heesch_check.specs.declared.ahead.Pending.{Pending}
 use Rattle.heesch_check.specs.declared.ahead.Round.{Round}
 use Rattle.heesch_check.specs.declared.answers.Checked.{Checked}
@@ -101,11 +101,12 @@ pub record IsRound (before now : Option (List ℕ)) (old new : Streamed) (at_han
   pub left : ℕ
   pub ahead : Gathers middle now between new [] round.ahead.items left round.reading round.ahead.reading
 
--- what was read before the last piece begins a catalogue with the items found, these ones and others, fewer than enough behind those found
+-- what was read before the last piece, no more than is read, begins a catalogue with the items found, these ones and others, fewer than enough behind those found
 pub record LacksItems (first now : Option (List ℕ)) (found items : List Item) (enough : ℕ) : Type 0 where
   pub bytes : List ℕ
   pub last : List ℕ
   pub consumed : Consumes first now (bytes ++ last)
+  pub at_most : length bytes ≤ input_max
   pub one_piece : length last ≤ piece_max
   pub more : List Item
   pub begins : Begins bytes (found ++ (items ++ more))
@@ -174,8 +175,9 @@ pub record LackRound (all : List Item) : Type 0 where
   pub judged : AreJudged header front entries
   pub few : length round < round_size
 
--- the bytes decide nothing yet that is judged: they begin a catalogue with no whole item, or with a header, good entries, maybe an end behind all of them, and then fewer whole items than may be at hand
+-- the bytes, no more than are read, decide nothing yet that is judged: they begin a catalogue with no whole item, or with a header, good entries, maybe an end behind all of them, and then fewer whole items than may be at hand
 pub record DecideNothing (bytes : List ℕ) : Type 0 where
+  pub few : length bytes ≤ input_max
   pub all : List Item
   pub begins : Begins bytes all
   pub judged : (all ≡ []) ⊎ LackRound all
