@@ -25,7 +25,7 @@ write-written-requires-clause-canonical g c κs within =
 
 -- what was read of the list text
 consumed : (g : given.Over) (c : After-shapes_given g) → ConsumesSome (g.R.Source.left c.args.source.now) (g.R.Source.left c.shapes_given.new.source)
-consumed g c = further_consumes (DecideNothing g.G.Grid.geometry) (g.R.Source.left c.args.source.now) (g.R.Source.left c.shapes_given.new.source) c.shapes_given.ensures.no_further
+consumed g c = further_consumes (DecideNothing input_max g.G.Grid.geometry) (g.R.Source.left c.args.source.now) (g.R.Source.left c.shapes_given.new.source) c.shapes_given.ensures.no_further
 
 pub returns-in-Ok-clause-given : goal.returns-in-Ok-clause-given
 returns-in-Ok-clause-given g c =
