@@ -12,17 +12,19 @@ use Rattle.heesch_line.specs.Forms.{IsLine}
 use Rattle.heesch_text.specs.Catalogue.{entry_lines, entry_text, end_text}
 use Rattle.heesch_outer.specs.Answer.{IsOuterAnswer}
 use Rattle.heesch_outer.specs.Found.{IsNearAnswer}
+use Rattle.heesch_outer.specs.Proofs.{LeavesOuterOpen}
 use Rattle.heesch_outer.specs.Record.{answer_lines, answer_text}
 use Rattle.heesch_outer.specs.Statements.{TellsNumber}
 use Rattle.heesch_outer.specs.declared.answers.OuterEntry.{OuterEntry}
 
 -- ---- entries with answers
 
--- the answer is one that `check_outer` takes and accepts for the entry; the outer number of its shape is what it tells
+-- the answer is one that `check_outer` takes and accepts for the entry; the outer number of its shape is what it tells; and where it is spent, its steps leave the formula open
 pub record HasOuterAnswer (g : Geometry) (limits : Limits) (e : OuterEntry) : Type 0 where
   pub is_near : IsNearAnswer e.answer
   pub is_answer : IsOuterAnswer g limits e.entry e.answer
   pub tells : TellsNumber g e.entry.cells (first_number e.entry.verdict) e.answer
+  pub left_open : LeavesOuterOpen g limits e.entry.cells (first_number e.entry.verdict) e.answer
 
 -- the entries alone
 abbrev pub entries_in : List OuterEntry → List Entry
