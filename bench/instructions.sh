@@ -15,7 +15,7 @@ millions() { # COMMAND WORD..: reads $work/input, writes $work/output
 }
 
 : > "$work/input"
-for size in 'square 7' 'square 8' 'hex 5' 'iamond 8'; do
+for size in 'square 7' 'square 8' 'hex 5' 'hex 6' 'iamond 8' 'iamond 9'; do
   classify=$(millions classify $size)
   mv "$work/output" "$work/text"
   cp "$work/text" "$work/input"
