@@ -176,6 +176,15 @@ put_read_fault S held old new before now (Ok r) result whole (inr (failed, prefi
 put_read_fault S held old new before now (Err stops.Failed) result whole put (same, kept) fault = (refl, kept)
 put_read_fault S held old new before now (Err stops.NoMemory) result whole put (same, kept) fault = absurd (let no : NoMemory ≡ ReadFault = sym same ∙ fault in cc)
 
+-- and NoMemory only where there is none either, since memory was refused; then nothing is written
+pub put_no_memory : (S : Type 0) (held : S → Option (List ℕ)) (old new : S) (before now : ℕ) (reply : Result Reply IoStop) (result : Status)
+    → IfOk reply (λ r. IsWhole r.status)
+    → IfOk reply (λ r. IsPut r.text.items r.status result (held old) (held new) before now) → IfErr reply (λ stop. (result ≡ read_status stop) × (new ≡ old))
+    → result ≡ NoMemory → new ≡ old
+put_no_memory S held old new before now (Ok r) result whole (inl (same, appends)) stops refused = absurd (whole_if NoMemory r.status (sym refused ∙ same) whole)
+put_no_memory S held old new before now (Ok r) result whole (inr (failed, prefix, rose)) stops refused = absurd (let no : WriteFault ≡ NoMemory = sym failed ∙ refused in cc)
+put_no_memory S held old new before now (Err stop) result whole put (same, kept) refused = kept
+
 -- and WriteFault only where the sink's count of faults rose
 pub put_write_fault : (S : Type 0) (held : S → Option (List ℕ)) (old new : S) (before now : ℕ) (reply : Result Reply IoStop) (result : Status)
     → IfOk reply (λ r. IsWhole r.status)

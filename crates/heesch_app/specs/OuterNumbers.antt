@@ -18,7 +18,7 @@ abbrev pub AreAskedShapes : GridName → Subject → Option (List ℕ) → List 
 AreAskedShapes grid (Size n) left shapes = IsFreeList (geometry_of grid) n shapes
 AreAskedShapes grid Given left shapes = GivesShapes input_max (geometry_of grid) left shapes
 
--- Known bytes grow by an outer text of these shapes: of each in order the text of a true entry with a right verdict under the limits, and then the record of an answer that `check_outer` accepts for this entry, which tells the outer number; and at last the line `end COUNT` with their number.
+-- Known bytes grow by an outer text of these shapes: of each in order the text of a true entry with a right verdict under the limits, and then the record of an answer that `check_outer` accepts for this entry, which tells the outer number, and where it is spent, has steps that leave the formula open; and at last the line `end COUNT` with their number.
 pub record WritesOuters (grid : GridName) (subject : Subject) (limits : Limits) (left old new : Option (List ℕ)) : Type 0 where
   pub shapes : List (List Cell)
   pub asked : AreAskedShapes grid subject left shapes

@@ -122,8 +122,8 @@ pub fn run<T: Threads + Sync, R: Source, W: Sink, H: Gate + Sync>(
         → WritesAnswer version (geometry_of grid) level size (R.left source.old) (W.held sink.old) (W.held sink.new) }
     // What was written of outer numbers: for each of these shapes in order (those of the free list of the size, or the
     // canonical lists of the lines of the list text) the text of a true entry with a right verdict under the limits,
-    // and then the record of an answer that `check_outer` accepts for this entry; it tells the outer number. At last
-    // comes `end COUNT`.
+    // and then the record of an answer that `check_outer` accepts for this entry; it tells the outer number, and where
+    // it is spent, its steps leave the formula open. At last comes `end COUNT`.
     ensures outer_numbers { result ≡ Status.Done
         → (grid : GridName) (subject : Subject) (limits : Limits) (workers : ℕ)
         → Asks (map string_bytes words.now) (OuterRequest grid subject limits workers)
@@ -139,6 +139,9 @@ pub fn run<T: Threads + Sync, R: Source, W: Sink, H: Gate + Sync>(
     ensures write_cause { result ≡ Status.WriteFault → Rose (W.faults sink.old) (W.faults sink.new) }
     ensures no_memory { result ≡ Status.NoMemory →
         WritesPrefix (map string_bytes words.now) (R.left source.old) (W.held sink.old) (W.held sink.new) }
+    // A form that has one text has then written nothing.
+    ensures unwritten { result ≡ Status.NoMemory → (request : RequestOf) → Asks (map string_bytes words.now) request
+        → HasOneText request → sink.new ≡ sink.old }
 
     // Where no count rose, what the words ask for is done, or a fault of the input is told, or memory was refused.
     ensures complete { IsAccepted (map string_bytes words.now) →
@@ -168,6 +171,7 @@ fn answer<T: Threads + Sync, R: Source, W: Sink, H: Gate + Sync>(
     ensures consumed { ConsumesSome (R.left source.old) (R.left source.new) }
     ensures read_fault { result ≡ Status.ReadFault → Reads request × Rose (R.faults source.old) (R.faults source.new) }
     ensures unwritten { result ≡ Status.ReadFault → sink.new ≡ sink.old }
+    ensures no_memory { result ≡ Status.NoMemory → HasOneText request → sink.new ≡ sink.old }
     ensures write_fault { result ≡ Status.WriteFault → Rose (W.faults sink.old) (W.faults sink.new) }
     ensures unread { ¬ Reads request → source.new ≡ source.old }
 {

@@ -1,6 +1,6 @@
 use Rattle.heesch_words.specs.declared.requests.Request.TheVariants.{Classify as ClassifyRequest, Outer as OuterRequest}
 use Rattle.heesch_app.proofs.CatalogueEndings.{asked_ends, share_ends}
-use Rattle.heesch_app.proofs.Endings.{put_done, put_read_fault, put_write_fault, reply_is_whole, request_ends}
+use Rattle.heesch_app.proofs.Endings.{put_done, put_no_memory, put_read_fault, put_write_fault, reply_is_whole, request_ends}
 use Rattle.heesch_app.proofs.program.answer.Goals as goal
 
 pub returns-in-Classify-clause-ends : goal.returns-in-Classify-clause-ends
@@ -43,6 +43,11 @@ pub returns-in_default-clause-unwritten : goal.returns-in_default-clause-unwritt
 returns-in_default-clause-unwritten g c = λ fault.
     let whole = reply_is_whole c.args.request (g.R.Source.left c.args.source.now) c.reply.result c.reply.ensures.ok in
     (put_read_fault _ g.W.Sink.held c.args.sink.now c.put_reply.new.sink _ _ c.reply.result c.put_reply.result whole c.put_reply.ensures.ok c.put_reply.ensures.err fault).1
+
+pub returns-in_default-clause-no_memory : goal.returns-in_default-clause-no_memory
+returns-in_default-clause-no_memory g c = λ refused text.
+    let whole = reply_is_whole c.args.request (g.R.Source.left c.args.source.now) c.reply.result c.reply.ensures.ok in
+    put_no_memory _ g.W.Sink.held c.args.sink.now c.put_reply.new.sink _ _ c.reply.result c.put_reply.result whole c.put_reply.ensures.ok c.put_reply.ensures.err refused
 
 pub returns-in_default-clause-write_fault : goal.returns-in_default-clause-write_fault
 returns-in_default-clause-write_fault g c = λ fault.

@@ -3,7 +3,7 @@ use Rattle.std.proofs.Common.{◌≡◌, refl, subst}
 use Rattle.heesch_app.specs.declared.status.Status.TheVariants.{Done, Invalid, BadInput}
 use Rattle.heesch_app.specs.declared.status.Status.{Status}
 use Rattle.heesch_words.proofs.Forms.{one_request}
-use Rattle.heesch_app.specs.Outputs.{IsAnswer, ReadsToEnd, Writes}
+use Rattle.heesch_app.specs.Outputs.{HasOneText, IsAnswer, ReadsToEnd, Writes}
 use Rattle.heesch_app.proofs.Endings.{IsWhole, fault_prefix, memory_prefix, not_usage, run_completes, run_writes}
 use Rattle.heesch_app.proofs.Headline.{catalogued}
 use Rattle.heesch_app.proofs.OuterOutputs.{writes_outers}
@@ -76,5 +76,6 @@ returns-in-Ok g c =
       write_fault = fault_prefix words request left old new result asked e.ends;
       write_cause = e.write_fault;
       no_memory = memory_prefix words request left old new result asked e.ends;
+      unwritten = λ refused other asks text. e.no_memory refused (subst HasOneText (one_request words other request asks asked) text);
       complete = λ _. run_completes request left old new _ _ result e.ends (λ fault. (e.read_fault fault).1) e.write_fault;
     }
