@@ -12,7 +12,7 @@ use Rattle.heesch_words.specs.Requests.{Asks}
 use Rattle.heesch_app.specs.declared.status.Status.{Status}
 use Rattle.heesch_app.specs.declared.status.Status.TheVariants.{Done, Invalid, Usage, BadInput, ReadFault, WriteFault, NoMemory}
 use Rattle.heesch_app.specs.Inputs.{ConsumesSome}
-use Rattle.heesch_app.specs.Outputs.{AreReading, IsAccepted, ReadsToEnd, Writes, WritesPrefix}
+use Rattle.heesch_app.specs.Outputs.{AreReading, HasOneText, IsAccepted, ReadsToEnd, Writes, WritesPrefix}
 
 -- the words are the arguments behind the first, which is the program's name: all of them, in their order
 abbrev pub AreWords : {X Z : Type 0} → IntoIter X Z → List X → Type 0
@@ -38,3 +38,4 @@ pub record HasRun {R W : Type 0} (left : R → Option (List ℕ)) (failed : R �
   pub write_fault : status ≡ WriteFault → WritesPrefix words (left source) (held sink) (held sink_after)
   pub write_cause : status ≡ WriteFault → Rose (refused sink) (refused sink_after)
   pub no_memory : status ≡ NoMemory → WritesPrefix words (left source) (held sink) (held sink_after)
+  pub unwritten : status ≡ NoMemory → (request : Request) → Asks words request → HasOneText request → sink_after ≡ sink

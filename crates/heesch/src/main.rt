@@ -2,7 +2,7 @@
 //! catalogue of the free polyforms of N cells.
 #![tactic(auto)]
 
-ghost use Rattle.std.specs.Prelude.{◌≡◌, map, string_bytes, IfErr, IfOk, IsOk, MatchResult};
+ghost use Rattle.std.specs.Prelude.{◌≡◌, map, string_bytes, IfErr, IfOk, IsOk, MatchResult, Ok};
 ghost use Rattle.std.specs.Process.{exit_status};
 ghost use Rattle.heesch_app.specs.declared.status.Status.{Status as StatusOf};
 ghost use Rattle.heesch_app.specs.Statuses.{status_number};
@@ -19,9 +19,10 @@ use std::{env, io};
 
 fn main(rt: HostRuntime) -> ExitCode {
     let alloc = rt.alloc();
-    let source = StdSource::new(rt.stdin(), alloc);
-    let sink = StdSink::new(rt.stdout(), alloc);
-    end(&rt, alloc, words(alloc, env::args(&rt)), source, sink)
+    let mut source = StdSource::new(rt.stdin(), alloc);
+    let mut sink = StdSink::new(rt.stdout(), alloc);
+    let words = words(alloc, env::args(&rt));
+    end(&rt, alloc, words, &mut source, &mut sink)
 }
 
 /// The arguments without the program's name, or the status where they can't be had: `Usage` where one isn't UTF-8,
@@ -54,28 +55,36 @@ fn all_words(alloc: Global, args: Args) -> Result<Vec<String>, Status>
 }
 
 /// Runs over the words, and ends with the number of the run's status; with that of the status that stands in place of
-/// the words, and with that of `NoMemory` where there is no source or no sink.
-fn end<T: Threads + Sync, R: Source + Drop, W: Sink + Drop>(
+/// the words, and with that of `NoMemory` where there is no source or no sink. Both are left as the run leaves them,
+/// and as they were where nothing is run.
+fn end<T: Threads + Sync, R: Source, W: Sink>(
     rt: &T,
     alloc: Global,
     words: Result<Vec<String>, Status>,
-    source: Result<R, NoMemory>,
-    sink: Result<W, NoMemory>,
+    source: &mut Result<R, NoMemory>,
+    sink: &mut Result<W, NoMemory>,
 ) -> ExitCode
-    ensures without_words { IfErr words (λ status. exit_status result ≡ status_number status) }
-    ensures without_source { IfOk words (λ _. IfErr source (λ _. exit_status result ≡ 6)) }
-    ensures without_sink { IfOk words (λ _. IfErr sink (λ _. exit_status result ≡ 6)) }
-    ensures ran { IfOk words (λ all. IfOk source (λ from. IfOk sink (λ to.
-        (status : StatusOf) × (after : R) × (into : W) × (exit_status result ≡ status_number status)
+    ensures without_words { IfErr words (λ status. (exit_status result ≡ status_number status)
+        × (source.new ≡ source.old) × (sink.new ≡ sink.old)) }
+    ensures without_source { IfOk words (λ _. IfErr source.old (λ _. (exit_status result ≡ 6)
+        × (source.new ≡ source.old) × (sink.new ≡ sink.old))) }
+    ensures without_sink { IfOk words (λ _. IfErr sink.old (λ _. (exit_status result ≡ 6)
+        × (source.new ≡ source.old) × (sink.new ≡ sink.old))) }
+    ensures ran { IfOk words (λ all. IfOk source.old (λ from. IfOk sink.old (λ to.
+        (status : StatusOf) × (after : R) × (into : W) × (source.new ≡ Ok after) × (sink.new ≡ Ok into)
+        × (exit_status result ≡ status_number status)
         × HasRun R.left R.faults W.held W.faults (map string_bytes all.items) from after to into status))) }
 {
     let words = match words {
         Ok(words) => words,
         Err(status) => return exit_code(status),
     };
-    match (source, sink) {
-        (Ok(mut source), Ok(mut sink)) => end_of_run(rt, alloc, &words, &mut source, &mut sink),
-        _ => exit_code(Status::NoMemory),
+    let Ok(source) = source else {
+        return exit_code(Status::NoMemory);
+    };
+    match sink {
+        Ok(sink) => end_of_run(rt, alloc, &words, source, sink),
+        Err(NoMemory) => exit_code(Status::NoMemory),
     }
 }
 
