@@ -1,7 +1,8 @@
-//! Workers in threads, by halves.
-ghost use Rattle.std.specs.Prelude.{◌≡◌, ◌≤◌, ◌<◌, ◌+◌, ◌^◌, ◌++◌, IfOk, vec_len};
+//! Workers in threads, all started by the caller's.
+ghost use Rattle.std.specs.Prelude.{◌≡◌, ◌≤◌, ◌<◌, ◌+◌, ◌^◌, ◌∷◌, [], IfOk, length};
 ghost use Rattle.std.specs.Thread.{IsSync, IsSend};
-ghost use Rattle.heesch_pool.specs.Pool.{tickets_of, AnswersEach, AreReady, HaveWorked};
+ghost use Rattle.heesch_claims.specs.Board.{BelongsTo};
+ghost use Rattle.heesch_pool.specs.Pool.{tickets_of, AnswersEach, AreReady, AreTogether, HaveWorked};
 
 use crate::gate::Gate;
 use crate::job::{Answer, Job};
@@ -9,76 +10,77 @@ use crate::workers::work;
 use heesch_claims::{Board, Seat};
 use heesch_io::NoMemory;
 use std::alloc::Global;
-use std::thread::{Threads, join};
-
-/// What workers leave.
-#[derive(Drop)]
-pub struct Gathered<T> {
-    pub seats: Vec<Seat>,
-    pub pairs: Vec<(u32, T)>,
-}
+use std::thread::{Threads, join_mut};
 
 #[cycle(gather)]
-/// One worker for each seat. The seats are halved, and one half goes to a new thread.
-pub fn gather<R: Threads + Sync, T: Send + Sync + Drop, W: Answer<T> + Sync, H: Gate + Sync>(
+/// One worker for each seat, counted from `worker`. The caller's thread starts a new one for each seat but the last,
+/// one after another. Then it does what is done `first`, and is the last worker.
+///
+/// No thread starts another: where they do, each may have to wait for its turn before it starts the next.
+pub fn gather<
+    R: Threads + Sync,
+    T: Send + Sync + Drop,
+    W: Answer<T> + Sync,
+    H: Gate + Sync,
+    A,
+    F: FnMut() -> A,
+>(
     rt: &R,
     alloc: Global,
     job: &Job<T, W>,
     from: u32,
     board: &Board,
-    mut seats: Vec<Seat>,
-    first: u32,
+    worker: u32,
     gate: &H,
-) -> Result<Gathered<T>, NoMemory>
-    requires ready { AreReady board.now seats.items }
-    requires some { 0 < vec_len seats }
+    first: &mut F,
+    seats: &mut [Seat],
+) -> (Result<Vec<(u32, T)>, NoMemory>, A)
+    requires ready { AreReady board.now seats.old }
+    requires some { 0 < length seats.old }
     requires span { from + board.now.count ≤ job.now.count }
     requires work { W.ready job.now.work }
-    requires numbers { first + vec_len seats < 2 ^ 32 }
-    ensures worked { IfOk result (λ g. HaveWorked board.now seats.items g.seats.items (tickets_of g.pairs.items)) }
-    ensures answers { IfOk result (λ g. AnswersEach (W.gives job.now.work) from g.pairs.items) }
+    requires numbers { worker + length seats.old < 2 ^ 32 }
+    requires first { F.pre first.old }
+    ensures worked { IfOk result.0 (λ pairs. HaveWorked board.now seats.old seats.new (tickets_of pairs.items)) }
+    ensures answers { IfOk result.0 (λ pairs. AnswersEach (W.gives job.now.work) from pairs.items) }
+    ensures first { F.step first.old result.1 first.new }
 {
-    if seats.len() == 1 {
-        let pairs = work(alloc, job, from, board, &mut seats[0], first, gate)?;
-        return Ok(Gathered { seats, pairs });
+    let Some((seat, rest)) = seats.split_first_mut() else {
+        unreachable!()
+    };
+    if rest.is_empty() {
+        let done = first();
+        return (work(alloc, job, from, board, seat, worker, gate), done);
     }
-    let half = seats.len() / 2;
-    let others = seats.split_off(half)?;
-    let second = first + half as u32;
-    let front = move || -> Result<Gathered<T>, NoMemory>
+    let mut front = || -> Result<Vec<(u32, T)>, NoMemory>
+        requires { IsSync W.row × IsSync H.row × IsSend T.row × IsSync T.row × BelongsTo seat.now board.now
+            × (seat.now.tickets ≡ []) × (from + board.now.count ≤ job.now.count) × W.ready job.now.work }
+        ensures worked { IfOk result (λ pairs.
+            HaveWorked board.entry.now (seat.entry.now ∷ []) (seat.exit.now ∷ []) (tickets_of pairs.items)) }
+        ensures answers { IfOk result (λ pairs. AnswersEach (W.gives job.entry.now.work) from pairs.items) }
+    { work(alloc, job, from, board, seat, worker, gate) };
+    let mut back = || -> (Result<Vec<(u32, T)>, NoMemory>, A)
         requires { IsSync R.row × IsSync W.row × IsSync H.row × IsSend T.row × IsSync T.row
-            × AreReady board.now seats.items × (0 < vec_len seats) × (from + board.now.count ≤ job.now.count)
-            × W.ready job.now.work × (first + vec_len seats < 2 ^ 32) }
-        ensures worked { IfOk result
-            (λ g. HaveWorked board.entry.now seats.items g.seats.items (tickets_of g.pairs.items)) }
-        ensures answers { IfOk result (λ g. AnswersEach (W.gives job.entry.now.work) from g.pairs.items) }
-    { gather(rt, alloc, job, from, board, seats, first, gate) };
-    let back = move || -> Result<Gathered<T>, NoMemory>
-        requires { IsSync R.row × IsSync W.row × IsSync H.row × IsSend T.row × IsSync T.row
-            × AreReady board.now others.items × (0 < vec_len others) × (from + board.now.count ≤ job.now.count)
-            × W.ready job.now.work × (second + vec_len others < 2 ^ 32) }
-        ensures worked { IfOk result
-            (λ g. HaveWorked board.entry.now others.items g.seats.items (tickets_of g.pairs.items)) }
-        ensures answers { IfOk result (λ g. AnswersEach (W.gives job.entry.now.work) from g.pairs.items) }
-    { gather(rt, alloc, job, from, board, others, second, gate) };
-    let (low, high) = join(rt, front, back);
-    together(low?, high?)
+            × AreReady board.now rest.now × (0 < length rest.now) × (from + board.now.count ≤ job.now.count)
+            × W.ready job.now.work × (worker + 1 + length rest.now < 2 ^ 32) × F.pre first.now }
+        ensures worked { IfOk result.0 (λ pairs.
+            HaveWorked board.entry.now rest.entry.now rest.exit.now (tickets_of pairs.items)) }
+        ensures answers { IfOk result.0 (λ pairs. AnswersEach (W.gives job.entry.now.work) from pairs.items) }
+        ensures first { F.step first.entry.now result.1 first.exit.now }
+    { gather(rt, alloc, job, from, board, worker + 1, gate, first, rest) };
+    let (low, (high, done)) = join_mut(rt, &mut front, &mut back);
+    (both(low, high), done)
 }
 
-/// What two groups of workers leave.
-pub fn together<T: Drop>(low: Gathered<T>, high: Gathered<T>) -> Result<Gathered<T>, NoMemory>
-    ensures seats { IfOk result (λ g. g.seats.items ≡ low.seats.items ++ high.seats.items) }
-    ensures pairs { IfOk result (λ g. g.pairs.items ≡ low.pairs.items ++ high.pairs.items) }
+/// The pairs of both, where both went to their end. Those of the lower one are moved behind the others, so that each
+/// worker's are moved once.
+fn both<T: Drop>(
+    low: Result<Vec<(u32, T)>, NoMemory>,
+    high: Result<Vec<(u32, T)>, NoMemory>,
+) -> Result<Vec<(u32, T)>, NoMemory>
+    ensures { IfOk result (AreTogether low high) }
 {
-    let Gathered {
-        mut seats,
-        mut pairs,
-    } = low;
-    let Gathered {
-        seats: mut other_seats,
-        pairs: mut other_pairs,
-    } = high;
-    seats.append(&mut other_seats)?;
-    pairs.append(&mut other_pairs)?;
-    Ok(Gathered { seats, pairs })
+    let mut pairs = high?;
+    pairs.append(&mut low?)?;
+    Ok(pairs)
 }

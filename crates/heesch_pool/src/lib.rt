@@ -12,7 +12,6 @@
 //! so that there are never more threads than workers.
 #![tactic(auto)]
 
-mod behind;
 mod crew;
 mod gate;
 mod gather;

@@ -4,14 +4,13 @@ ghost use Rattle.heesch_claims.specs.Machine.{times};
 ghost use Rattle.heesch_claims.specs.Board.{BelongsTo};
 ghost use Rattle.heesch_pool.specs.Pool.{AnswersFrom, shares_of, stands_with, tickets_of};
 
-use crate::behind::gather_behind;
 use crate::crew::Crew;
 use crate::gate::Gate;
-use crate::gather::{Gathered, gather};
+use crate::gather::gather;
 use crate::job::{Answer, Job};
 use crate::order::in_order;
-use crate::seats::{Dealt, deal, deal_apart, reunite};
-use heesch_claims::Board;
+use crate::seats::{deal, reunite};
+use heesch_claims::{Board, Seat};
 use heesch_io::NoMemory;
 use std::alloc::Global;
 use std::thread::Threads;
@@ -20,9 +19,9 @@ impl<'a, R: Threads + Sync, H: Gate + Sync> Crew<'a, R, H> {
     /// The answers on the numbers from `from` to before `until`, in order, by as many workers as told, or by one for
     /// each number where these are fewer: a thread that finds no ticket would only cost its making.
     ///
-    /// Item i is an answer of the job's work on `from + i`. Each worker is one call of `work`, in threads by halves,
-    /// or in the caller's own where no thread can be made. `NoMemory` comes where memory was refused, or where an
-    /// answer was `NoMemory`; then no item comes.
+    /// Item i is an answer of the job's work on `from + i`. Each worker is one call of `work`. The last is in the
+    /// caller's thread, which starts a thread for each other, or does its part where no thread can be made. `NoMemory`
+    /// comes where memory was refused, or where an answer was `NoMemory`; then no item comes.
     ///
     /// Beside the answers it costs one `fetch_add` and three moves for each item, and a split and a join for each
     /// worker.
@@ -37,12 +36,8 @@ impl<'a, R: Threads + Sync, H: Gate + Sync> Crew<'a, R, H> {
         ensures len { IfOk result (λ items. from + vec_len items ≡ until) }
         ensures answers { IfOk result (λ items. AnswersFrom (W.gives job.now.work) from items.items) }
     {
-        let count = until - from;
-        let workers = self.workers.min(count.max(1));
-        let (mut board, seat) = Board::new(self.alloc, count)?;
-        let seats = deal(self.alloc, &mut board, seat, workers)?;
-        let gathered = gather(self.rt, self.alloc, job, from, &board, seats, 0, self.gate)?;
-        items_of(self.alloc, board, gathered)
+        let (items, ()) = self.run_span_behind(job, from, until, &mut || ());
+        items
     }
 
     /// The same as `run_span`, where the caller's thread does what is done `first` before it draws a number as one of
@@ -65,15 +60,15 @@ impl<'a, R: Threads + Sync, H: Gate + Sync> Crew<'a, R, H> {
     {
         let count = until - from;
         let workers = self.workers.min(count.max(1));
-        let Dealt { board, others, own } = match deal_apart(self.alloc, count, workers) {
+        let (board, mut seats) = match deal(self.alloc, count, workers) {
             Ok(dealt) => dealt,
             Err(refused) => return (Err(refused), first()),
         };
-        let (gathered, done) = gather_behind(
-            self.rt, self.alloc, job, from, &board, others, own, self.gate, first,
+        let (pairs, done) = gather(
+            self.rt, self.alloc, job, from, &board, 0, self.gate, first, &mut seats,
         );
-        match gathered {
-            Ok(gathered) => (items_of(self.alloc, board, gathered), done),
+        match pairs {
+            Ok(pairs) => (items_of(self.alloc, board, seats, pairs), done),
             Err(refused) => (Err(refused), done),
         }
     }
@@ -95,17 +90,17 @@ impl<'a, R: Threads + Sync, H: Gate + Sync> Crew<'a, R, H> {
 fn items_of<T: Drop>(
     alloc: Global,
     mut board: Board,
-    gathered: Gathered<T>,
+    seats: Vec<Seat>,
+    pairs: Vec<(u32, T)>,
 ) -> Result<Vec<T>, NoMemory>
-    requires ended { All (λ s. BelongsTo s board × (s.ended ≡ true)) gathered.seats.items }
-    requires some { 0 < vec_len gathered.seats }
-    requires whole { shares_of gathered.seats.items ≡ 64 }
-    requires claimed { (x : ℕ) → stands_with x gathered.seats.items ≡ times x (tickets_of gathered.pairs.items) }
+    requires ended { All (λ s. BelongsTo s board × (s.ended ≡ true)) seats.items }
+    requires some { 0 < vec_len seats }
+    requires whole { shares_of seats.items ≡ 64 }
+    requires claimed { (x : ℕ) → stands_with x seats.items ≡ times x (tickets_of pairs.items) }
     ensures len { IfOk result (λ items. vec_len items ≡ board.count) }
     ensures placed { IfOk result
-        (λ items. (i : ℕ) (x : T) → slice_get items.items i ≡ Some x → Contains gathered.pairs.items (i, x)) }
+        (λ items. (i : ℕ) (x : T) → slice_get items.items i ≡ Some x → Contains pairs.items (i, x)) }
 {
-    let Gathered { seats, pairs } = gathered;
     let Some(seat) = reunite(&mut board, seats) else {
         unreachable!()
     };

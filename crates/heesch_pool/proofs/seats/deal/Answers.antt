@@ -11,14 +11,13 @@ loop-preserved c =
     let made = c.in_ok-split.field-0 in
     let one = c.in_ok-split.ensures.new in
     let total : shares_of c.push.new.self.items ≡ shares_of c.loop.seats.items + made.shares = ap shares_of c.in_ok-push.ensures.items ∙ shares_push c.loop.seats.items made in
-    let fresh : BelongsTo made c.args.board.now × (made.tickets ≡ []) = search rules in
+    let fresh : BelongsTo made c.loop.board × (made.tickets ≡ []) = search rules in
     record {
-      same_id = search rules;
-      same_count = search rules;
+      count = search rules;
       made = search rules;
       seat = search rules;
       kept_shares = omega arith;
-      ready = rw c.in_ok-push.ensures.items (All-push (λ s. BelongsTo s c.args.board.now × (s.tickets ≡ [])) c.loop.seats.items made c.loop.invariant.ready fresh);
+      ready = rw (c.in_ok-push.ensures.items, c.in_ok-split.ensures.board) (All-push (λ s. BelongsTo s c.loop.board × (s.tickets ≡ [])) c.loop.seats.items made c.loop.invariant.ready fresh);
       some = search rules;
       given_shares = omega (arith, one.2);
     }

@@ -5,12 +5,11 @@ use Rattle.heesch_pool.proofs.seats.deal.Given as goal
 
 abbrev pub invariant-loop : goal.invariant-loop
 invariant-loop l = record {
-  same_id : l.board.id ≡ l.initial.board.id;
-  same_count : l.board.count ≡ l.initial.board.count;
+  count : l.board.count ≡ l.count;
   made : l.board.made ≡ l.counter;
-  seat : BelongsTo l.seat l.initial.board × (l.seat.tickets ≡ []) × (l.seat.ended ≡ false);
+  seat : BelongsTo l.seat l.board × (l.seat.tickets ≡ []) × (l.seat.ended ≡ false);
   kept_shares : l.seat.shares + l.counter ≡ 65;
-  ready : AreReady l.initial.board l.seats.items;
+  ready : AreReady l.board l.seats.items;
   some : vec_len l.seats + 1 ≡ l.counter;
   given_shares : shares_of l.seats.items + 1 ≡ l.counter;
 }
