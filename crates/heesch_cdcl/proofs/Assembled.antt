@@ -1,15 +1,14 @@
-use Rattle.std.proofs.Common.{◌≡◌, ℕ, ◌+◌, ◌<◌, ◌≤◌, Bool, true, List, [], ◌∷◌, ◌++◌, length, get_or, filter, All, Contains, sym, ap, ◌∙◌, subst, inl, inr, ◌⊎◌, refl, arith, length-append}
+use Rattle.std.proofs.Common.{◌≡◌, ℕ, ◌+◌, ◌<◌, ◌≤◌, Bool, true, List, [], ◌∷◌, ◌++◌, length, get_or, All, Contains, sym, ap, ◌∙◌, subst, inl, inr, ◌⊎◌, refl, arith, length-append}
 use Rattle.std.specs.List.{AllAdjacentBelow}
 use Rattle.std.specs.List.Sorted.{IsPermutation, IsSorted}
 use Rattle.std.specs.Ordering.{nat_cmp}
 use Rattle.std.proofs.lemmas.Bool.{cases_lt}
 use Rattle.std.proofs.lemmas.List.{get_or_append_left, get_or_at, get_or_default}
-use Rattle.std.proofs.lemmas.List.Elements.{All-nil, All-push, All-weaker, All-filter, filter_passes, Contains-push, Contains-append_left}
+use Rattle.std.proofs.lemmas.List.Elements.{All-nil, All-push, All-weaker, Contains-push, Contains-append_left}
 use Rattle.std.proofs.lemmas.List.Sorted.{All-permutation, Contains-permutation, IsNonDecreasingBy-from_sort}
 use Rattle.heesch_cnf.specs.declared.literal.Lit.{Lit}
-use Rattle.heesch_cnf.proofs.Lists.{Contains-filter}
 use Rattle.heesch_trail.specs.declared.step.Step.{Step}
-use Rattle.heesch_cdcl.specs.Marking.{marked, AreListed}
+use Rattle.heesch_cdcl.specs.Marking.{marked, AreMarked}
 use Rattle.heesch_cdcl.specs.Marked.{falsified, IsClauseOfMarked}
 
 -- one literal above the others
@@ -36,17 +35,17 @@ pub record AreSorted (vars : ℕ) (seen : List Bool) (sorted : List ℕ) : Type 
   pub has : (v : ℕ) → marked seen v ≡ true → Contains sorted v
   pub up : (i j : ℕ) → i ≤ j → j < length sorted → get_or sorted i 0 ≤ get_or sorted j 0
 
-pub AreSorted-kept : (vars : ℕ) (seen here : List Bool) (touched kept sorted : List ℕ) → AreListed vars seen here touched → kept ≡ filter (marked seen) touched → IsPermutation kept sorted → IsSorted nat_cmp sorted → AreSorted vars seen sorted
-AreSorted-kept vars seen here touched kept sorted a is same up = record {
-  in_range = All-permutation (λ v. (1 ≤ v) × (v ≤ vars)) kept sorted same (subst (All (λ v. (1 ≤ v) × (v ≤ vars))) (sym is) (All-filter (marked seen) (λ v. (1 ≤ v) × (v ≤ vars)) touched a.in_range));
-  each = All-permutation (λ v. marked seen v ≡ true) kept sorted same (subst (All (λ v. marked seen v ≡ true)) (sym is) (filter_passes (marked seen) touched));
-  has = λ v m. Contains-permutation kept sorted v same (subst (λ vs. Contains vs v) (sym is) (Contains-filter (marked seen) touched v (a.has_seen v m) m));
+pub AreSorted-kept : (vars : ℕ) (seen : List Bool) (kept sorted : List ℕ) → length seen ≡ vars + 1 → AreMarked seen kept → IsPermutation kept sorted → IsSorted nat_cmp sorted → AreSorted vars seen sorted
+AreSorted-kept vars seen kept sorted room a same up = record {
+  in_range = All-weaker (λ v. (1 ≤ v) × (v < length seen)) (λ v. (1 ≤ v) × (v ≤ vars)) (λ v h. (h.0, omega (arith, h.1, room))) sorted (All-permutation (λ v. (1 ≤ v) × (v < length seen)) kept sorted same a.in_range);
+  each = All-permutation (λ v. marked seen v ≡ true) kept sorted same a.each;
+  has = λ v m. Contains-permutation kept sorted v same (a.has v m);
   up = λ i j le lt. IsNonDecreasingBy-from_sort (λ (n : ℕ). n) sorted up i j 0 le lt;
 }
 
 -- the same, as it is read
-pub AreSorted-read : (vars : ℕ) (seen here : List Bool) (touched kept sorted read : List ℕ) → AreListed vars seen here touched → kept ≡ filter (marked seen) touched → IsPermutation kept sorted → IsSorted nat_cmp sorted → read ≡ sorted → AreSorted vars seen read
-AreSorted-read vars seen here touched kept sorted read a is same up value = subst (AreSorted vars seen) (sym value) (AreSorted-kept vars seen here touched kept sorted a is same up)
+pub AreSorted-read : (vars : ℕ) (seen : List Bool) (kept sorted read : List ℕ) → length seen ≡ vars + 1 → AreMarked seen kept → IsPermutation kept sorted → IsSorted nat_cmp sorted → read ≡ sorted → AreSorted vars seen read
+AreSorted-read vars seen kept sorted read room a same up value = subst (AreSorted vars seen) (sym value) (AreSorted-kept vars seen kept sorted room a same up)
 
 -- the clause of the first i variables
 pub record IsAssembled (vars : ℕ) (steps : List Step) (seen : List Bool) (sorted : List ℕ) (i last : ℕ) (clause : List Lit) : Type 0 where

@@ -12,7 +12,7 @@ use Rattle.heesch_trail.specs.Fixpoint.{HasTwoOpen}
 use Rattle.heesch_trail.specs.State.{State, IsTrail, values_of, fact_of, level_of, up_to}
 use Rattle.heesch_cdcl.specs.declared.analysis.Learnt.{Learnt}
 use Rattle.heesch_cdcl.specs.Derivation.{Matches}
-use Rattle.heesch_cdcl.specs.Marking.{marked}
+use Rattle.heesch_cdcl.specs.Marking.{Marking, marked}
 use Rattle.heesch_cdcl.specs.Marked.{falsified, IsClauseOfMarked, IsLevelIn}
 use Rattle.heesch_cdcl.specs.Learning.{IsLearnt}
 use Rattle.heesch_cdcl.specs.Resolved.{IsDerived, IsResolved}
@@ -57,18 +57,18 @@ falsified-false steps v some = by_value (values_of steps v) some
     by_value (Some false) some = refl
 
 -- the values that refute the clause are those of the assignments at the marked variables
-Matches-refuting : (trail : State) (place : ℕ) (seen here : List Bool) (pending : ℕ) (hints : List ℕ) (clause : List Lit) → IsDerived trail place seen here pending hints → IsClauseOfMarked trail.vars trail.steps seen clause →
-    Matches (refuting clause) (marked seen) (take place trail.steps) trail.steps
-Matches-refuting trail place seen here pending hints clause r read = record {
+Matches-refuting : (trail : State) (place : ℕ) (ms : Marking) (hints : List ℕ) (clause : List Lit) → IsDerived trail place ms hints → IsClauseOfMarked trail.vars trail.steps ms.seen clause →
+    Matches (refuting clause) (marked ms.seen) (take place trail.steps) trail.steps
+Matches-refuting trail place ms hints clause r read = record {
   same = λ v m. by_value v (refuting clause v) refl (refuting-complete clause (falsified trail.steps v) (read.has v m));
   others = λ v b e. inl (from_clause v b e).0;
 }
   where
-    from_clause : (v : ℕ) (b : Bool) → refuting clause v ≡ Some b → (marked seen v ≡ true) × (values_of trail.steps v ≡ Some b)
+    from_clause : (v : ℕ) (b : Bool) → refuting clause v ≡ Some b → (marked ms.seen v ≡ true) × (values_of trail.steps v ≡ Some b)
     from_clause v b e =
         let s = refuting-sound clause v b e in
-        let is = All-contains (λ (l : Lit). (l ≡ falsified trail.steps l.var) × (marked seen l.var ≡ true)) clause s.0 read.each s.1.0 in
-        let m : marked seen v ≡ true = subst (λ w. marked seen w ≡ true) s.1.1.0 is.1 in
+        let is = All-contains (λ (l : Lit). (l ≡ falsified trail.steps l.var) × (marked ms.seen l.var ≡ true)) clause s.0 read.each s.1.0 in
+        let m : marked ms.seen v ≡ true = subst (λ w. marked ms.seen w ≡ true) s.1.1.0 is.1 in
         let sign : not (not (unwrap_or (values_of trail.steps v) false)) ≡ b = ap (λ w. not (not (unwrap_or (values_of trail.steps w) false))) (sym s.1.1.0) ∙ ap (λ (x : Lit). not x.positive) (sym is.0) ∙ s.1.1.1 in
         (m, value_again (values_of trail.steps v) b (r.valued v m) sign)
 
@@ -87,29 +87,29 @@ open_above trail j v s valid fact lt =
     ap (signed p) (value-high j trail.steps v s (Trail-apart trail valid) fact lt) ∙ signed_none p
 
 -- what the resolution leaves at a conflict above level 0 is learnt
-pub Learnt-resolved : (trail : State) (seen here : List Bool) (pending : ℕ) (learnt : Learnt) → IsTrail trail → 1 ≤ level_of trail.steps → IsResolved trail 1 seen here pending learnt.hints →
-    IsClauseOfMarked trail.vars trail.steps seen learnt.clause → learnt.back < level_of trail.steps → IsLevelIn trail.steps learnt.clause learnt.back → IsLearnt trail learnt
-Learnt-resolved trail seen here pending learnt valid above res read below reached =
+pub Learnt-resolved : (trail : State) (ms : Marking) (learnt : Learnt) → IsTrail trail → 1 ≤ level_of trail.steps → IsResolved trail 1 ms learnt.hints →
+    IsClauseOfMarked trail.vars trail.steps ms.seen learnt.clause → learnt.back < level_of trail.steps → IsLevelIn trail.steps learnt.clause learnt.back → IsLearnt trail learnt
+Learnt-resolved trail ms learnt valid above res read below reached =
     let k = level_of trail.steps in
     let r = res.derived in
     let one = res.some above in
-    let w = some_marked here (omega (arith, one, r.marks.counted)) in
-    let h = here_facts trail 0 seen here pending learnt.hints w.0 r w.1 in
+    let w = some_marked ms.here (one) in
+    let h = here_facts trail 0 ms learnt.hints w.0 r w.1 in
     let m = (r.marks.here_seen w.0 w.1).0 in
     record {
       top = falsified trail.steps w.0;
       form = read.form;
-      shown = record { numbers = r.numbers; conflict = r.derives (refuting learnt.clause) (Matches-refuting trail 0 seen here pending learnt.hints learnt.clause r read) };
+      shown = record { numbers = r.numbers; conflict = r.derives (refuting learnt.clause) (Matches-refuting trail 0 ms learnt.hints learnt.clause r read) };
       asserting = record {
         has_top = read.has w.0 m;
         top_open = open_above trail (k - 1) w.0 h.step valid h.fact (omega (arith, h.level));
-        others = λ l has. others w.0 w.1 l (All-contains (λ (l : Lit). (l ≡ falsified trail.steps l.var) × (marked seen l.var ≡ true)) learnt.clause l read.each has);
+        others = λ l has. others w.0 w.1 l (All-contains (λ (l : Lit). (l ≡ falsified trail.steps l.var) × (marked ms.seen l.var ≡ true)) learnt.clause l read.each has);
       };
       back_below = below;
       settled = λ j lt. inr (settled w.0 h (read.has w.0 m) j lt reached);
     }
   where
-    others : (v : ℕ) → marked here v ≡ true → (l : Lit) → (l ≡ falsified trail.steps l.var) × (marked seen l.var ≡ true) → (l ≡ falsified trail.steps v) ⊎ (lit_value (values_of (up_to (level_of trail.steps - 1) trail.steps)) l ≡ Some false)
+    others : (v : ℕ) → marked ms.here v ≡ true → (l : Lit) → (l ≡ falsified trail.steps l.var) × (marked ms.seen l.var ≡ true) → (l ≡ falsified trail.steps v) ⊎ (lit_value (values_of (up_to (level_of trail.steps - 1) trail.steps)) l ≡ Some false)
     others v m l is = elim (same_or_not v l.var) [
       | inl e ↦ inl (is.0 ∙ ap (falsified trail.steps) (sym e))
       | inr ne ↦
@@ -121,7 +121,7 @@ Learnt-resolved trail seen here pending learnt valid above res read below reache
             | inl lt ↦
                 let level : f.0.level ≡ level_of trail.steps = omega arith in
                 let too = r.marks.seen_here l.var is.1 (ap (option_map (λ (x : Step). x.level)) f.1 ∙ ap Some level) in
-                absurd (ne (only_marked here v l.var m too (omega (arith, r.marks.counted, res.few))))
+                absurd (ne (only_marked ms.here v l.var m too res.few))
             | inr ge ↦
                 let low = value-low (level_of trail.steps - 1) trail.steps l.var f.0 (Trail-apart trail valid) f.1 ge in
                 inr (ap (signed l.positive) low ∙ ap (lit_value (values_of trail.steps)) is.0 ∙ falsified-false trail.steps l.var some)
@@ -134,7 +134,7 @@ Learnt-resolved trail seen here pending learnt valid above res read below reache
     settled v h has j lt (inr at) =
         let r = res.derived in
         let w = at.0.var in
-        let is = All-contains (λ (l : Lit). (l ≡ falsified trail.steps l.var) × (marked seen l.var ≡ true)) learnt.clause at.0 read.each at.1.0 in
+        let is = All-contains (λ (l : Lit). (l ≡ falsified trail.steps l.var) × (marked ms.seen l.var ≡ true)) learnt.clause at.0 read.each at.1.0 in
         let some = r.valued w is.1 in
         let f = assigned-fact trail.steps w some in
         let level = level_of_some (fact_of trail.steps w) f.0 learnt.back f.1 at.1.1 in
@@ -153,19 +153,19 @@ Learnt-resolved trail seen here pending learnt valid above res read below reache
         }
 
 -- what it leaves at level 0 is a final line
-pub Final-resolved : (trail : State) (seen here : List Bool) (pending : ℕ) (hints : List ℕ) → IsTrail trail → level_of trail.steps ≡ 0 → IsResolved trail 0 seen here pending hints → FinalHolds trail.clauses hints
-Final-resolved trail seen here pending hints valid ground_level res =
+pub Final-resolved : (trail : State) (ms : Marking) (hints : List ℕ) → IsTrail trail → level_of trail.steps ≡ 0 → IsResolved trail 0 ms hints → FinalHolds trail.clauses hints
+Final-resolved trail ms hints valid ground_level res =
     let r = res.derived in
     record {
       numbers = r.numbers;
       conflict = r.derives (refuting []) (record { same = λ v m. absurd (none v m); others = λ v b e. absurd (let bad : None ≡ Some b = e in cc) });
     }
   where
-    none : (v : ℕ) → marked seen v ≡ true → ⊥
+    none : (v : ℕ) → marked ms.seen v ≡ true → ⊥
     none v m =
         let r = res.derived in
         let f = assigned-fact trail.steps v (r.valued v m) in
         let high = fact-level trail v f.0 valid f.1 in
         let level : f.0.level ≡ level_of trail.steps = omega arith in
         let is_here = r.marks.seen_here v m (ap (option_map (λ (x : Step). x.level)) f.1 ∙ ap Some level) in
-        omega (arith, positive_count here v is_here, r.marks.counted, res.few)
+        omega (arith, positive_count ms.here v is_here, res.few)

@@ -12,10 +12,9 @@ use Rattle.heesch_cnf.proofs.Lists.{Contains-none}
 use Rattle.heesch_trail.specs.Fixpoint.{IsSettled, IsFixpoint}
 use Rattle.heesch_trail.specs.State.{State, IsTrail, values_of, level_of, up_to}
 use Rattle.heesch_cdcl.specs.declared.analysis.Learnt.{Learnt}
-use Rattle.heesch_cdcl.specs.declared.marks.Marks.{Marks}
 use Rattle.heesch_cdcl.specs.declared.workspace.Workspace.{Workspace}
 use Rattle.heesch_cdcl.specs.Covers.{Scope, Guides}
-use Rattle.heesch_cdcl.specs.Marking.{AreClear}
+use Rattle.heesch_cdcl.specs.Marking.{HavePlaces}
 use Rattle.heesch_cdcl.specs.Ready.{IsReady}
 use Rattle.heesch_cdcl.specs.Search.{LowerFixpoints, SameClauses}
 use Rattle.heesch_cnf.specs.Meaning.{IsLearn}
@@ -139,8 +138,7 @@ Guides-more scope old new more vars clauses g = record {
 pub Ready-more : (old new : State) (more : List (List Lit)) (before after : Workspace) → new.vars ≡ old.vars → new.clauses ≡ old.clauses ++ more → after.decisions.covers ≡ before.decisions.covers → after.resolution.marks ≡ before.resolution.marks → IsReady old before → IsReady new after
 Ready-more old new more before after vars clauses covers marks ready = record {
   guides = subst (λ s. Guides s new) (sym covers) (Guides-more before.decisions.covers old new more vars clauses ready.guides);
-  clear = subst (λ (m : Marks). AreClear new.vars m.seen.items m.here.items m.touched.items m.pending) (sym marks)
-      (subst (λ v. AreClear v before.resolution.marks.seen.items before.resolution.marks.here.items before.resolution.marks.touched.items before.resolution.marks.pending) (sym vars) ready.clear);
+  places = subst (HavePlaces new.vars) (sym marks) (subst (λ v. HavePlaces v before.resolution.marks) (sym vars) ready.places);
 }
 
 -- and after one clause more, back at a level

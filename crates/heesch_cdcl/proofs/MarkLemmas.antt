@@ -1,11 +1,13 @@
-use Rattle.std.proofs.Common.{◌≡◌, ℕ, zero, suc, ◌+◌, ◌<◌, ◌≤◌, Bool, true, false, eqb, List, [], ◌∷◌, length, get_or, set, take, All, Decides, count_by, sym, ap, ◌∙◌, subst, inl, inr, ◌⊎◌, refl, arith, get_or-set_same, get_or-set_other}
-use Rattle.std.proofs.lemmas.List.{take_more}
-use Rattle.std.proofs.lemmas.List.Elements.{All-nil, Contains-push_cases, Contains-push, Contains-append_left}
+use Rattle.std.proofs.Common.{◌≡◌, ℕ, zero, suc, ◌+◌, ◌<◌, ◌≤◌, Bool, true, false, cond, eqb, List, [], ◌∷◌, ◌++◌, length, get_or, set, take, filter, All, Contains, Decides, count_by, sym, ap, ◌∙◌, subst, inl, inr, ◌⊎◌, refl, arith, get_or-set_same, get_or-set_other}
+use Rattle.std.proofs.lemmas.List.{take_more, length-set}
+use Rattle.std.proofs.lemmas.List.Sums.{sum_by-set}
+use Rattle.std.proofs.lemmas.List.Elements.{All-push, All-weaker, All-filter, filter_passes, Contains-push_cases, Contains-push, Contains-append_left}
 use Rattle.std.proofs.lemmas.Bool.{cases_lt}
 use Rattle.std.proofs.lemmas.Bool.Decides.{Decides-eqb}
 use Rattle.heesch_cnf.specs.declared.literal.Lit.{Lit}
-use Rattle.heesch_trail.specs.declared.step.Step.{Step}
-use Rattle.heesch_cdcl.specs.Marking.{marked, AreMarks, AreListed, AreClear, MarksClause}
+use Rattle.heesch_cnf.proofs.Lists.{Contains-filter, Contains-none}
+use Rattle.heesch_trail.specs.State.{State}
+use Rattle.heesch_cdcl.specs.Marking.{Marking, marked, AreMarks, AreListed, AreCounted, AreMarked, HavePlaces, IsClear, MarksClause}
 
 pub marked-set_same : (places : List Bool) (n v : ℕ) (b : Bool) → n < length places → n ≡ v → marked (set places n b) v ≡ b
 marked-set_same places n v b lt e = subst (λ y. marked (set places n b) y ≡ b) e (get_or-set_same places n b false lt)
@@ -30,32 +32,78 @@ some_marked [] le = absurd (omega arith)
 some_marked (true ∷ ps) le = (zero, refl)
 some_marked (false ∷ ps) le = let r = some_marked ps le in (suc r.0, r.1)
 
-unmarked : (places : List Bool) (v : ℕ) → marked places v ≡ false → marked places v ≡ true → ⊥
+pub unmarked : (places : List Bool) (v : ℕ) → marked places v ≡ false → marked places v ≡ true → ⊥
 unmarked places v off on = let bad : false ≡ true = sym off ∙ on in cc
 
-pub AreListed-clear : (vars : ℕ) (seen here : List Bool) (touched : List ℕ) (pending : ℕ) → AreClear vars seen here touched pending → AreListed vars seen here touched
-AreListed-clear vars seen here touched pending c = record {
-  seen_room = c.seen_room;
-  here_room = c.here_room;
-  in_range = subst (All (λ v. (1 ≤ v) × (v ≤ vars))) (sym c.none_touched) (All-nil (λ v. (1 ≤ v) × (v ≤ vars)));
-  has_seen = λ v m. absurd (unmarked seen v (c.none_seen v) m);
-  has_here = λ v m. absurd (unmarked here v (c.none_here v) m);
+-- where nothing is marked, the marks are those of any level
+pub AreMarks-clear : (trail : State) (level : ℕ) (m : Marking) → HavePlaces trail.vars m → IsClear m → AreMarks trail level m
+AreMarks-clear trail level m places c = record {
+  seen_room = places.seen_room;
+  here_room = places.here_room;
+  here_seen = λ v is. absurd (unmarked m.here v (c.none_here v) is);
+  seen_here = λ v is at. absurd (unmarked m.seen v (c.none_seen v) is);
 }
 
-pub AreMarks-clear : (vars level : ℕ) (steps : List Step) (seen here : List Bool) (touched : List ℕ) (pending : ℕ) → AreClear vars seen here touched pending → AreMarks vars level steps seen here pending
-AreMarks-clear vars level steps seen here touched pending c = record {
-  seen_room = c.seen_room;
-  here_room = c.here_room;
-  here_seen = λ v m. absurd (unmarked here v (c.none_here v) m);
-  seen_here = λ v m at. absurd (unmarked seen v (c.none_seen v) m);
-  counted = c.none_pending ∙ sym none;
+-- where none is touched, nothing is marked
+pub IsClear-listed : (seen here : List Bool) (touched : List ℕ) → AreListed seen here touched → touched ≡ [] → IsClear (record { seen = seen; here = here })
+IsClear-listed seen here touched listed none = record {
+  none_seen = λ v. by_mark (marked seen v) (λ m. listed.has_seen v m);
+  none_here = λ v. by_mark (marked here v) (λ m. listed.has_here v m);
 }
   where
-    none : count_by (λ b. b) here ≡ 0
-    none = elim (cases_lt 0 (count_by (λ b. b) here)) [
-      | inl more ↦ absurd (let r = some_marked here (omega arith) in unmarked here r.0 (c.none_here r.0) r.1)
-      | inr few ↦ omega arith
+    by_mark : {v : ℕ} (b : Bool) → (b ≡ true → Contains touched v) → b ≡ false
+    by_mark {v} true has = absurd (Contains-none v (subst (λ vs. Contains vs v) none (has refl)))
+    by_mark false has = refl
+
+no_marks : (places : List Bool) → ((v : ℕ) → marked places v ≡ false) → count_by (λ b. b) places ≡ 0
+no_marks places none = elim (cases_lt 0 (count_by (λ b. b) places)) [
+  | inl more ↦ absurd (let r = some_marked places (omega arith) in unmarked places r.0 (none r.0) r.1)
+  | inr few ↦ omega arith
+]
+
+-- and so none is counted
+pub none_counted : (seen here : List Bool) (touched : List ℕ) → AreListed seen here touched → touched ≡ [] → 0 ≡ count_by (λ b. b) here
+none_counted seen here touched listed none =
+    let clear = IsClear-listed seen here touched listed none in
+    sym (no_marks here clear.none_here)
+
+not_on : (b : Bool) → (b ≡ true → ⊥) → b ≡ false
+not_on true off = absurd (off refl)
+not_on false off = refl
+
+-- one more is marked, as one of the present level
+pub AreCounted-more : (seen here : List Bool) (touched : List ℕ) (pending n : ℕ) → AreCounted seen here touched pending → 1 ≤ n → n < length seen → (marked here n ≡ true → ⊥) →
+    AreCounted (set seen n true) (set here n true) (touched ++ n ∷ []) (pending + 1)
+AreCounted-more seen here touched pending n a low high off =
+    let same = length-set seen n true in
+    let fits : n < length here = omega (arith, high, a.listed.same_room) in
+    record {
+      listed = record {
+        same_room = length-set here n true ∙ a.listed.same_room ∙ sym same;
+        in_range = All-push (λ v. (1 ≤ v) × (v < length (set seen n true))) touched n
+            (All-weaker (λ v. (1 ≤ v) × (v < length seen)) (λ v. (1 ≤ v) × (v < length (set seen n true))) (λ v h. (h.0, omega (arith, h.1, same))) touched a.listed.in_range) (low, omega (arith, high, same));
+        has_seen = λ v m. has seen v a.listed.has_seen m;
+        has_here = λ v m. has here v a.listed.has_here m;
+      };
+      counted = omega (arith, a.counted, sum_by-set weight here n true false fits, ap weight (not_on (marked here n) off));
+    }
+  where
+    weight : Bool → ℕ
+    weight b = cond b 1 0
+
+    has : (places : List Bool) (v : ℕ) → ((w : ℕ) → marked places w ≡ true → Contains touched w) → marked (set places n true) v ≡ true → Contains (touched ++ n ∷ []) v
+    has places v before m = elim (same_or_not n v) [
+      | inl e ↦ subst (Contains (touched ++ n ∷ [])) e (Contains-push touched n)
+      | inr ne ↦ Contains-append_left touched (n ∷ []) v (before v (sym (marked-set_other places n v true ne) ∙ m))
     ]
+
+-- those touched that are marked
+pub AreMarked-listed : (seen here : List Bool) (touched kept : List ℕ) → AreListed seen here touched → kept ≡ filter (marked seen) touched → AreMarked seen kept
+AreMarked-listed seen here touched kept a is = record {
+  in_range = subst (All (λ v. (1 ≤ v) × (v < length seen))) (sym is) (All-filter (marked seen) (λ v. (1 ≤ v) × (v < length seen)) touched a.in_range);
+  each = subst (All (λ v. marked seen v ≡ true)) (sym is) (filter_passes (marked seen) touched);
+  has = λ v m. subst (λ vs. Contains vs v) (sym is) (Contains-filter (marked seen) touched v (a.has_seen v m) m);
+}
 
 -- one literal more
 pub MarksClause-more : (old seen : List Bool) (clause : List Lit) (i : ℕ) (d : Lit) → i < length clause → (get_or clause i d).var < length seen → MarksClause old seen (take i clause) → MarksClause old (set seen (get_or clause i d).var true) (take (i + 1) clause)

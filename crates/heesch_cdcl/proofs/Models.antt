@@ -13,7 +13,7 @@ use Rattle.heesch_cdcl.specs.Newness.{IsMadeFalse}
 use Rattle.heesch_cnf.specs.declared.log.Line.{Line}
 use Rattle.heesch_cnf.specs.Lines.{clauses_with, IsNumber}
 use Rattle.heesch_cdcl.specs.Covers.{Scope, Guides}
-use Rattle.heesch_cdcl.specs.Marking.{AreClear}
+use Rattle.heesch_cdcl.specs.Marking.{HavePlaces}
 use Rattle.heesch_cdcl.proofs.Lines.{Lower-zero, Searches-own, formula_is}
 use Rattle.heesch_cdcl.specs.Search.{IsComplete}
 use Rattle.heesch_cdcl.specs.declared.workspace.Workspace.{Workspace}
@@ -71,8 +71,8 @@ values_list-more n steps = map-range_with_len_more (λ v. unwrap_or (values_of s
 -- a solver over a formula, with an empty log
 pub Inner-opened : (turns : ℕ) (empty : Option ℕ) (vars n : ℕ) (clauses : List (List Lit)) (trail : State) (work : Workspace) (scope : Scope) (lines : List Line) → trail ≡ record { vars = vars; clauses = clauses; steps = [] } → IsTrail trail → lines ≡ [] →
     MatchOption empty (NoneEmpty clauses) (IsFirstEmpty clauses) → length clauses + turns < 2 ^ 31 → work.decisions.covers ≡ scope → scope.vars ≡ vars → All (IsNumber clauses) scope.numbers →
-    n ≡ vars → AreClear n work.resolution.marks.seen.items work.resolution.marks.here.items work.resolution.marks.touched.items work.resolution.marks.pending → IsInner turns empty trail work (record { lines = lines; last = None }) false
-Inner-opened turns empty vars n clauses trail work scope lines is valid none first room covers same numbers count clear =
+    n ≡ vars → HavePlaces n work.resolution.marks → IsInner turns empty trail work (record { lines = lines; last = None }) false
+Inner-opened turns empty vars n clauses trail work scope lines is valid none first room covers same numbers count places =
     let vars_is = ap (λ (t : State). t.vars) is in
     let clauses_is = ap (λ (t : State). t.clauses) is in
     let zero_level : level_of trail.steps ≡ 0 = ap (λ (t : State). level_of t.steps) is in
@@ -91,7 +91,7 @@ Inner-opened turns empty vars n clauses trail work scope lines is valid none fir
     record {
       ready = record {
         guides = subst (λ c. Guides c trail) (sym covers) (record { vars = same ∙ sym vars_is; numbers = subst (λ cs. All (IsNumber cs) scope.numbers) (sym clauses_is) numbers });
-        clear = subst (λ v. AreClear v work.resolution.marks.seen.items work.resolution.marks.here.items work.resolution.marks.touched.items work.resolution.marks.pending) (count ∙ sym vars_is) clear;
+        places = subst (λ v. HavePlaces v work.resolution.marks) (count ∙ sym vars_is) places;
       };
       searching = s;
       first = subst (λ cs. MatchOption empty (NoneEmpty cs) (IsFirstEmpty cs)) (sym formula) first;

@@ -1,14 +1,14 @@
 -- Steps of the analysis, by what it reads of the trail.
-use Rattle.std.proofs.Common.{◌≡◌, ℕ, ◌+◌, ◌-◌, ◌<◌, ◌≤◌, Bool, true, false, Option, None, Some, option_map, option_and_then, reverse, List, [], ◌∷◌, ◌++◌, length, get_or, set, take, MatchOption, count_by, sym, ap, ◌∙◌, subst, inl, inr, ◌⊎◌, refl, arith}
+use Rattle.std.proofs.Common.{◌≡◌, ℕ, ◌+◌, ◌-◌, ◌<◌, ◌≤◌, Bool, true, false, Option, None, Some, option_map, option_and_then, reverse, List, [], ◌∷◌, ◌++◌, length, get_or, set, take, MatchOption, sym, ap, ◌∙◌, subst, inl, inr, ◌⊎◌, refl, arith}
 use Rattle.std.specs.List.{Contains}
-use Rattle.std.proofs.lemmas.List.{ext_get_or, get_or-map, get_or_read, reverse-append}
+use Rattle.std.proofs.lemmas.List.{ext_get_or, get_or-map, reverse-append}
 use Rattle.std.proofs.lemmas.List.Elements.{All-contains}
 use Rattle.heesch_cnf.specs.declared.literal.Lit.{Lit}
 use Rattle.heesch_cnf.specs.Clauses.{IsClause, left_of}
 use Rattle.heesch_cnf.specs.Lines.{numbered, IsNumber}
 use Rattle.heesch_trail.specs.declared.step.Step.{Step}
 use Rattle.heesch_trail.specs.State.{State, IsTrail, StepHolds, made_by, values_of, fact_of, level_of}
-use Rattle.heesch_cdcl.specs.Marking.{marked, level_in, AreMarks, MarksClause}
+use Rattle.heesch_cdcl.specs.Marking.{Marking, marked, level_in, pending_in, AreMarks, MarksClause}
 use Rattle.heesch_cdcl.specs.Resolved.{IsDerived, IsResolving}
 use Rattle.heesch_cdcl.proofs.MarkLemmas.{same_or_not}
 use Rattle.heesch_cdcl.proofs.Facts.{AtStep, at_step, assigned-fact, fact-is, fact-take, fact-level, fact-level_take}
@@ -38,9 +38,6 @@ read_step trail p made valid is lt =
 pub made-in_range : (trail : State) (made : List Lit) (p : ℕ) → IsTrail trail → made ≡ made_by trail.steps → p < length trail.steps → (get_or made p (record { var = 0; positive = false })).var ≤ trail.vars
 made-in_range trail made p valid is lt = let r = read_step trail p made valid is lt in omega (arith, r.var, r.at.holds.high)
 
-pub read_mark : (seen : List Bool) (n : ℕ) (x b : Bool) → n < length seen → x ≡ get_or seen n x → x ≡ b → marked seen n ≡ b
-read_mark seen n x b lt is e = sym (get_or_read seen n x lt is false) ∙ e
-
 pub reason_is : (trail : State) (p n : ℕ) (o : Option ℕ) → (r : IsRead trail p n) → o ≡ option_and_then (λ (s : Step). s.reason) (fact_of trail.steps n) → r.step.reason ≡ o
 reason_is trail p n o r is =
     sym (is ∙ ap (λ v. option_and_then (λ (s : Step). s.reason) (fact_of trail.steps v)) (sym r.var) ∙ ap (option_and_then (λ (s : Step). s.reason)) r.at.fact)
@@ -50,39 +47,33 @@ some_pending pending level (inl two) = omega arith
 some_pending pending level (inr one) = one.0
 
 -- after the marks of its reason the variable is counted still
-pub read_here : (trail : State) (p n : ℕ) (seen here mid mid_here : List Bool) (pending more : ℕ) (hints : List ℕ) (clause : List Lit) → IsTrail trail → (r : IsRead trail p n) → IsResolving trail (p + 1) seen here pending hints → 1 ≤ pending →
-    marked seen n ≡ true → MarksClause seen mid clause → AreMarks trail.vars (level_of trail.steps) trail.steps mid mid_here more → marked mid_here n ≡ true
-read_here trail p n seen here mid mid_here pending more hints clause valid r going le m marks are =
+pub read_here : (trail : State) (p n : ℕ) (before after : Marking) (hints : List ℕ) (clause : List Lit) → IsTrail trail → (r : IsRead trail p n) → IsResolving trail (p + 1) before hints → 1 ≤ pending_in before →
+    marked before.seen n ≡ true → MarksClause before.seen after.seen clause → AreMarks trail (level_of trail.steps) after → marked after.here n ≡ true
+read_here trail p n before after hints clause valid r going le m marks are =
     are.seen_here n (marks.kept n m) (subst (λ v. level_in trail.steps v ≡ Some (level_of trail.steps)) r.var
-    (ap (option_map (λ (x : Step). x.level)) r.at.fact ∙ ap Some (top_level trail p r.step seen here pending hints valid r.at going le)))
-
--- the marks without the variable that was read, and the hints with its reason
-taken_out : (P : List Bool → List ℕ → Type 0) (trail : State) (p v n : ℕ) (mid after after_here : List Bool) (less : ℕ) (hints more : List ℕ) → (r : IsRead trail p v) → v < length mid → after ≡ set mid v false → more ≡ hints ++ n ∷ [] →
-    AreMarks trail.vars (level_of trail.steps) trail.steps after after_here less →
-    (r.step.lit.var < length mid → AreMarks trail.vars (level_of trail.steps) trail.steps (set mid r.step.lit.var false) after_here less → P (set mid r.step.lit.var false) (n ∷ reverse hints)) → P after (reverse more)
-taken_out P trail p v n mid after after_here less hints more r room write push are next =
-    let written : after ≡ set mid r.step.lit.var false = write ∙ ap (λ w. set mid w false) (sym r.var) in
-    let turned : reverse more ≡ n ∷ reverse hints = ap reverse push ∙ reverse-append hints (n ∷ []) in
-    subst (λ hs. P after hs) (sym turned)
-    (subst (λ ps. P ps (n ∷ reverse hints)) (sym written)
-    (next (subst (λ w. w < length mid) (sym r.var) room) (subst (λ ps. AreMarks trail.vars (level_of trail.steps) trail.steps ps after_here less) written are)))
+    (ap (option_map (λ (x : Step). x.level)) r.at.fact ∙ ap Some (top_level trail p r.step before hints valid r.at going le)))
 
 -- the clause of the reason was marked and the variable unmarked: what held after this place holds before it
-module _ (trail : State) (p v n : ℕ) (seen here mid after after_here : List Bool) (pending less : ℕ) (hints more : List ℕ) (r : IsRead trail p v) (is : r.step.reason ≡ Some n) (marks : MarksClause seen mid (numbered trail.clauses n))
-    (room : v < length mid) (write : after ≡ set mid v false) (push : more ≡ hints ++ n ∷ []) (are : AreMarks trail.vars (level_of trail.steps) trail.steps after after_here less) where
-  pub Resolving-read : IsResolving trail (p + 1) seen here pending (reverse hints) → IsResolving trail p after after_here less (reverse more)
-  Resolving-read going =
-      taken_out (λ ps hs. IsResolving trail p ps after_here less hs) trail p v n mid after after_here less hints more r room write push are
-      (Resolving-resolve trail p n r.step seen here mid after_here pending less (reverse hints) r.at going is marks)
+module _ (trail : State) (p v n : ℕ) (before after : Marking) (mid : List Bool) (hints more : List ℕ) (r : IsRead trail p v) (is : r.step.reason ≡ Some n) (marks : MarksClause before.seen mid (numbered trail.clauses n))
+    (room : v < length mid) (write : after.seen ≡ set mid v false) (push : more ≡ hints ++ n ∷ []) (are : AreMarks trail (level_of trail.steps) after) where
+  turned : reverse more ≡ n ∷ reverse hints
+  turned = ap reverse push ∙ reverse-append hints (n ∷ [])
 
-  pub Derived-read : IsDerived trail (p + 1) seen here pending (reverse hints) → IsDerived trail p after after_here less (reverse more)
-  Derived-read going =
-      taken_out (λ ps hs. IsDerived trail p ps after_here less hs) trail p v n mid after after_here less hints more r room write push are
-      (Derived-resolve trail p n r.step seen here mid after_here pending less (reverse hints) r.at going is marks)
+  written : after.seen ≡ set mid r.step.lit.var false
+  written = write ∙ ap (λ w. set mid w false) (sym r.var)
+
+  fits : r.step.lit.var < length mid
+  fits = subst (λ w. w < length mid) (sym r.var) room
+
+  pub Resolving-read : IsResolving trail (p + 1) before (reverse hints) → IsResolving trail p after (reverse more)
+  Resolving-read going = subst (λ hs. IsResolving trail p after hs) (sym turned) (Resolving-resolve trail p n r.step before after mid (reverse hints) r.at going is marks fits written are)
+
+  pub Derived-read : IsDerived trail (p + 1) before (reverse hints) → IsDerived trail p after (reverse more)
+  Derived-read going = subst (λ hs. IsDerived trail p after hs) (sym turned) (Derived-resolve trail p n r.step before after mid (reverse hints) r.at going is marks fits written are)
 
 -- a variable that is marked, and not as one of the present level, isn't of it
-not_here : (vars level : ℕ) (steps : List Step) (seen here : List Bool) (pending v : ℕ) → AreMarks vars level steps seen here pending → marked seen v ≡ true → marked here v ≡ false → level_in steps v ≡ Some level → ⊥
-not_here vars level steps seen here pending v are m off at = let bad : false ≡ true = sym off ∙ are.seen_here v m at in cc
+not_here : (trail : State) (level v : ℕ) (ms : Marking) → AreMarks trail level ms → marked ms.seen v ≡ true → marked ms.here v ≡ false → level_in trail.steps v ≡ Some level → ⊥
+not_here trail level v ms are m off at = let bad : false ≡ true = sym off ∙ are.seen_here v m at in cc
 
 -- the other variables of its reason aren't either
 reason_below : (trail : State) (p n : ℕ) (s : Step) (l : Lit) → IsTrail trail → AtStep trail p s → s.reason ≡ Some n → (level_in trail.steps s.lit.var ≡ Some (level_of trail.steps) → ⊥) → Contains (numbered trail.clauses n) l →
@@ -105,34 +96,29 @@ both_ways false true there back = back refl
 both_ways false false there back = refl
 
 -- where the reason of a lower level's assignment is marked, no more variables of the present level are
-here_stays : (trail : State) (p n : ℕ) (s : Step) (seen here mid mid_here : List Bool) (pending more : ℕ) → IsTrail trail → AtStep trail p s → s.reason ≡ Some n → AreMarks trail.vars (level_of trail.steps) trail.steps seen here pending →
-    AreMarks trail.vars (level_of trail.steps) trail.steps mid mid_here more → MarksClause seen mid (numbered trail.clauses n) → marked seen s.lit.var ≡ true → marked here s.lit.var ≡ false → mid_here ≡ here
-here_stays trail p n s seen here mid mid_here pending more valid at is are new marks m off =
-    ext_get_or false mid_here here (new.here_room ∙ sym are.here_room) (λ v lt. both_ways (marked mid_here v) (marked here v) (back v) (there v))
+here_stays : (trail : State) (p n : ℕ) (s : Step) (ms mid : Marking) → IsTrail trail → AtStep trail p s → s.reason ≡ Some n → AreMarks trail (level_of trail.steps) ms →
+    AreMarks trail (level_of trail.steps) mid → MarksClause ms.seen mid.seen (numbered trail.clauses n) → marked ms.seen s.lit.var ≡ true → marked ms.here s.lit.var ≡ false → mid.here ≡ ms.here
+here_stays trail p n s ms mid valid at is are new marks m off =
+    ext_get_or false mid.here ms.here (new.here_room ∙ sym are.here_room) (λ v lt. both_ways (marked mid.here v) (marked ms.here v) (back v) (there v))
   where
-    there : (v : ℕ) → marked here v ≡ true → marked mid_here v ≡ true
+    there : (v : ℕ) → marked ms.here v ≡ true → marked mid.here v ≡ true
     there v h = let old = are.here_seen v h in new.seen_here v (marks.kept v old.0) old.1
 
-    back : (v : ℕ) → marked mid_here v ≡ true → marked here v ≡ true
+    back : (v : ℕ) → marked mid.here v ≡ true → marked ms.here v ≡ true
     back v h =
         let now = new.here_seen v h in
         elim (marks.others v now.0) [
           | inl was ↦ are.seen_here v was now.1
           | inr w ↦
-              let lower = not_here trail.vars (level_of trail.steps) trail.steps seen here pending s.lit.var are m off in
+              let lower = not_here trail (level_of trail.steps) s.lit.var ms are m off in
               absurd (reason_below trail p n s w.0 valid at is lower w.1.0 (ap (level_in trail.steps) w.1.1 ∙ now.1))
         ]
 
 -- the same, as it is read
-pub here_kept : (trail : State) (p v n : ℕ) (seen here mid mid_here : List Bool) (pending more : ℕ) → IsTrail trail → (r : IsRead trail p v) → r.step.reason ≡ Some n → AreMarks trail.vars (level_of trail.steps) trail.steps seen here pending →
-    AreMarks trail.vars (level_of trail.steps) trail.steps mid mid_here more → MarksClause seen mid (numbered trail.clauses n) → marked seen v ≡ true → marked here v ≡ false → mid_here ≡ here
-here_kept trail p v n seen here mid mid_here pending more valid r is are new marks m off =
-    here_stays trail p n r.step seen here mid mid_here pending more valid r.at is are new marks (ap (marked seen) r.var ∙ m) (ap (marked here) r.var ∙ off)
-
-pub pending_stays : (trail : State) (p v n : ℕ) (seen here mid mid_here : List Bool) (pending more : ℕ) → IsTrail trail → (r : IsRead trail p v) → r.step.reason ≡ Some n → AreMarks trail.vars (level_of trail.steps) trail.steps seen here pending →
-    AreMarks trail.vars (level_of trail.steps) trail.steps mid mid_here more → MarksClause seen mid (numbered trail.clauses n) → marked seen v ≡ true → marked here v ≡ false → more ≡ pending
-pending_stays trail p v n seen here mid mid_here pending more valid r is are new marks m off =
-    new.counted ∙ ap (count_by (λ b. b)) (here_kept trail p v n seen here mid mid_here pending more valid r is are new marks m off) ∙ sym are.counted
+pub here_kept : (trail : State) (p v n : ℕ) (ms mid : Marking) → IsTrail trail → (r : IsRead trail p v) → r.step.reason ≡ Some n → AreMarks trail (level_of trail.steps) ms →
+    AreMarks trail (level_of trail.steps) mid → MarksClause ms.seen mid.seen (numbered trail.clauses n) → marked ms.seen v ≡ true → marked ms.here v ≡ false → mid.here ≡ ms.here
+here_kept trail p v n ms mid valid r is are new marks m off =
+    here_stays trail p n r.step ms mid valid r.at is are new marks (ap (marked ms.seen) r.var ∙ m) (ap (marked ms.here) r.var ∙ off)
 
 number_of : (trail : State) (s : Step) (before : List Step) → StepHolds trail.vars trail.clauses before s → MatchOption s.reason (Unit {0}) (IsNumber trail.clauses)
 number_of trail s before holds = by_number s.reason holds.reason

@@ -2,9 +2,9 @@
 use Rattle.heesch_trail.specs.State.{State}
 use Rattle.heesch_cdcl.specs.declared.workspace.Workspace.{Workspace}
 use Rattle.heesch_cdcl.specs.Covers.{Guides}
-use Rattle.heesch_cdcl.specs.Marking.{AreClear}
+use Rattle.heesch_cdcl.specs.Marking.{HavePlaces}
 
--- the covers are clauses of the trail, and nothing is marked
+-- the covers are clauses of the trail, and its variables have places to be marked
 pub record IsReady (trail : State) (work : Workspace) : Type 0 where
   pub guides : Guides work.decisions.covers trail
-  pub clear : AreClear trail.vars work.resolution.marks.seen.items work.resolution.marks.here.items work.resolution.marks.touched.items work.resolution.marks.pending
+  pub places : HavePlaces trail.vars work.resolution.marks

@@ -1,6 +1,6 @@
 //! The analysis of a conflict, up to the clause that is learnt from it.
 ghost use Rattle.std.specs.Prelude.{◌≡◌, ◌+◌, ◌<◌, ◌≤◌, ◌⊎◌, IfOk, OnOk, length, reverse};
-ghost use Rattle.heesch_cdcl.specs.Marking.{AreListed, AreClear};
+ghost use Rattle.heesch_cdcl.specs.Marking.{HavePlaces, pending_in};
 ghost use Rattle.heesch_cdcl.specs.Marked.{IsClauseOfMarked, IsLevelIn};
 ghost use Rattle.heesch_cdcl.specs.Resolved.{IsDerived, IsResolving, IsResolved, IsBegun};
 ghost use Rattle.heesch_cnf.specs.Clauses.{IsClause};
@@ -26,7 +26,7 @@ pub struct Learnt {
 }
 
 /// What a conflict is resolved in: the marks are those of the variables that are left of it, and the hints those of
-/// the clauses that were resolved.
+/// the clauses that were resolved. Both stay until the next conflict.
 #[derive(Drop)]
 pub struct Resolution {
     pub marks: Marks,
@@ -34,16 +34,15 @@ pub struct Resolution {
     kept: Vec<u32>,
 }
 
-/// The variables of the conflict are marked.
+/// The variables of the conflict are marked, and no others.
 fn begin(trail: &Trail, conflict: u32, marks: &mut Marks) -> Result<(), NoMemory>
     requires lower { LowerFixpoints trail.now }
     requires conflict { IsConflict trail.now conflict }
-    requires clear { AreClear trail.now.vars marks.old.seen.items marks.old.here.items marks.old.touched.items
-        marks.old.pending }
-    ensures begun { OnOk result
-        (IsBegun trail.now conflict marks.new.seen.items marks.new.here.items marks.new.pending) }
-    ensures listed { AreListed trail.now.vars marks.new.seen.items marks.new.here.items marks.new.touched.items }
+    requires places { HavePlaces trail.now.vars marks.old }
+    ensures begun { OnOk result (IsBegun trail.now conflict marks.new) }
+    ensures places { HavePlaces trail.now.vars marks.new }
 {
+    marks.clear();
     let clause = trail.clause(conflict);
     marks.mark(trail, trail.level(), clause)?;
     Ok(())
@@ -79,10 +78,9 @@ fn back_of(trail: &Trail, clause: &[Lit]) -> u32
 }
 
 impl Resolution {
-    /// Nothing is marked.
+    /// No variable is marked, and each has a place.
     pub fn new(alloc: Global, vars: u32) -> Result<Resolution, NoMemory>
-        ensures { IfOk result
-            (λ r. AreClear vars r.marks.seen.items r.marks.here.items r.marks.touched.items r.marks.pending) }
+        ensures { IfOk result (λ r. HavePlaces vars r.marks) }
     {
         Ok(Resolution {
             marks: Marks::new(alloc, vars)?,
@@ -94,22 +92,15 @@ impl Resolution {
     /// The assignment at the place is left out, resolved with its reason where it is marked.
     fn resolve_at(&mut self, trail: &Trail, place: usize) -> Result<(), NoMemory>
         requires place { place < length trail.now.steps }
-        requires many { (2 ≤ self.old.marks.pending)
-            ⊎ ((1 ≤ self.old.marks.pending) × (level_of trail.now.steps ≡ 0)) }
-        requires resolving { IsResolving trail.now
-            (place + 1) self.old.marks.seen.items self.old.marks.here.items self.old.marks.pending
-            (reverse self.old.hints.items) }
-        requires listed { AreListed trail.now.vars self.old.marks.seen.items self.old.marks.here.items
-            self.old.marks.touched.items }
-        ensures resolving { OnOk result
-            (IsResolving trail.now place self.new.marks.seen.items self.new.marks.here.items self.new.marks.pending
-            (reverse self.new.hints.items)) }
-        ensures listed { AreListed trail.now.vars self.new.marks.seen.items self.new.marks.here.items
-            self.new.marks.touched.items }
-        ensures one { OnOk result (self.old.marks.pending ≤ self.new.marks.pending + 1) }
+        requires many { (2 ≤ pending_in self.old.marks)
+            ⊎ ((1 ≤ pending_in self.old.marks) × (level_of trail.now.steps ≡ 0)) }
+        requires resolving { IsResolving trail.now (place + 1) self.old.marks (reverse self.old.hints.items) }
+        ensures resolving { OnOk result (IsResolving trail.now place self.new.marks (reverse self.new.hints.items)) }
+        ensures places { HavePlaces trail.now.vars self.new.marks }
+        ensures one { OnOk result (pending_in self.old.marks ≤ pending_in self.new.marks + 1) }
     {
         let var = trail.made()[place].var;
-        if !self.marks.seen[var as usize] {
+        if !self.marks.is_seen(var) {
             return Ok(());
         }
         let Some(reason) = trail.reason_of(var) else {
@@ -126,17 +117,10 @@ impl Resolution {
     /// follows from the other marked ones and from level 0. Whether it was marked and of a lower level is answered.
     fn shorten_at(&mut self, trail: &Trail, place: usize) -> Result<bool, NoMemory>
         requires place { place < length trail.now.steps }
-        requires derived { IsDerived trail.now
-            (place + 1) self.old.marks.seen.items self.old.marks.here.items self.old.marks.pending
-            (reverse self.old.hints.items) }
-        requires listed { AreListed trail.now.vars self.old.marks.seen.items self.old.marks.here.items
-            self.old.marks.touched.items }
-        ensures derived { OnOk result
-            (IsDerived trail.now place self.new.marks.seen.items self.new.marks.here.items self.new.marks.pending
-            (reverse self.new.hints.items)) }
-        ensures listed { AreListed trail.now.vars self.new.marks.seen.items self.new.marks.here.items
-            self.new.marks.touched.items }
-        ensures same { OnOk result (self.new.marks.pending ≡ self.old.marks.pending) }
+        requires derived { IsDerived trail.now (place + 1) self.old.marks (reverse self.old.hints.items) }
+        ensures derived { OnOk result (IsDerived trail.now place self.new.marks (reverse self.new.hints.items)) }
+        ensures places { HavePlaces trail.now.vars self.new.marks }
+        ensures same { OnOk result (pending_in self.new.marks ≡ pending_in self.old.marks) }
     {
         let var = trail.made()[place].var;
         if !self.marks.is_below(var) {
@@ -160,20 +144,14 @@ impl Resolution {
     /// marked is either passed by then or resolved before, which the hints count, or the one of the present level that
     /// stays.
     fn shorten(&mut self, trail: &Trail, from: usize) -> Result<(), NoMemory>
-        requires derived { IsDerived trail.now from self.old.marks.seen.items self.old.marks.here.items
-            self.old.marks.pending (reverse self.old.hints.items) }
-        requires listed { AreListed trail.now.vars self.old.marks.seen.items self.old.marks.here.items
-            self.old.marks.touched.items }
-        ensures derived { OnOk result
-            (IsDerived trail.now 0 self.new.marks.seen.items self.new.marks.here.items self.new.marks.pending
-            (reverse self.new.hints.items)) }
-        ensures listed { AreListed trail.now.vars self.new.marks.seen.items self.new.marks.here.items
-            self.new.marks.touched.items }
-        ensures same { OnOk result (self.new.marks.pending ≡ self.old.marks.pending) }
+        requires derived { IsDerived trail.now from self.old.marks (reverse self.old.hints.items) }
+        ensures derived { OnOk result (IsDerived trail.now 0 self.new.marks (reverse self.new.hints.items)) }
+        ensures places { HavePlaces trail.now.vars self.new.marks }
+        ensures same { OnOk result (pending_in self.new.marks ≡ pending_in self.old.marks) }
     {
         let mut place = from;
         let mut passed = self.hints.len();
-        while place > 0 && passed < self.marks.touched.len() {
+        while place > 0 && passed < self.marks.touched() {
             place -= 1;
             if self.shorten_at(trail, place)? {
                 passed = passed.saturating_add(1);
@@ -189,19 +167,15 @@ impl Resolution {
         requires lower { LowerFixpoints trail.now }
         requires conflict { IsConflict trail.now conflict }
         requires stop { (1 ≤ stop) ⊎ (level_of trail.now.steps ≡ 0) }
-        requires clear { AreClear trail.now.vars self.old.marks.seen.items self.old.marks.here.items
-            self.old.marks.touched.items self.old.marks.pending }
-        ensures resolved { OnOk result
-            (IsResolved trail.now stop self.new.marks.seen.items self.new.marks.here.items self.new.marks.pending
-            self.new.hints.items) }
-        ensures listed { AreListed trail.now.vars self.new.marks.seen.items self.new.marks.here.items
-            self.new.marks.touched.items }
+        requires places { HavePlaces trail.now.vars self.old.marks }
+        ensures resolved { OnOk result (IsResolved trail.now stop self.new.marks self.new.hints.items) }
+        ensures places { HavePlaces trail.now.vars self.new.marks }
     {
         begin(trail, conflict, &mut self.marks)?;
         self.hints.clear();
         self.hints.push(conflict).map_err(|_| NoMemory)?;
         let mut place = trail.made().len();
-        while self.marks.pending > stop {
+        while self.marks.pending() > stop {
             place -= 1;
             self.resolve_at(trail, place)?;
         }
@@ -210,21 +184,16 @@ impl Resolution {
         Ok(())
     }
 
-    /// The clause that is learnt from the conflict.
-    fn learnt_from(
-        &mut self,
-        alloc: Global,
-        trail: &Trail,
-        conflict: u32,
-    ) -> Result<Learnt, NoMemory>
+    /// The clause that is learnt from a conflict above level 0. The cost is the lengths of the clauses that are
+    /// resolved or looked at to shorten it, the assignments from the latest down to the earliest of a variable in them
+    /// that was marked, the sorting of the clause's variables, and the variables that the conflict before marked.
+    pub fn learn(&mut self, alloc: Global, trail: &Trail, conflict: u32) -> Result<Learnt, NoMemory>
         requires lower { LowerFixpoints trail.now }
         requires conflict { IsConflict trail.now conflict }
         requires level { 1 ≤ level_of trail.now.steps }
-        requires clear { AreClear trail.now.vars self.old.marks.seen.items self.old.marks.here.items
-            self.old.marks.touched.items self.old.marks.pending }
+        requires places { HavePlaces trail.now.vars self.old.marks }
         ensures learnt { IfOk result (IsLearnt trail.now) }
-        ensures listed { AreListed trail.now.vars self.new.marks.seen.items self.new.marks.here.items
-            self.new.marks.touched.items }
+        ensures places { HavePlaces trail.now.vars self.new.marks }
     {
         self.resolve(trail, conflict, 1)?;
         let clause = clause_of_marks(alloc, trail, &self.marks, &mut self.kept)?;
@@ -236,38 +205,17 @@ impl Resolution {
         })
     }
 
-    /// The clause that is learnt from a conflict above level 0. The cost is the lengths of the clauses that are
-    /// resolved or looked at to shorten it, the assignments from the latest down to the earliest of a variable in them
-    /// that was marked, and the sorting of the clause's variables.
-    pub fn learn(&mut self, alloc: Global, trail: &Trail, conflict: u32) -> Result<Learnt, NoMemory>
-        requires lower { LowerFixpoints trail.now }
-        requires conflict { IsConflict trail.now conflict }
-        requires level { 1 ≤ level_of trail.now.steps }
-        requires clear { AreClear trail.now.vars self.old.marks.seen.items self.old.marks.here.items
-            self.old.marks.touched.items self.old.marks.pending }
-        ensures learnt { IfOk result (IsLearnt trail.now) }
-        ensures clear { AreClear trail.now.vars self.new.marks.seen.items self.new.marks.here.items
-            self.new.marks.touched.items self.new.marks.pending }
-    {
-        let learnt = self.learnt_from(alloc, trail, conflict);
-        self.marks.clear(trail.vars());
-        learnt
-    }
-
     /// The hints of the final line, from a conflict at level 0.
     pub fn refute(&mut self, alloc: Global, trail: &Trail, conflict: u32) -> Result<Hints, NoMemory>
         requires lower { LowerFixpoints trail.now }
         requires conflict { IsConflict trail.now conflict }
         requires level { level_of trail.now.steps ≡ 0 }
-        requires clear { AreClear trail.now.vars self.old.marks.seen.items self.old.marks.here.items
-            self.old.marks.touched.items self.old.marks.pending }
+        requires places { HavePlaces trail.now.vars self.old.marks }
         ensures last { IfOk result (FinalHolds trail.now.clauses) }
-        ensures clear { AreClear trail.now.vars self.new.marks.seen.items self.new.marks.here.items
-            self.new.marks.touched.items self.new.marks.pending }
+        ensures places { HavePlaces trail.now.vars self.new.marks }
     {
-        let resolved = self.resolve(trail, conflict, 0);
-        self.marks.clear(trail.vars());
-        resolved?;
+        let _ = trail.vars();
+        self.resolve(trail, conflict, 0)?;
         copy_of(alloc, &self.hints)
     }
 }

@@ -1,6 +1,5 @@
 //! The clause of the marked variables.
-ghost use Rattle.std.specs.Prelude.{◌≡◌, ◌≤◌, IfOk};
-ghost use Rattle.heesch_cdcl.specs.Marking.{AreListed};
+ghost use Rattle.std.specs.Prelude.{◌≡◌, ◌+◌, ◌≤◌, IfOk, length};
 ghost use Rattle.heesch_cdcl.specs.Marked.{IsClauseOfMarked, falsified};
 
 use crate::marks::Marks;
@@ -28,10 +27,10 @@ pub fn clause_of_marks(
     marks: &Marks,
     kept: &mut Vec<u32>,
 ) -> Result<Lits, NoMemory>
-    requires { AreListed trail.now.vars marks.now.seen.items marks.now.here.items marks.now.touched.items }
-    ensures { IfOk result (IsClauseOfMarked trail.now.vars trail.now.steps marks.now.seen.items) }
+    requires { length marks.now.seen ≡ trail.now.vars + 1 }
+    ensures { IfOk result (IsClauseOfMarked trail.now.vars trail.now.steps marks.now.seen) }
 {
-    marks.keep(trail.vars(), kept)?;
+    marks.keep(kept)?;
     kept.sort_unstable();
     let mut clause = Vec::with_capacity(alloc, kept.len())?;
     let mut last = 0;

@@ -7,9 +7,9 @@
 //!
 //! Learnt clauses are shortened: a literal whose variable follows from the others is left out, and its reason is a
 //! hint. Which literals are left out has no contract. That a learnt line holds and is new is proved for every
-//! choice. A variable marked in a conflict is listed, and the marks are taken back by that list on every path. The
-//! solver keeps one copy of its formula, the trail's. Newness is asked of spent logs alone; a log that refutes may
-//! have more lines than the budget has turns.
+//! choice. A variable marked in a conflict is listed, and the next conflict begins by taking the marks back by that
+//! list. The solver keeps one copy of its formula, the trail's. Newness is asked of spent logs alone; a log that
+//! refutes may have more lines than the budget has turns.
 #![tactic(auto)]
 
 mod analysis;

@@ -1,9 +1,9 @@
 //! The marks of an analysis.
-ghost use Rattle.std.specs.Prelude.{◌≡◌, ◌<◌, ◌≤◌, ◌+◌, IfOk, OnOk, IsTrue, ◌↔◌, Some, true, false, slice_set, filter};
-ghost use Rattle.std.specs.Prelude.{length};
+ghost use Rattle.std.specs.Prelude.{◌≡◌, ◌<◌, ◌≤◌, ◌+◌, IfOk, OnOk, IsTrue, ◌↔◌, Some, true, false, slice_set, length};
 ghost use Rattle.heesch_cnf.specs.Clauses.{IsClause};
 ghost use Rattle.heesch_trail.specs.State.{level_of};
-ghost use Rattle.heesch_cdcl.specs.Marking.{AreMarks, AreListed, AreClear, MarksClause, marked, level_in};
+ghost use Rattle.heesch_cdcl.specs.Marking.{AreMarks, HavePlaces, IsClear, MarksClause, AreMarked, marked};
+ghost use Rattle.heesch_cdcl.specs.Marking.{level_in, pending_in};
 
 use crate::filled::filled;
 use crate::verdicts::Verdicts;
@@ -11,16 +11,27 @@ use heesch_cnf::PackedLit;
 use heesch_io::NoMemory;
 use heesch_trail::Trail;
 use std::alloc::Global;
+use std::marker::Model;
 
 /// The variables of a clause that is being derived: all of them, and those of the present level, with their count.
 /// Each variable that was ever marked is listed, so that the marks can be taken back without a look at the others.
 #[derive(Drop)]
 pub struct Marks {
-    pub seen: Vec<bool>,
-    pub here: Vec<bool>,
-    pub touched: Vec<u32>,
-    pub pending: usize,
+    seen: Vec<bool>,
+    here: Vec<bool>,
+    touched: Vec<u32>,
+    pending: usize,
     verdicts: Verdicts,
+}
+
+impl Model for Marks {
+    ghost use Rattle.heesch_cdcl.specs.Marking.{Marking, AreCounted};
+
+    ghost Value = { Marking };
+
+    ghost view = { λ m. record { seen = m.seen.items; here = m.here.items } };
+
+    ghost invariant = { λ m. AreCounted m.seen.items m.here.items m.touched.items m.pending };
 }
 
 /// At most as many reasons in a row show that a variable follows from others.
@@ -40,7 +51,8 @@ fn is_at(trail: &Trail, level: u32, var: u32) -> bool
 impl Marks {
     /// Nothing is marked.
     pub fn new(alloc: Global, vars: u32) -> Result<Marks, NoMemory>
-        ensures { IfOk result (λ m. AreClear vars m.seen.items m.here.items m.touched.items m.pending) }
+        ensures places { IfOk result (HavePlaces vars) }
+        ensures clear { IfOk result IsClear }
     {
         let count = vars as usize + 1;
         Ok(Marks {
@@ -55,14 +67,10 @@ impl Marks {
     fn mark_one(&mut self, trail: &Trail, level: u32, var: u32) -> Result<(), NoMemory>
         requires low { 1 ≤ var }
         requires range { var ≤ trail.now.vars }
-        requires marks { AreMarks trail.now.vars level trail.now.steps self.old.seen.items self.old.here.items
-            self.old.pending }
-        requires listed { AreListed trail.now.vars self.old.seen.items self.old.here.items self.old.touched.items }
-        ensures marks { AreMarks trail.now.vars level trail.now.steps self.new.seen.items self.new.here.items
-            self.new.pending }
-        ensures listed { AreListed trail.now.vars self.new.seen.items self.new.here.items self.new.touched.items }
-        ensures seen { OnOk result (self.new.seen.items ≡ slice_set self.old.seen.items var true) }
-        ensures more { self.old.pending ≤ self.new.pending }
+        requires marks { AreMarks trail.now level self.old }
+        ensures marks { AreMarks trail.now level self.new }
+        ensures seen { OnOk result (self.new.seen ≡ slice_set self.old.seen var true) }
+        ensures more { pending_in self.old ≤ pending_in self.new }
     {
         let place = var as usize;
         if self.seen[place] {
@@ -82,14 +90,10 @@ impl Marks {
     /// The variables of the clause are marked too.
     pub fn mark(&mut self, trail: &Trail, level: u32, clause: &[PackedLit]) -> Result<(), NoMemory>
         requires form { IsClause trail.now.vars clause.now }
-        requires marks { AreMarks trail.now.vars level trail.now.steps self.old.seen.items self.old.here.items
-            self.old.pending }
-        requires listed { AreListed trail.now.vars self.old.seen.items self.old.here.items self.old.touched.items }
-        ensures marks { AreMarks trail.now.vars level trail.now.steps self.new.seen.items self.new.here.items
-            self.new.pending }
-        ensures listed { AreListed trail.now.vars self.new.seen.items self.new.here.items self.new.touched.items }
-        ensures seen { OnOk result (MarksClause self.old.seen.items self.new.seen.items clause.now) }
-        ensures more { self.old.pending ≤ self.new.pending }
+        requires marks { AreMarks trail.now level self.old }
+        ensures marks { AreMarks trail.now level self.new }
+        ensures seen { OnOk result (MarksClause self.old.seen self.new.seen clause.now) }
+        ensures more { pending_in self.old ≤ pending_in self.new }
     {
         for lit in clause {
             self.mark_one(trail, level, lit.var())?;
@@ -100,15 +104,11 @@ impl Marks {
     /// A variable is marked no more.
     pub fn unmark(&mut self, trail: &Trail, level: u32, var: u32)
         requires range { var ≤ trail.now.vars }
-        requires marks { AreMarks trail.now.vars level trail.now.steps self.old.seen.items self.old.here.items
-            self.old.pending }
-        requires listed { AreListed trail.now.vars self.old.seen.items self.old.here.items self.old.touched.items }
-        ensures marks { AreMarks trail.now.vars level trail.now.steps self.new.seen.items self.new.here.items
-            self.new.pending }
-        ensures listed { AreListed trail.now.vars self.new.seen.items self.new.here.items self.new.touched.items }
-        ensures seen { self.new.seen.items ≡ slice_set self.old.seen.items var false }
-        ensures less { marked self.old.here.items var ≡ true → self.new.pending + 1 ≡ self.old.pending }
-        ensures same { marked self.old.here.items var ≡ false → self.new.pending ≡ self.old.pending }
+        requires marks { AreMarks trail.now level self.old }
+        ensures marks { AreMarks trail.now level self.new }
+        ensures seen { self.new.seen ≡ slice_set self.old.seen var false }
+        ensures less { marked self.old.here var ≡ true → pending_in self.new + 1 ≡ pending_in self.old }
+        ensures same { marked self.old.here var ≡ false → pending_in self.new ≡ pending_in self.old }
     {
         let place = var as usize;
         self.seen[place] = false;
@@ -119,12 +119,31 @@ impl Marks {
         self.pending -= 1;
     }
 
+    /// How many variables are marked as ones of the present level.
+    pub fn pending(&self) -> usize
+        ensures { result ≡ pending_in self.now }
+    {
+        self.pending
+    }
+
+    /// How many variables were marked since the marks were clear.
+    pub fn touched(&self) -> usize {
+        self.touched.len()
+    }
+
+    /// Whether a variable is marked.
+    pub fn is_seen(&self, var: u32) -> bool
+        requires { var < length self.now.seen }
+        ensures { result ≡ marked self.now.seen var }
+    {
+        self.seen[var as usize]
+    }
+
     /// Whether a variable is marked, and of a lower level.
     pub fn is_below(&self, var: u32) -> bool
-        requires seen_room { var < length self.now.seen.items }
-        requires here_room { var < length self.now.here.items }
+        requires { var < length self.now.seen }
         ensures { IsTrue result
-            ↔ ((marked self.now.seen.items var ≡ true) × (marked self.now.here.items var ≡ false)) }
+            ↔ ((marked self.now.seen var ≡ true) × (marked self.now.here var ≡ false)) }
     {
         self.seen[var as usize] && !self.here[var as usize]
     }
@@ -132,21 +151,16 @@ impl Marks {
     /// Whether the variable follows from the marked ones and from level 0.
     pub fn follows(&mut self, trail: &Trail, var: u32) -> Result<bool, NoMemory>
         requires range { var ≤ trail.now.vars }
-        requires room { length self.old.seen.items ≡ trail.now.vars + 1 }
-        ensures seen { self.new.seen.items ≡ self.old.seen.items }
-        ensures here { self.new.here.items ≡ self.old.here.items }
-        ensures touched { self.new.touched.items ≡ self.old.touched.items }
-        ensures pending { self.new.pending ≡ self.old.pending }
+        requires room { length self.old.seen ≡ trail.now.vars + 1 }
+        ensures { self.new ≡ self.old }
     {
         self.verdicts.follows(trail, &self.seen, var, DEPTH)
     }
 
     /// The variables that are marked, in the order in which they were, each at least once.
-    pub fn keep(&self, vars: u32, kept: &mut Vec<u32>) -> Result<(), NoMemory>
-        requires { AreListed vars self.now.seen.items self.now.here.items self.now.touched.items }
-        ensures { OnOk result (kept.new.items ≡ filter (marked self.now.seen.items) self.now.touched.items) }
+    pub fn keep(&self, kept: &mut Vec<u32>) -> Result<(), NoMemory>
+        ensures { OnOk result (AreMarked self.now.seen kept.new.items) }
     {
-        let _vars = vars;
         kept.clear();
         for var in &self.touched {
             if self.seen[*var as usize] {
@@ -157,11 +171,11 @@ impl Marks {
     }
 
     /// Nothing is marked any more. The cost is the number of the variables that were.
-    pub fn clear(&mut self, vars: u32)
-        requires { AreListed vars self.old.seen.items self.old.here.items self.old.touched.items }
-        ensures { AreClear vars self.new.seen.items self.new.here.items self.new.touched.items self.new.pending }
+    pub fn clear(&mut self)
+        ensures clear { IsClear self.new }
+        ensures seen_room { length self.new.seen ≡ length self.old.seen }
+        ensures here_room { length self.new.here ≡ length self.old.here }
     {
-        let _vars = vars;
         while let Some(var) = self.touched.pop() {
             self.seen[var as usize] = false;
             self.here[var as usize] = false;

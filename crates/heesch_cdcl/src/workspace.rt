@@ -1,6 +1,6 @@
 //! What the search keeps between conflicts.
 ghost use Rattle.std.specs.Prelude.{◌≡◌, IfOk};
-ghost use Rattle.heesch_cdcl.specs.Marking.{AreClear};
+ghost use Rattle.heesch_cdcl.specs.Marking.{HavePlaces};
 
 use crate::analysis::Resolution;
 use crate::covers::Covers;
@@ -17,12 +17,10 @@ pub struct Workspace {
 }
 
 impl Workspace {
-    /// Nothing is marked.
+    /// No variable is marked, and each has a place.
     pub fn new(alloc: Global, covers: Covers, vars: u32) -> Result<Workspace, NoMemory>
         ensures covers { IfOk result (λ w. w.decisions.covers ≡ covers) }
-        ensures clear { IfOk result
-            (λ w. AreClear vars w.resolution.marks.seen.items w.resolution.marks.here.items
-            w.resolution.marks.touched.items w.resolution.marks.pending) }
+        ensures places { IfOk result (λ w. HavePlaces vars w.resolution.marks) }
     {
         Ok(Workspace {
             decisions: Decisions::new(covers),

@@ -1,13 +1,12 @@
 use Rattle.std.proofs.Common.{◌≡◌, reverse}
-use Rattle.heesch_cdcl.specs.Marking.{AreListed}
+use Rattle.heesch_cdcl.specs.Marking.{pending_in}
 use Rattle.heesch_cdcl.specs.Resolved.{IsDerived}
 use Rattle.heesch_cdcl.proofs.analysis.Resolution.shorten.Given as goal
 
 abbrev pub invariant-loop-place : goal.invariant-loop-place
 invariant-loop-place l = record {
-  derived : IsDerived l.trail l.place l.self.marks.seen.items l.self.marks.here.items l.self.marks.pending (reverse l.self.hints.items);
-  listed : AreListed l.trail.vars l.self.marks.seen.items l.self.marks.here.items l.self.marks.touched.items;
-  same : l.self.marks.pending ≡ l.fn.self.marks.pending;
+  derived : IsDerived l.trail l.place l.self.marks (reverse l.self.hints.items);
+  same : pending_in l.self.marks ≡ pending_in l.fn.self.marks;
 }
 
 abbrev pub decreases-loop-place : goal.decreases-loop-place

@@ -1,51 +1,42 @@
-use Rattle.std.proofs.Common.{◌≡◌, ◌+◌, false, true, [], ◌∷◌, ◌++◌, reverse, refl, subst, ◌∙◌, arith, rules}
-use Rattle.heesch_cdcl.specs.Marking.{MarksClause, AreMarks}
+use Rattle.std.proofs.Common.{◌≡◌, ◌+◌, true, false, [], ◌∷◌, ◌++◌, reverse, count_by, refl, sym, ap, subst, ◌∙◌, arith, rules}
+use Rattle.heesch_cdcl.specs.Marking.{Marking, MarksClause, AreMarks, pending_in}
 use Rattle.heesch_cdcl.specs.Resolved.{IsDerived}
 use Rattle.heesch_cdcl.proofs.MarkLemmas.{marked-same}
-use Rattle.heesch_cdcl.proofs.Resolving.{Derived-same, Derived-skip, reason_says}
-use Rattle.heesch_cdcl.proofs.ReadSteps.{Derived-read, form_of, here_kept, read_step, pending_stays, reason_is}
+use Rattle.heesch_cdcl.proofs.Resolving.{Derived-skip, reason_says}
+use Rattle.heesch_cdcl.proofs.ReadSteps.{Derived-read, form_of, here_kept, read_step, reason_is}
 use Rattle.heesch_cdcl.proofs.analysis.Resolution.shorten_at.Goals as goal
 use Rattle.heesch_cdcl.proofs.analysis.Resolution.shorten_at.Goals.{After-follows}
 
 -- what held before `follows` holds after it
-still : (c : After-follows) → IsDerived c.args.trail.now (c.args.place + 1) c.follows.new.self.seen.items c.follows.new.self.here.items c.follows.new.self.pending (reverse c.args.self.now.hints.items)
-still c =
-    let m = c.args.self.now.marks in
-    let n = c.follows.new.self in
-    Derived-same c.args.trail.now (c.args.place + 1) m.seen.items m.here.items n.seen.items n.here.items m.pending n.pending (reverse c.args.self.now.hints.items) c.requires.derived c.follows.ensures.seen c.follows.ensures.here c.follows.ensures.pending
+still : (c : After-follows) → IsDerived c.args.trail.now (c.args.place + 1) c.follows.new.self (reverse c.args.self.now.hints.items)
+still c = subst (λ m. IsDerived c.args.trail.now (c.args.place + 1) m (reverse c.args.self.now.hints.items)) (sym c.follows.ensures) c.requires.derived
 
-pub is_below-requires-clause-seen_room : goal.is_below-requires-clause-seen_room
-is_below-requires-clause-seen_room c =
+pub is_below-requires : goal.is_below-requires
+is_below-requires c =
     let trail = c.args.trail.now in
     let r = read_step trail c.args.place c.made.result.now c.made.ensures.valid c.made.ensures.made c.requires.place in
     omega (arith, r.var, r.at.holds.high, c.requires.derived.marks.seen_room)
-
-pub is_below-requires-clause-here_room : goal.is_below-requires-clause-here_room
-is_below-requires-clause-here_room c =
-    let trail = c.args.trail.now in
-    let r = read_step trail c.args.place c.made.result.now c.made.ensures.valid c.made.ensures.made c.requires.place in
-    omega (arith, r.var, r.at.holds.high, c.requires.derived.marks.here_room)
 
 pub returns-then-not-is_below-clause-derived : goal.returns-then-not-is_below-clause-derived
 returns-then-not-is_below-clause-derived c =
     let trail = c.args.trail.now in
     let r = read_step trail c.args.place c.made.result.now c.made.ensures.valid c.made.ensures.made c.requires.place in
     let m = c.args.self.now.marks in
-    Derived-skip trail c.args.place r.step m.seen.items m.here.items m.pending (reverse c.args.self.now.hints.items) r.at c.requires.derived
+    Derived-skip trail c.args.place r.step m (reverse c.args.self.now.hints.items) r.at c.requires.derived
 
 pub returns-then-not-branch-clause-derived : goal.returns-then-not-branch-clause-derived
 returns-then-not-branch-clause-derived c =
     let trail = c.args.trail.now in
     let r = read_step trail c.args.place c.made.result.now c.made.ensures.valid c.made.ensures.made c.requires.place in
     let m = c.follows.new.self in
-    Derived-skip trail c.args.place r.step m.seen.items m.here.items m.pending (reverse c.args.self.now.hints.items) r.at (still (goal.at.returns-then-not-branch-clause-derived c).After-follows)
+    Derived-skip trail c.args.place r.step m (reverse c.args.self.now.hints.items) r.at (still (goal.at.returns-then-not-branch-clause-derived c).After-follows)
 
 pub returns-in_default-clause-derived : goal.returns-in_default-clause-derived
 returns-in_default-clause-derived c =
     let trail = c.args.trail.now in
     let r = read_step trail c.args.place c.made.result.now c.made.ensures.valid c.made.ensures.made c.requires.place in
     let m = c.follows.new.self in
-    Derived-skip trail c.args.place r.step m.seen.items m.here.items m.pending (reverse c.args.self.now.hints.items) r.at (still (goal.at.returns-in_default-clause-derived c).After-follows)
+    Derived-skip trail c.args.place r.step m (reverse c.args.self.now.hints.items) r.at (still (goal.at.returns-in_default-clause-derived c).After-follows)
 
 pub clause-requires : goal.clause-requires
 clause-requires c =
@@ -64,10 +55,10 @@ pub returns-clause-derived : goal.returns-clause-derived
 returns-clause-derived c =
     let r = read_step c.args.trail.now c.args.place c.made.result.now c.made.ensures.valid c.made.ensures.made c.requires.place in
     let pushed : c.push.new.self.items ≡ c.args.self.now.hints.items ++ c.in-Some.reason ∷ [] = search rules in
-    Derived-read c.args.trail.now c.args.place _ c.in-Some.reason c.follows.new.self.seen.items c.follows.new.self.here.items c.mark.new.self.seen.items c.unmark.new.self.seen.items c.unmark.new.self.here.items c.follows.new.self.pending c.unmark.new.self.pending c.args.self.now.hints.items c.push.new.self.items
-    r (reason_is c.args.trail.now c.args.place _ c.reason_of.result r c.reason_of.ensures ∙ c.in-Some.is) (subst (MarksClause c.follows.new.self.seen.items c.mark.new.self.seen.items) c.clause.ensures.clause c.in_ok-mark.ensures.seen)
+    Derived-read c.args.trail.now c.args.place _ c.in-Some.reason c.follows.new.self c.unmark.new.self c.mark.new.self.seen c.args.self.now.hints.items c.push.new.self.items
+    r (reason_is c.args.trail.now c.args.place _ c.reason_of.result r c.reason_of.ensures ∙ c.in-Some.is) (subst (MarksClause c.follows.new.self.seen c.mark.new.self.seen) c.clause.ensures.clause c.in_ok-mark.ensures.seen)
     (omega (arith, r.var, r.at.holds.high, c.mark.ensures.marks.seen_room)) c.unmark.ensures.seen pushed
-    (subst (λ k. AreMarks c.args.trail.now.vars k c.args.trail.now.steps c.unmark.new.self.seen.items c.unmark.new.self.here.items c.unmark.new.self.pending) c.level-level.ensures.level c.unmark.ensures.marks) (still (goal.at.returns-clause-derived c).After-follows)
+    (subst (λ k. AreMarks c.args.trail.now k c.unmark.new.self) c.level-level.ensures.level c.unmark.ensures.marks) (still (goal.at.returns-clause-derived c).After-follows)
 
 pub returns-clause-same : goal.returns-clause-same
 returns-clause-same c =
@@ -75,11 +66,11 @@ returns-clause-same c =
     let m = c.follows.new.self in
     let n = c.mark.new.self in
     let below = c.if-not-is_below.ensures.0 refl in
-    let on = marked-same c.args.self.now.marks.seen.items m.seen.items _ true c.follows.ensures.seen below.0 in
-    let off = marked-same c.args.self.now.marks.here.items m.here.items _ false c.follows.ensures.here below.1 in
+    let on = marked-same c.args.self.now.marks.seen m.seen _ true (ap (λ (ms : Marking). ms.seen) c.follows.ensures) below.0 in
+    let off = marked-same c.args.self.now.marks.here m.here _ false (ap (λ (ms : Marking). ms.here) c.follows.ensures) below.1 in
     let reason = reason_is c.args.trail.now c.args.place _ c.reason_of.result r c.reason_of.ensures ∙ c.in-Some.is in
     let before = still (goal.at.returns-clause-same c).After-follows in
-    let now = subst (λ k. AreMarks c.args.trail.now.vars k c.args.trail.now.steps n.seen.items n.here.items n.pending) c.level-level.ensures.level c.mark.ensures.marks in
-    let marks = subst (MarksClause m.seen.items n.seen.items) c.clause.ensures.clause c.in_ok-mark.ensures.seen in
-    c.unmark.ensures.same (marked-same m.here.items n.here.items _ false (here_kept c.args.trail.now c.args.place _ c.in-Some.reason m.seen.items m.here.items n.seen.items n.here.items m.pending n.pending c.made.ensures.valid r reason before.marks now marks on off) off)
-    ∙ pending_stays c.args.trail.now c.args.place _ c.in-Some.reason m.seen.items m.here.items n.seen.items n.here.items m.pending n.pending c.made.ensures.valid r reason before.marks now marks on off ∙ c.follows.ensures.pending
+    let now = subst (λ k. AreMarks c.args.trail.now k n) c.level-level.ensures.level c.mark.ensures.marks in
+    let marks = subst (MarksClause m.seen n.seen) c.clause.ensures.clause c.in_ok-mark.ensures.seen in
+    let here = here_kept c.args.trail.now c.args.place _ c.in-Some.reason m n c.made.ensures.valid r reason before.marks now marks on off in
+    c.unmark.ensures.same (marked-same m.here n.here _ false here off) ∙ ap (count_by (λ b. b)) here ∙ ap pending_in c.follows.ensures
