@@ -87,7 +87,7 @@ open_above trail j v s valid fact lt =
     ap (signed p) (value-high j trail.steps v s (Trail-apart trail valid) fact lt) ∙ signed_none p
 
 -- what the resolution leaves at a conflict above level 0 is learnt
-pub Learnt-resolved : (trail : State) (ms : Marking) (learnt : Learnt) → IsTrail trail → 1 ≤ level_of trail.steps → IsResolved trail 1 ms learnt.hints →
+pub Learnt-resolved : (trail : State) (ms : Marking) (learnt : Learnt) → IsTrail trail → 1 ≤ level_of trail.steps → IsResolved trail ms learnt.hints →
     IsClauseOfMarked trail.vars trail.steps ms.seen learnt.clause → learnt.back < level_of trail.steps → IsLevelIn trail.steps learnt.clause learnt.back → IsLearnt trail learnt
 Learnt-resolved trail ms learnt valid above res read below reached =
     let k = level_of trail.steps in
@@ -153,7 +153,7 @@ Learnt-resolved trail ms learnt valid above res read below reached =
         }
 
 -- what it leaves at level 0 is a final line
-pub Final-resolved : (trail : State) (ms : Marking) (hints : List ℕ) → IsTrail trail → level_of trail.steps ≡ 0 → IsResolved trail 0 ms hints → FinalHolds trail.clauses hints
+pub Final-resolved : (trail : State) (ms : Marking) (hints : List ℕ) → IsTrail trail → level_of trail.steps ≡ 0 → IsResolved trail ms hints → FinalHolds trail.clauses hints
 Final-resolved trail ms hints valid ground_level res =
     let r = res.derived in
     record {
@@ -168,4 +168,4 @@ Final-resolved trail ms hints valid ground_level res =
         let high = fact-level trail v f.0 valid f.1 in
         let level : f.0.level ≡ level_of trail.steps = omega arith in
         let is_here = r.marks.seen_here v m (ap (option_map (λ (x : Step). x.level)) f.1 ∙ ap Some level) in
-        omega (arith, positive_count ms.here v is_here, res.few)
+        omega (arith, positive_count ms.here v is_here, res.none ground_level)

@@ -1,4 +1,5 @@
 pub mod Bound
+pub mod Conflicts
 pub mod Covers
 pub mod Derivation
 pub mod Empty

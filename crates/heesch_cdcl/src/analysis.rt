@@ -7,10 +7,9 @@ ghost use Rattle.heesch_cnf.specs.Clauses.{IsClause};
 ghost use Rattle.heesch_cnf.specs.Lines.{FinalHolds};
 ghost use Rattle.heesch_trail.specs.State.{IsTrail, level_of};
 ghost use Rattle.heesch_cdcl.specs.Learning.{IsLearnt};
-ghost use Rattle.heesch_trail.specs.Seen.{IsConflict};
-ghost use Rattle.heesch_cdcl.specs.Search.{LowerFixpoints};
 
 use crate::assembly::clause_of_marks;
+use crate::conflict::Conflict;
 use crate::marks::Marks;
 use heesch_cnf::{Hints, Lit, Lits};
 use heesch_io::{NoMemory, Seq};
@@ -35,15 +34,14 @@ pub struct Resolution {
 }
 
 /// The variables of the conflict are marked, and no others.
-fn begin(trail: &Trail, conflict: u32, marks: &mut Marks) -> Result<(), NoMemory>
-    requires lower { LowerFixpoints trail.now }
-    requires conflict { IsConflict trail.now conflict }
-    requires places { HavePlaces trail.now.vars marks.old }
-    ensures begun { OnOk result (IsBegun trail.now conflict marks.new) }
-    ensures places { HavePlaces trail.now.vars marks.new }
+fn begin(conflict: &Conflict, marks: &mut Marks) -> Result<(), NoMemory>
+    requires { HavePlaces conflict.now.trail.vars marks.old }
+    ensures begun { OnOk result (IsBegun conflict.now.trail conflict.now.number marks.new) }
+    ensures places { HavePlaces conflict.now.trail.vars marks.new }
 {
     marks.clear();
-    let clause = trail.clause(conflict);
+    let trail = conflict.trail;
+    let clause = trail.clause(conflict.number);
     marks.mark(trail, trail.level(), clause)?;
     Ok(())
 }
@@ -160,20 +158,20 @@ impl Resolution {
         Ok(())
     }
 
-    /// Resolves the conflict with the reasons of the latest assignments, until at most `stop` literals of the present
-    /// level are left, and then leaves out what follows from the other literals. The hints are those of the resolved
-    /// clauses, in the order of the assignments.
-    fn resolve(&mut self, trail: &Trail, conflict: u32, stop: usize) -> Result<(), NoMemory>
-        requires lower { LowerFixpoints trail.now }
-        requires conflict { IsConflict trail.now conflict }
-        requires stop { (1 ≤ stop) ⊎ (level_of trail.now.steps ≡ 0) }
-        requires places { HavePlaces trail.now.vars self.old.marks }
-        ensures resolved { OnOk result (IsResolved trail.now stop self.new.marks self.new.hints.items) }
-        ensures places { HavePlaces trail.now.vars self.new.marks }
+    /// Resolves the conflict with the reasons of the latest assignments, until at most one literal of the present
+    /// level is left, and none at level 0, and then leaves out what follows from the other literals. The hints are
+    /// those of the resolved clauses, in the order of the assignments.
+    fn resolve(&mut self, conflict: &Conflict) -> Result<(), NoMemory>
+        requires { HavePlaces conflict.now.trail.vars self.old.marks }
+        ensures resolved { OnOk result (IsResolved conflict.now.trail self.new.marks self.new.hints.items) }
+        ensures places { HavePlaces conflict.now.trail.vars self.new.marks }
+        ensures valid { OnOk result (IsTrail conflict.now.trail) }
     {
-        begin(trail, conflict, &mut self.marks)?;
+        begin(conflict, &mut self.marks)?;
         self.hints.clear();
-        self.hints.push(conflict).map_err(|_| NoMemory)?;
+        self.hints.push(conflict.number).map_err(|_| NoMemory)?;
+        let trail = conflict.trail;
+        let stop = if trail.level() == 0 { 0 } else { 1 };
         let mut place = trail.made().len();
         while self.marks.pending() > stop {
             place -= 1;
@@ -187,15 +185,14 @@ impl Resolution {
     /// The clause that is learnt from a conflict above level 0. The cost is the lengths of the clauses that are
     /// resolved or looked at to shorten it, the assignments from the latest down to the earliest of a variable in them
     /// that was marked, the sorting of the clause's variables, and the variables that the conflict before marked.
-    pub fn learn(&mut self, alloc: Global, trail: &Trail, conflict: u32) -> Result<Learnt, NoMemory>
-        requires lower { LowerFixpoints trail.now }
-        requires conflict { IsConflict trail.now conflict }
-        requires level { 1 ≤ level_of trail.now.steps }
-        requires places { HavePlaces trail.now.vars self.old.marks }
-        ensures learnt { IfOk result (IsLearnt trail.now) }
-        ensures places { HavePlaces trail.now.vars self.new.marks }
+    pub fn learn(&mut self, alloc: Global, conflict: &Conflict) -> Result<Learnt, NoMemory>
+        requires level { 1 ≤ level_of conflict.now.trail.steps }
+        requires places { HavePlaces conflict.now.trail.vars self.old.marks }
+        ensures learnt { IfOk result (IsLearnt conflict.now.trail) }
+        ensures places { HavePlaces conflict.now.trail.vars self.new.marks }
     {
-        self.resolve(trail, conflict, 1)?;
+        self.resolve(conflict)?;
+        let trail = conflict.trail;
         let clause = clause_of_marks(alloc, trail, &self.marks, &mut self.kept)?;
         let back = back_of(trail, clause.as_slice());
         Ok(Learnt {
@@ -206,16 +203,13 @@ impl Resolution {
     }
 
     /// The hints of the final line, from a conflict at level 0.
-    pub fn refute(&mut self, alloc: Global, trail: &Trail, conflict: u32) -> Result<Hints, NoMemory>
-        requires lower { LowerFixpoints trail.now }
-        requires conflict { IsConflict trail.now conflict }
-        requires level { level_of trail.now.steps ≡ 0 }
-        requires places { HavePlaces trail.now.vars self.old.marks }
-        ensures last { IfOk result (FinalHolds trail.now.clauses) }
-        ensures places { HavePlaces trail.now.vars self.new.marks }
+    pub fn refute(&mut self, alloc: Global, conflict: &Conflict) -> Result<Hints, NoMemory>
+        requires level { level_of conflict.now.trail.steps ≡ 0 }
+        requires places { HavePlaces conflict.now.trail.vars self.old.marks }
+        ensures last { IfOk result (FinalHolds conflict.now.trail.clauses) }
+        ensures places { HavePlaces conflict.now.trail.vars self.new.marks }
     {
-        let _ = trail.vars();
-        self.resolve(trail, conflict, 0)?;
+        self.resolve(conflict)?;
         copy_of(alloc, &self.hints)
     }
 }

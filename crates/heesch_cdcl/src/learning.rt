@@ -7,6 +7,7 @@ ghost use Rattle.heesch_cdcl.specs.Ready.{IsReady};
 ghost use Rattle.heesch_cdcl.specs.Searching.{Searches, SameFormula, formula_in};
 ghost use Rattle.heesch_cdcl.specs.Search.{SameClauses};
 
+use crate::conflict::Conflict;
 use crate::search::{descend, go_back, restart};
 use crate::workspace::Workspace;
 use heesch_cnf::{Hints, Line, Lits};
@@ -79,8 +80,9 @@ fn give_up(alloc: Global, trail: &mut Trail, work: &mut Workspace) -> Result<End
 {
     match restart(trail, &mut work.decisions)? {
         None => Ok(Ending::Spent),
-        Some(conflict) => {
-            let hints = work.resolution.refute(alloc, trail, conflict)?;
+        Some(number) => {
+            let conflict = Conflict { trail, number };
+            let hints = work.resolution.refute(alloc, &conflict)?;
             Ok(Ending::Refuted(hints))
         }
     }
@@ -106,17 +108,18 @@ pub fn run(
     ensures ended { IfOk result (IsEnding turns lines.new trail.new) }
 {
     loop {
-        let Some(conflict) = descend(trail, &mut work.decisions)? else {
+        let Some(number) = descend(trail, &mut work.decisions)? else {
             return Ok(Ending::Model);
         };
-        if trail.level() == 0 {
-            let hints = work.resolution.refute(alloc, trail, conflict)?;
+        let conflict = Conflict { trail, number };
+        if conflict.trail.level() == 0 {
+            let hints = work.resolution.refute(alloc, &conflict)?;
             return Ok(Ending::Refuted(hints));
         }
         if lines.len() == turns as usize {
             return give_up(alloc, trail, work);
         }
-        let learnt = work.resolution.learn(alloc, trail, conflict)?;
+        let learnt = work.resolution.learn(alloc, &conflict)?;
         let line = Line::Learn {
             clause: learnt.clause,
             hints: learnt.hints,

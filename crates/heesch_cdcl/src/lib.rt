@@ -14,6 +14,7 @@
 
 mod analysis;
 mod assembly;
+mod conflict;
 mod covers;
 mod decisions;
 mod empty;

@@ -4,8 +4,8 @@ use Rattle.heesch_cdcl.specs.Ready.{IsReady}
 use Rattle.heesch_cdcl.specs.Searching.{Searches, SameFormula}
 use Rattle.heesch_cdcl.proofs.learning.run.Given as goal
 
-abbrev pub invariant-loop-conflict : goal.invariant-loop-conflict
-invariant-loop-conflict l = record {
+abbrev pub invariant-loop-number : goal.invariant-loop-number
+invariant-loop-number l = record {
   searching : Searches l.lines l.trail;
   formula : SameFormula l.fn.lines l.fn.trail l.lines l.trail;
   ready : IsReady l.trail l.work;
@@ -13,5 +13,5 @@ invariant-loop-conflict l = record {
   learns : LearnsMore l.fn.lines l.lines;
 }
 
-abbrev pub decreases-loop-conflict : goal.decreases-loop-conflict
-decreases-loop-conflict l = l.turns - length l.lines
+abbrev pub decreases-loop-number : goal.decreases-loop-number
+decreases-loop-number l = l.turns - length l.lines

@@ -6,9 +6,9 @@ use Rattle.heesch_cdcl.proofs.analysis.Resolution.refute.Goals as goal
 
 pub returns-clause-last : goal.returns-clause-last
 returns-clause-last c =
-    let trail = c.args.trail.now in
+    let trail = c.args.conflict.now.trail in
     let m = c.resolve.new.self.marks in
     let hints = c.resolve.new.self.hints.items in
-    let holds = Final-resolved trail m hints c.vars.ensures.valid c.requires.level c.in_ok-resolve.ensures.resolved in
+    let holds = Final-resolved trail m hints c.in_ok-resolve.ensures.valid c.requires.level c.in_ok-resolve.ensures.resolved in
     IfOk-weaker c.copy_of.result (λ copy. copy ≡ c.deref.result.now) (FinalHolds trail.clauses)
     (λ copy is. subst (FinalHolds trail.clauses) (sym (is ∙ c.deref.ensures.value)) holds) c.copy_of.ensures
