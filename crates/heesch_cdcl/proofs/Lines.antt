@@ -2,20 +2,16 @@ use Rattle.std.proofs.Common.{◌≡◌, ◌≢◌, ℕ, ◌-◌, ◌<◌, List,
 use Rattle.std.specs.List.{Contains}
 use Rattle.std.proofs.lemmas.Bool.{cases_lt}
 use Rattle.std.proofs.lemmas.List.{take-append-le, take_at, get_or_append_left, get_or_at, map-append, length-map}
-use Rattle.std.proofs.lemmas.List.Elements.{All-push, All-weaker}
+use Rattle.std.proofs.lemmas.List.Elements.{All-push}
 use Rattle.heesch_cnf.specs.declared.literal.Lit.{Lit}
 use Rattle.heesch_cnf.specs.declared.log.Line.{Line}
 use Rattle.heesch_cnf.specs.declared.log.Line.TheVariants.{Learn, Given}
 use Rattle.heesch_cnf.specs.Clauses.{IsClause, IsNew}
-use Rattle.heesch_cnf.specs.Lines.{clauses_with, clause_of, LineHolds, IsNumber}
+use Rattle.heesch_cnf.specs.Lines.{clauses_with, clause_of, LineHolds}
 use Rattle.heesch_cnf.proofs.Lists.{Contains-none}
 use Rattle.heesch_trail.specs.Fixpoint.{IsSettled, IsFixpoint}
 use Rattle.heesch_trail.specs.State.{State, IsTrail, values_of, level_of, up_to}
 use Rattle.heesch_cdcl.specs.declared.analysis.Learnt.{Learnt}
-use Rattle.heesch_cdcl.specs.declared.workspace.Workspace.{Workspace}
-use Rattle.heesch_cdcl.specs.Covers.{Scope, Guides}
-use Rattle.heesch_cdcl.specs.Marking.{HavePlaces}
-use Rattle.heesch_cdcl.specs.Ready.{IsReady}
 use Rattle.heesch_cdcl.specs.Search.{LowerFixpoints, SameClauses}
 use Rattle.heesch_cnf.specs.Meaning.{IsLearn}
 use Rattle.heesch_cdcl.specs.Learning.{IsLearnt, IsNext, LearnsOne, LearnsMore}
@@ -126,23 +122,3 @@ pop-push before pushed left x push pop =
 pub LearnsMore-one : (first old new : List Line) → LearnsMore first old → LearnsOne old new → LearnsMore first new
 LearnsMore-one first old new more one =
     (more.0 ++ one.0 ∷ [], (one.1.0 ∙ ap (λ ls. ls ++ one.0 ∷ []) more.1.0 ∙ append_assoc first more.0 (one.0 ∷ []), All-push IsLearn more.0 one.0 more.1.1 one.1.1))
-
--- with more clauses the covers are still clauses of the trail
-pub Guides-more : (scope : Scope) (old new : State) (more : List (List Lit)) → new.vars ≡ old.vars → new.clauses ≡ old.clauses ++ more → Guides scope old → Guides scope new
-Guides-more scope old new more vars clauses g = record {
-  vars = g.vars ∙ sym vars;
-  numbers = All-weaker (IsNumber old.clauses) (IsNumber new.clauses) (λ n is. (is.0, omega (arith, is.1, ap length clauses, length-append old.clauses more))) scope.numbers g.numbers;
-}
-
--- the workspace is ready over a trail with more clauses too, and over one with the same
-pub Ready-more : (old new : State) (more : List (List Lit)) (before after : Workspace) → new.vars ≡ old.vars → new.clauses ≡ old.clauses ++ more → after.decisions.covers ≡ before.decisions.covers → after.resolution.marks ≡ before.resolution.marks → IsReady old before → IsReady new after
-Ready-more old new more before after vars clauses covers marks ready = record {
-  guides = subst (λ s. Guides s new) (sym covers) (Guides-more before.decisions.covers old new more vars clauses ready.guides);
-  places = subst (HavePlaces new.vars) (sym marks) (subst (λ v. HavePlaces v before.resolution.marks) (sym vars) ready.places);
-}
-
--- and after one clause more, back at a level
-pub Ready-added : (trail added back : State) (clause : List Lit) (level : ℕ) (before after : Workspace) → added ≡ record trail { clauses = trail.clauses ++ clause ∷ [] } → back ≡ record added { steps = up_to level added.steps } →
-    after.decisions.covers ≡ before.decisions.covers → after.resolution.marks ≡ before.resolution.marks → IsReady trail before → IsReady back after
-Ready-added trail added back clause level before after add go covers marks ready =
-    Ready-more trail back (clause ∷ []) before after (ap (λ (x : State). x.vars) go ∙ ap (λ (x : State). x.vars) add) (ap (λ (x : State). x.clauses) go ∙ ap (λ (x : State). x.clauses) add) covers marks ready

@@ -1,4 +1,4 @@
-use Rattle.std.proofs.Common.{◌≡◌, ℕ, ◌+◌, ◌-◌, ◌<◌, ◌≤◌, Bool, true, false, not, unwrap_or, IfSome, IsSomeAnd, MatchOption, All, append-nil, Option, None, Some, List, [], ◌∷◌, ◌++◌, ◌^◌, length, sym, ap, ◌∙◌, subst, inl, inr, refl, arith}
+use Rattle.std.proofs.Common.{◌≡◌, ℕ, ◌+◌, ◌-◌, ◌<◌, ◌≤◌, Bool, true, false, not, unwrap_or, IfSome, IsSomeAnd, MatchOption, append-nil, Option, None, Some, List, [], ◌∷◌, ◌++◌, ◌^◌, length, sym, ap, ◌∙◌, subst, inl, inr, refl, arith}
 use Rattle.std.specs.List.{range_with_len}
 use Rattle.std.proofs.lemmas.List.{length-map}
 use Rattle.std.proofs.lemmas.List.FromFn.{get_or-map-range_with_len, length-range_with_len, map-range_with_len_more}
@@ -11,13 +11,9 @@ use Rattle.heesch_trail.specs.Fixpoint.{IsSettled, IsFixpoint}
 use Rattle.heesch_trail.specs.State.{State, IsTrail, values_of, level_of}
 use Rattle.heesch_cdcl.specs.Newness.{IsMadeFalse}
 use Rattle.heesch_cnf.specs.declared.log.Line.{Line}
-use Rattle.heesch_cnf.specs.Lines.{clauses_with, IsNumber}
-use Rattle.heesch_cdcl.specs.Covers.{Scope, Guides}
-use Rattle.heesch_cdcl.specs.Marking.{HavePlaces}
+use Rattle.heesch_cnf.specs.Lines.{clauses_with}
 use Rattle.heesch_cdcl.proofs.Lines.{Lower-zero, Searches-own, formula_is}
 use Rattle.heesch_cdcl.specs.Search.{IsComplete}
-use Rattle.heesch_cdcl.specs.declared.workspace.Workspace.{Workspace}
-use Rattle.heesch_cdcl.specs.Ready.{IsReady}
 use Rattle.heesch_cdcl.specs.Empty.{IsFirstEmpty, NoneEmpty}
 use Rattle.heesch_cdcl.specs.Searching.{IsSearching, Searches, SameFormula, formula_in}
 use Rattle.heesch_cnf.specs.Clauses.{assignment_of}
@@ -69,10 +65,9 @@ pub values_list-more : (n : ℕ) (steps : List Step) → values_list (n + 1) ste
 values_list-more n steps = map-range_with_len_more (λ v. unwrap_or (values_of steps (v + 1)) false) 0 n n (omega arith)
 
 -- a solver over a formula, with an empty log
-pub Inner-opened : (turns : ℕ) (empty : Option ℕ) (vars n : ℕ) (clauses : List (List Lit)) (trail : State) (work : Workspace) (scope : Scope) (lines : List Line) → trail ≡ record { vars = vars; clauses = clauses; steps = [] } → IsTrail trail → lines ≡ [] →
-    MatchOption empty (NoneEmpty clauses) (IsFirstEmpty clauses) → length clauses + turns < 2 ^ 31 → work.decisions.covers ≡ scope → scope.vars ≡ vars → All (IsNumber clauses) scope.numbers →
-    n ≡ vars → HavePlaces n work.resolution.marks → IsInner turns empty trail work (record { lines = lines; last = None }) false
-Inner-opened turns empty vars n clauses trail work scope lines is valid none first room covers same numbers count places =
+pub Inner-opened : (turns : ℕ) (empty : Option ℕ) (vars : ℕ) (clauses : List (List Lit)) (trail : State) (lines : List Line) → trail ≡ record { vars = vars; clauses = clauses; steps = [] } → IsTrail trail → lines ≡ [] →
+    MatchOption empty (NoneEmpty clauses) (IsFirstEmpty clauses) → length clauses + turns < 2 ^ 31 → IsInner turns empty trail (record { lines = lines; last = None }) false
+Inner-opened turns empty vars clauses trail lines is valid none first room =
     let vars_is = ap (λ (t : State). t.vars) is in
     let clauses_is = ap (λ (t : State). t.clauses) is in
     let zero_level : level_of trail.steps ≡ 0 = ap (λ (t : State). level_of t.steps) is in
@@ -89,10 +84,6 @@ Inner-opened turns empty vars n clauses trail work scope lines is valid none fir
     let s = Searches-own vars clauses lines trail going in
     let formula = formula_is vars clauses lines trail going in
     record {
-      ready = record {
-        guides = subst (λ c. Guides c trail) (sym covers) (record { vars = same ∙ sym vars_is; numbers = subst (λ cs. All (IsNumber cs) scope.numbers) (sym clauses_is) numbers });
-        places = subst (λ v. HavePlaces v work.resolution.marks) (count ∙ sym vars_is) places;
-      };
       searching = s;
       first = subst (λ cs. MatchOption empty (NoneEmpty cs) (IsFirstEmpty cs)) (sym formula) first;
       solver = record {
@@ -108,11 +99,10 @@ Inner-opened turns empty vars n clauses trail work scope lines is valid none fir
     }
 
 -- a solver that keeps a model
-pub Inner-model : (turns : ℕ) (empty : Option ℕ) (old trail : State) (work : Workspace) (old_lines lines : List Line) (last : Option (List ℕ)) → MatchOption empty (NoneEmpty (formula_in old.clauses old_lines)) (IsFirstEmpty (formula_in old.clauses old_lines)) →
-    length (formula_in old.clauses old_lines) + turns < 2 ^ 31 → SameFormula old_lines old lines trail → IsReady trail work → Searches lines trail → length lines ≤ turns →
-    IsFixpoint (values_of trail.steps) trail.clauses × IsComplete trail → last ≡ None → IsInner turns empty trail work (record { lines = lines; last = last }) true
-Inner-model turns empty old trail work old_lines lines last first room same ready s few ending none = record {
-  ready = ready;
+pub Inner-model : (turns : ℕ) (empty : Option ℕ) (old trail : State) (old_lines lines : List Line) (last : Option (List ℕ)) → MatchOption empty (NoneEmpty (formula_in old.clauses old_lines)) (IsFirstEmpty (formula_in old.clauses old_lines)) →
+    length (formula_in old.clauses old_lines) + turns < 2 ^ 31 → SameFormula old_lines old lines trail → Searches lines trail → length lines ≤ turns →
+    IsFixpoint (values_of trail.steps) trail.clauses × IsComplete trail → last ≡ None → IsInner turns empty trail (record { lines = lines; last = last }) true
+Inner-model turns empty old trail old_lines lines last first room same s few ending none = record {
   searching = s;
   first = subst (λ cs. MatchOption empty (NoneEmpty cs) (IsFirstEmpty cs)) (sym same.clauses) first;
   solver = record {

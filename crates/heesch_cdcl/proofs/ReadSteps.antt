@@ -24,7 +24,7 @@ pub record IsRead (trail : State) (p n : ℕ) : Type 0 where
   pub at : AtStep trail p step
   pub var : step.lit.var ≡ n
 
-pub read_step : (trail : State) (p : ℕ) (made : List Lit) → IsTrail trail → made ≡ made_by trail.steps → p < length trail.steps → IsRead trail p (get_or made p (record { var = 0; positive = false })).var
+read_step : (trail : State) (p : ℕ) (made : List Lit) → IsTrail trail → made ≡ made_by trail.steps → p < length trail.steps → IsRead trail p (get_or made p (record { var = 0; positive = false })).var
 read_step trail p made valid is lt =
     let none : Lit = record { var = 0; positive = false } in
     let d : Step = record { lit = none; level = 0; reason = None } in
@@ -33,6 +33,10 @@ read_step trail p made valid is lt =
       at = at_step trail p d valid lt;
       var = ap (λ (l : Lit). l.var) (sym (ap (λ ls. get_or ls p none) is ∙ get_or-map (λ (s : Step). s.lit) trail.steps p d none lt));
     }
+
+-- the last assignment before a place
+pub read_before : (trail : State) (p : ℕ) (made : List Lit) → IsTrail trail → made ≡ made_by trail.steps → p + 1 ≤ length trail.steps → IsRead trail p (get_or made p (record { var = 0; positive = false })).var
+read_before trail p made valid is le = read_step trail p made valid is (omega arith)
 
 -- the variables of the assignments are the trail's
 pub made-in_range : (trail : State) (made : List Lit) (p : ℕ) → IsTrail trail → made ≡ made_by trail.steps → p < length trail.steps → (get_or made p (record { var = 0; positive = false })).var ≤ trail.vars

@@ -9,7 +9,6 @@ pub mod Marked
 pub mod Marking
 pub mod Newness
 pub mod Problem
-pub mod Ready
 pub mod Resolved
 pub mod Search
 pub mod Searching

@@ -7,9 +7,7 @@ use Rattle.heesch_cnf.specs.Clauses.{AreClauses, Satisfies, assignment_of}
 use Rattle.heesch_cnf.specs.Lines.{clauses_with, LinesHold, LinesAreNew, FinalHolds}
 use Rattle.heesch_trail.specs.declared.step.Step.{Step}
 use Rattle.heesch_trail.specs.State.{State, values_of}
-use Rattle.heesch_cdcl.specs.declared.workspace.Workspace.{Workspace}
 use Rattle.heesch_cdcl.specs.Empty.{IsFirstEmpty, NoneEmpty}
-use Rattle.heesch_cdcl.specs.Ready.{IsReady}
 use Rattle.heesch_cdcl.specs.Searching.{Searches, formula_in}
 
 -- what contracts see of a solver: its formula and turns, its log, and the model that it keeps
@@ -63,8 +61,7 @@ problem_of turns trail log kept =
     record { vars = trail.vars; clauses = formula_in trail.clauses log.lines; turns = turns; log = log; model = kept_model kept trail.vars trail.steps }
 
 -- how the fields of a solver belong together
-pub record IsInner (turns : ℕ) (empty : Option ℕ) (trail : State) (work : Workspace) (log : Log) (kept : Bool) : Type 0 where
-  pub ready : IsReady trail work
+pub record IsInner (turns : ℕ) (empty : Option ℕ) (trail : State) (log : Log) (kept : Bool) : Type 0 where
   pub searching : Searches log.lines trail
   pub first : MatchOption empty (NoneEmpty (formula_in trail.clauses log.lines)) (IsFirstEmpty (formula_in trail.clauses log.lines))
   pub solver : IsSolver (problem_of turns trail log kept)

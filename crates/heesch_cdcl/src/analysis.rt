@@ -89,7 +89,6 @@ impl Resolution {
 
     /// The assignment at the place is left out, resolved with its reason where it is marked.
     fn resolve_at(&mut self, trail: &Trail, place: usize) -> Result<(), NoMemory>
-        requires place { place < length trail.now.steps }
         requires many { (2 ≤ pending_in self.old.marks)
             ⊎ ((1 ≤ pending_in self.old.marks) × (level_of trail.now.steps ≡ 0)) }
         requires resolving { IsResolving trail.now (place + 1) self.old.marks (reverse self.old.hints.items) }
@@ -114,8 +113,7 @@ impl Resolution {
     /// The assignment at the place is left out, resolved with its reason, where it is marked, of a lower level, and
     /// follows from the other marked ones and from level 0. Whether it was marked and of a lower level is answered.
     fn shorten_at(&mut self, trail: &Trail, place: usize) -> Result<bool, NoMemory>
-        requires place { place < length trail.now.steps }
-        requires derived { IsDerived trail.now (place + 1) self.old.marks (reverse self.old.hints.items) }
+        requires { IsDerived trail.now (place + 1) self.old.marks (reverse self.old.hints.items) }
         ensures derived { OnOk result (IsDerived trail.now place self.new.marks (reverse self.new.hints.items)) }
         ensures places { HavePlaces trail.now.vars self.new.marks }
         ensures same { OnOk result (pending_in self.new.marks ≡ pending_in self.old.marks) }

@@ -3,16 +3,13 @@ ghost use Rattle.std.specs.Prelude.{◌≡◌, ◌<◌, ◌≤◌, ◌+◌, ◌^
 ghost use Rattle.heesch_cnf.specs.Lines.{clause_of};
 ghost use Rattle.heesch_trail.specs.State.{IsTrail, level_of};
 ghost use Rattle.heesch_cdcl.specs.Learning.{IsNext, LearnsMore, IsOver, IsEnding};
-ghost use Rattle.heesch_cdcl.specs.Ready.{IsReady};
 ghost use Rattle.heesch_cdcl.specs.Searching.{Searches, SameFormula, formula_in};
 ghost use Rattle.heesch_cdcl.specs.Search.{SameClauses};
 
 use crate::conflict::Conflict;
-use crate::search::{descend, go_back, restart};
 use crate::workspace::Workspace;
 use heesch_cnf::{Hints, Line, Lits};
 use heesch_io::{NoMemory, Seq};
-use heesch_trail::Trail;
 use std::alloc::Global;
 
 /// How the search ended.
@@ -43,45 +40,43 @@ fn clause_in(line: &Line) -> &Lits
 pub fn add_line(
     alloc: Global,
     lines: &mut Seq<Line>,
-    trail: &mut Trail,
     work: &mut Workspace,
     line: Line,
     level: u32,
 ) -> Result<(), NoMemory>
-    requires searching { Searches lines.old trail.old }
-    requires ready { IsReady trail.old work.old }
-    requires next { IsNext trail.old line level }
-    requires room { length (formula_in trail.old.clauses lines.old) + length lines.old < 2 ^ 31 }
-    ensures searching { Searches lines.new trail.new }
-    ensures formula { SameFormula lines.old trail.old lines.new trail.new }
-    ensures ready { IsReady trail.new work.new }
+    requires searching { Searches lines.old work.old.trail }
+    requires next { IsNext work.old.trail line level }
+    requires room { length (formula_in work.old.trail.clauses lines.old) + length lines.old < 2 ^ 31 }
+    ensures searching { Searches lines.new work.new.trail }
+    ensures formula { SameFormula lines.old work.old.trail lines.new work.new.trail }
     ensures ok { OnOk result (lines.new ≡ lines.old ++ line ∷ []) }
     ensures lines_stay { OnErr result (lines.new ≡ lines.old) }
-    ensures trail_stays { OnErr result (trail.new ≡ trail.old) }
+    ensures trail_stays { OnErr result (work.new.trail ≡ work.old.trail) }
 {
     let copy = copy_of(alloc, clause_in(&line))?;
     lines.push(line)?;
-    if trail.add(copy).is_err() {
+    if work.trail.add(copy).is_err() {
         let _ = lines.pop();
         return Err(NoMemory);
     }
-    go_back(trail, &mut work.decisions, level);
+    work.go_back(level);
     Ok(())
 }
 
 /// Without turns left: the final line, where it holds.
-fn give_up(alloc: Global, trail: &mut Trail, work: &mut Workspace) -> Result<Ending, NoMemory>
-    requires { IsReady trail.old work.old }
-    ensures ended { IfOk result (IsOver trail.new) }
-    ensures level { level_of trail.new.steps ≡ 0 }
-    ensures same { SameClauses trail.old trail.new }
-    ensures valid { IsTrail trail.new }
-    ensures ready { IsReady trail.new work.new }
+fn give_up(alloc: Global, work: &mut Workspace) -> Result<Ending, NoMemory>
+    ensures ended { IfOk result (IsOver work.new.trail) }
+    ensures level { level_of work.new.trail.steps ≡ 0 }
+    ensures same { SameClauses work.old.trail work.new.trail }
+    ensures valid { IsTrail work.new.trail }
 {
-    match restart(trail, &mut work.decisions)? {
+    match work.restart()? {
         None => Ok(Ending::Spent),
         Some(number) => {
-            let conflict = Conflict { trail, number };
+            let conflict = Conflict {
+                trail: &work.trail,
+                number,
+            };
             let hints = work.resolution.refute(alloc, &conflict)?;
             Ok(Ending::Refuted(hints))
         }
@@ -93,37 +88,37 @@ pub fn run(
     alloc: Global,
     turns: u32,
     lines: &mut Seq<Line>,
-    trail: &mut Trail,
     work: &mut Workspace,
 ) -> Result<Ending, NoMemory>
-    requires searching { Searches lines.old trail.old }
-    requires ready { IsReady trail.old work.old }
-    requires room { length (formula_in trail.old.clauses lines.old) + turns < 2 ^ 31 }
+    requires searching { Searches lines.old work.old.trail }
+    requires room { length (formula_in work.old.trail.clauses lines.old) + turns < 2 ^ 31 }
     requires few { length lines.old ≤ turns }
-    ensures searching { Searches lines.new trail.new }
-    ensures formula { SameFormula lines.old trail.old lines.new trail.new }
-    ensures ready { IsReady trail.new work.new }
+    ensures searching { Searches lines.new work.new.trail }
+    ensures formula { SameFormula lines.old work.old.trail lines.new work.new.trail }
     ensures few { length lines.new ≤ turns }
     ensures learns { LearnsMore lines.old lines.new }
-    ensures ended { IfOk result (IsEnding turns lines.new trail.new) }
+    ensures ended { IfOk result (IsEnding turns lines.new work.new.trail) }
 {
     loop {
-        let Some(number) = descend(trail, &mut work.decisions)? else {
+        let Some(number) = work.descend()? else {
             return Ok(Ending::Model);
         };
-        let conflict = Conflict { trail, number };
+        let conflict = Conflict {
+            trail: &work.trail,
+            number,
+        };
         if conflict.trail.level() == 0 {
             let hints = work.resolution.refute(alloc, &conflict)?;
             return Ok(Ending::Refuted(hints));
         }
         if lines.len() == turns as usize {
-            return give_up(alloc, trail, work);
+            return give_up(alloc, work);
         }
         let learnt = work.resolution.learn(alloc, &conflict)?;
         let line = Line::Learn {
             clause: learnt.clause,
             hints: learnt.hints,
         };
-        add_line(alloc, lines, trail, work, line, learnt.back)?;
+        add_line(alloc, lines, work, line, learnt.back)?;
     }
 }

@@ -65,8 +65,7 @@ impl Marks {
     }
 
     fn mark_one(&mut self, trail: &Trail, level: u32, var: u32) -> Result<(), NoMemory>
-        requires low { 1 ≤ var }
-        requires range { var ≤ trail.now.vars }
+        requires range { (1 ≤ var) × (var ≤ trail.now.vars) }
         requires marks { AreMarks trail.now level self.old }
         ensures marks { AreMarks trail.now level self.new }
         ensures seen { OnOk result (self.new.seen ≡ slice_set self.old.seen var true) }

@@ -1,56 +1,52 @@
 //! Decisions down to a model or a conflict, and the way back.
 ghost use Rattle.std.specs.Prelude.{◌≡◌, ◌≤◌, IfOk};
 ghost use Rattle.heesch_trail.specs.State.{IsTrail, level_of, up_to, IsPropagated};
-ghost use Rattle.heesch_cdcl.specs.Covers.{Guides};
 ghost use Rattle.heesch_cdcl.specs.Search.{LowerFixpoints, IsDescent, SameClauses};
 
-use crate::decisions::Decisions;
+use crate::workspace::Workspace;
 use heesch_io::NoMemory;
-use heesch_trail::Trail;
 
-/// Decides and propagates until every variable has a value, or until all literals of a clause are false, whose number
-/// is answered.
-pub fn descend(trail: &mut Trail, decisions: &mut Decisions) -> Result<Option<u32>, NoMemory>
-    requires lower { LowerFixpoints trail.old }
-    requires guides { Guides decisions.old.covers trail.old }
-    ensures found { IfOk result (IsDescent trail.new) }
-    ensures lower { LowerFixpoints trail.new }
-    ensures same { SameClauses trail.old trail.new }
-    ensures valid { IsTrail trail.new }
-    ensures covers { decisions.new.covers ≡ decisions.old.covers }
-{
-    let _ = trail.vars();
-    loop {
-        if let Some(number) = trail.propagate()? {
-            return Ok(Some(number));
+impl Workspace {
+    /// Decides and propagates until every variable has a value, or until all literals of a clause are false, whose
+    /// number is answered.
+    pub fn descend(&mut self) -> Result<Option<u32>, NoMemory>
+        requires { LowerFixpoints self.old.trail }
+        ensures found { IfOk result (IsDescent self.new.trail) }
+        ensures lower { LowerFixpoints self.new.trail }
+        ensures same { SameClauses self.old.trail self.new.trail }
+        ensures valid { IsTrail self.new.trail }
+    {
+        let _ = self.trail.vars();
+        loop {
+            if let Some(number) = self.trail.propagate()? {
+                return Ok(Some(number));
+            }
+            let Some(lit) = self.decisions.choose(&self.trail) else {
+                return Ok(None);
+            };
+            self.trail.decide(lit)?;
         }
-        let Some(lit) = decisions.choose(trail) else {
-            return Ok(None);
-        };
-        trail.decide(lit)?;
     }
-}
 
-/// Goes back to the level.
-pub fn go_back(trail: &mut Trail, decisions: &mut Decisions, level: u32)
-    requires { level ≤ level_of trail.old.steps }
-    ensures back { trail.new ≡ record trail.old { steps = up_to level trail.old.steps } }
-    ensures level { level_of trail.new.steps ≡ level }
-    ensures valid { IsTrail trail.new }
-    ensures covers { decisions.new.covers ≡ decisions.old.covers }
-{
-    decisions.reset();
-    trail.back_to(level);
-}
+    /// Goes back to the level.
+    pub fn go_back(&mut self, level: u32)
+        requires { level ≤ level_of self.old.trail.steps }
+        ensures back { self.new.trail ≡ record self.old.trail { steps = up_to level self.old.trail.steps } }
+        ensures level { level_of self.new.trail.steps ≡ level }
+        ensures valid { IsTrail self.new.trail }
+    {
+        self.decisions.reset();
+        self.trail.back_to(level);
+    }
 
-/// Goes back to level 0 and propagates.
-pub fn restart(trail: &mut Trail, decisions: &mut Decisions) -> Result<Option<u32>, NoMemory>
-    ensures found { IfOk result (IsPropagated trail.new) }
-    ensures level { level_of trail.new.steps ≡ 0 }
-    ensures same { SameClauses trail.old trail.new }
-    ensures valid { IsTrail trail.new }
-    ensures covers { decisions.new.covers ≡ decisions.old.covers }
-{
-    go_back(trail, decisions, 0);
-    trail.propagate()
+    /// Goes back to level 0 and propagates.
+    pub fn restart(&mut self) -> Result<Option<u32>, NoMemory>
+        ensures found { IfOk result (IsPropagated self.new.trail) }
+        ensures level { level_of self.new.trail.steps ≡ 0 }
+        ensures same { SameClauses self.old.trail self.new.trail }
+        ensures valid { IsTrail self.new.trail }
+    {
+        self.go_back(0);
+        self.trail.propagate()
+    }
 }

@@ -10,7 +10,6 @@ ghost use Rattle.heesch_cdcl.specs.Problem.{Problem, IsSolver, SameProblem, IsLe
 ghost use Rattle.heesch_cdcl.specs.Empty.{IsFirstEmpty, NoneEmpty};
 ghost use Rattle.heesch_cdcl.specs.Found.{IsFound, IsRefutedAtOnce};
 
-use crate::covers::Covers;
 use crate::empty::{first_empty, only};
 use crate::learning::{Ending, add_line, run};
 use crate::workspace::Workspace;
@@ -34,7 +33,6 @@ pub enum Found {
 pub struct Solver {
     turns: u32,
     empty: Option<u32>,
-    trail: Trail,
     work: Workspace,
     log: Log,
     kept: bool,
@@ -46,9 +44,9 @@ impl Model for Solver {
 
     ghost Value = { Problem };
 
-    ghost view = { λ s. problem_of s.turns s.trail s.log s.kept };
+    ghost view = { λ s. problem_of s.turns s.work.trail s.log s.kept };
 
-    ghost invariant = { λ s. IsInner s.turns s.empty s.trail s.work s.log s.kept };
+    ghost invariant = { λ s. IsInner s.turns s.empty s.work.trail s.log s.kept };
 }
 
 /// The values of the variables, in number order.
@@ -97,13 +95,10 @@ impl Solver {
         ensures valid { IfOk result IsSolver }
     {
         let empty = first_empty(&formula);
-        let covers = Covers::of(alloc, &formula)?;
-        let work = Workspace::new(alloc, covers, formula.vars())?;
         Ok(Solver {
             turns,
             empty,
-            trail: Trail::over(alloc, formula)?,
-            work,
+            work: Workspace::over(alloc, formula)?,
             log: Log {
                 lines: Seq::new(alloc),
                 last: None,
@@ -174,15 +169,9 @@ impl Solver {
         if self.log.last.is_some() {
             return Ok(Found::Refuted);
         }
-        match run(
-            self.alloc,
-            self.turns,
-            &mut self.log.lines,
-            &mut self.trail,
-            &mut self.work,
-        )? {
+        match run(self.alloc, self.turns, &mut self.log.lines, &mut self.work)? {
             Ending::Model => {
-                let values = values_in(self.alloc, &self.trail)?;
+                let values = values_in(self.alloc, &self.work.trail)?;
                 self.kept = true;
                 Ok(Found::Model { values })
             }
@@ -216,7 +205,6 @@ impl Solver {
         add_line(
             self.alloc,
             &mut self.log.lines,
-            &mut self.trail,
             &mut self.work,
             Line::Given { clause },
             0,

@@ -6,4 +6,4 @@ use Rattle.heesch_cdcl.proofs.learning.give_up.Goals as goal
 pub returns-in-None-clause-ended : goal.returns-in-None-clause-ended
 returns-in-None-clause-ended c =
     let found = c.in_ok-restart.ensures.found in
-    NoFinal-fixpoint c.restart.new.trail (subst (IsPropagated c.restart.new.trail) c.in-None.is found)
+    NoFinal-fixpoint c.restart.new.self.trail (subst (IsPropagated c.restart.new.self.trail) c.in-None.is found)

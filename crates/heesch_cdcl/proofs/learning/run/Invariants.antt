@@ -1,14 +1,12 @@
 use Rattle.std.proofs.Common.{◌≤◌, ◌-◌, length}
 use Rattle.heesch_cdcl.specs.Learning.{LearnsMore}
-use Rattle.heesch_cdcl.specs.Ready.{IsReady}
 use Rattle.heesch_cdcl.specs.Searching.{Searches, SameFormula}
 use Rattle.heesch_cdcl.proofs.learning.run.Given as goal
 
 abbrev pub invariant-loop-number : goal.invariant-loop-number
 invariant-loop-number l = record {
-  searching : Searches l.lines l.trail;
-  formula : SameFormula l.fn.lines l.fn.trail l.lines l.trail;
-  ready : IsReady l.trail l.work;
+  searching : Searches l.lines l.work.trail;
+  formula : SameFormula l.fn.lines l.fn.work.trail l.lines l.work.trail;
   few : length l.lines ≤ l.turns;
   learns : LearnsMore l.fn.lines l.lines;
 }

@@ -8,12 +8,6 @@ overflow_sub-place c =
     let m = c.loop-place.self.marks in
     place_left c.conflict.inside.trail.now c.loop-place.place m (reverse c.loop-place.self.hints.items) c.loop-place.invariant.resolving (omega arith)
 
-pub resolve_at-requires-clause-place : goal.resolve_at-requires-clause-place
-resolve_at-requires-clause-place c =
-    let m = c.loop-place.self.marks in
-    let left = place_left c.conflict.inside.trail.now c.loop-place.place m (reverse c.loop-place.self.hints.items) c.loop-place.invariant.resolving (omega arith) in
-    omega (arith, left, c.loop-place.invariant.resolving.derived.place_in)
-
 pub resolve_at-requires-clause-resolving : goal.resolve_at-requires-clause-resolving
 resolve_at-requires-clause-resolving c =
     let m = c.loop-place.self.marks in

@@ -10,8 +10,8 @@ invariant_of-self-then-is_at c =
     let n = c.args.var in
     let view = c.self.view_is in
     let room : length s.seen.items ≡ c.args.trail.now.vars + 1 = ap (λ (ms : Marking). length ms.seen) view ∙ c.requires.marks.seen_room in
-    let off : marked s.seen.items n ≡ false = sym (get_or_read s.seen.items n c.index.result.now (omega (arith, room, c.requires.range)) c.index.ensures false) ∙ c.if-index.false in
+    let off : marked s.seen.items n ≡ false = sym (get_or_read s.seen.items n c.index.result.now (omega (arith, room, c.requires.range.1)) c.index.ensures false) ∙ c.if-index.false in
     let pushed : c.push.new.self.items ≡ s.touched.items ++ n ∷ [] = search rules in
     subst (λ vs. AreCounted (set s.seen.items n true) (set s.here.items n true) vs (s.pending + 1)) (sym pushed)
-    (AreCounted-more s.seen.items s.here.items s.touched.items s.pending n c.self.invariant c.requires.low (omega (arith, room, c.requires.range))
+    (AreCounted-more s.seen.items s.here.items s.touched.items s.pending n c.self.invariant c.requires.range.0 (omega (arith, room, c.requires.range.1))
     (λ here. unmarked s.seen.items n off (ap (λ (ms : Marking). marked ms.seen n) view ∙ (c.requires.marks.here_seen n (sym (ap (λ (ms : Marking). marked ms.here n) view) ∙ here)).0)))
