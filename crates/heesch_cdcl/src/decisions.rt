@@ -1,10 +1,10 @@
 //! The choice of the next decision.
 ghost use Rattle.std.specs.Prelude.{◌≡◌, ◌+◌, ◌≤◌, IfSome, All, length};
 ghost use Rattle.heesch_cnf.specs.Lines.{IsNumber};
-ghost use Rattle.heesch_cdcl.specs.Covers.{Guides};
 ghost use Rattle.heesch_cdcl.specs.Search.{IsOpen, IsNextOpen, IsAnyOpen, IsChoice};
 
 use crate::covers::Covers;
+use crate::workspace::Workspace;
 use heesch_cnf::Lit;
 use heesch_trail::Trail;
 
@@ -111,45 +111,6 @@ impl Decisions {
         }
     }
 
-    /// The first clause with the fewest open literals, of those that are looked at.
-    fn fewest_open(&self, trail: &Trail) -> Fewest
-        requires { Guides self.now.covers trail.now }
-        ensures { result.number ≤ length trail.now.clauses }
-    {
-        let mut best = Fewest {
-            number: 0,
-            open: usize::MAX,
-        };
-        if self.covered == 0 {
-            best = fewest_in(trail, self.covers.guarded_by(0), best);
-        }
-        let made = trail.made();
-        for place in self.covered..made.len() {
-            if best.open <= LEAST {
-                return best;
-            }
-            let lit = made[place];
-            if lit.positive {
-                best = fewest_in(trail, self.covers.guarded_by(lit.var), best);
-            }
-        }
-        best
-    }
-
-    /// The last open literal of the clause with the fewest, if there is one.
-    fn cover(&mut self, trail: &Trail) -> Option<Lit>
-        requires { Guides self.old.covers trail.now }
-        ensures choice { IfSome result (λ l. IsOpen trail.now l.var) }
-        ensures same { self.new.covers ≡ self.old.covers }
-    {
-        let best = self.fewest_open(trail);
-        if best.number == 0 {
-            self.covered = trail.made().len();
-            return None;
-        }
-        last_open(trail, best.number)
-    }
-
     /// An open variable, the least where none before `passed` is open. All are scanned again only where none is left.
     fn open_variable(&mut self, trail: &Trail) -> Option<u32>
         ensures choice { IsAnyOpen trail.now result }
@@ -162,29 +123,67 @@ impl Decisions {
         open_after(trail, 0)
     }
 
-    /// The literal to decide, or None where no variable is open. The cost is that of counting the open literals of the
-    /// clauses whose guard is true, each up to a true literal or to as many as the best clause has, or of passing over
-    /// assigned variables.
-    pub fn choose(&mut self, trail: &Trail) -> Option<Lit>
-        requires { Guides self.old.covers trail.now }
-        ensures choice { IsChoice trail.now result }
-        ensures same { self.new.covers ≡ self.old.covers }
-    {
-        if let Some(lit) = self.cover(trail) {
-            return Some(lit);
-        }
-        let var = self.open_variable(trail)?;
-        Some(Lit {
-            var,
-            positive: false,
-        })
-    }
-
     /// Assignments are about to go: all clauses and all variables are looked at again.
     pub fn reset(&mut self)
         ensures { self.new.covers ≡ self.old.covers }
     {
         self.covered = 0;
         self.passed = 0;
+    }
+}
+
+impl Workspace {
+    /// The first clause with the fewest open literals, of those that are looked at.
+    fn fewest_open(&self) -> Fewest
+        ensures { result.number ≤ length self.now.trail.clauses }
+    {
+        let mut best = Fewest {
+            number: 0,
+            open: usize::MAX,
+        };
+        if self.decisions.covered == 0 {
+            best = fewest_in(&self.trail, self.decisions.covers.guarded_by(0), best);
+        }
+        let made = self.trail.made();
+        for place in self.decisions.covered..made.len() {
+            if best.open <= LEAST {
+                return best;
+            }
+            let lit = made[place];
+            if lit.positive {
+                best = fewest_in(&self.trail, self.decisions.covers.guarded_by(lit.var), best);
+            }
+        }
+        best
+    }
+
+    /// The last open literal of the clause with the fewest, if there is one.
+    fn cover(&mut self) -> Option<Lit>
+        ensures choice { IfSome result (λ l. IsOpen self.new.trail l.var) }
+        ensures same { self.new.trail ≡ self.old.trail }
+    {
+        let best = self.fewest_open();
+        if best.number == 0 {
+            self.decisions.covered = self.trail.made().len();
+            return None;
+        }
+        last_open(&self.trail, best.number)
+    }
+
+    /// The literal to decide, or None where no variable is open. The cost is that of counting the open literals of the
+    /// clauses whose guard is true, each up to a true literal or to as many as the best clause has, or of passing over
+    /// assigned variables.
+    pub fn choose(&mut self) -> Option<Lit>
+        ensures choice { IsChoice self.new.trail result }
+        ensures same { self.new.trail ≡ self.old.trail }
+    {
+        if let Some(lit) = self.cover() {
+            return Some(lit);
+        }
+        let var = self.decisions.open_variable(&self.trail)?;
+        Some(Lit {
+            var,
+            positive: false,
+        })
     }
 }

@@ -21,7 +21,7 @@ impl Workspace {
             if let Some(number) = self.trail.propagate()? {
                 return Ok(Some(number));
             }
-            let Some(lit) = self.decisions.choose(&self.trail) else {
+            let Some(lit) = self.choose() else {
                 return Ok(None);
             };
             self.trail.decide(lit)?;
