@@ -27,6 +27,7 @@ use Rattle.heesch_torus.specs.Beside.{with_bit, FillBeside}
 use Rattle.heesch_torus.specs.Masks.{IsMaskOf, HasDouble, HasMasksFrom}
 use Rattle.heesch_torus.specs.Covers.{HasAllPoints, unmoved, IsTileMask, AreExactMasks, HasNoCoverAt}
 use Rattle.heesch_torus.proofs.Beside.{bit_cases, index_of}
+use Rattle.heesch_torus.proofs.Images.{in_grid}
 use Rattle.heesch_torus.proofs.Numbering.{reduced_listed}
 use Rattle.heesch_torus.proofs.Shifted.{shifted, shifted_cover}
 use Rattle.heesch_torus.proofs.Masking.{one_mask, no_mask, mask_more, mask_double}
@@ -138,7 +139,7 @@ module _ (g : Geometry) (law : IsGrid g) (shape : List Cell) (form : IsPolyform 
         | inr d ↦ inr d
         | inl m ↦
             let c : Cell = get_or shape i zero_cell in
-            let cell : IsCell g (get_or shape i zero_cell) = All-contains (IsCell g) shape c form.is_set.in_grid (member_get shape i zero_cell (omega arith)) in
+            let cell : IsCell g (get_or shape i zero_cell) = in_grid g shape form c (member_get shape i zero_cell (omega arith)) in
             let k = index_of (reduced_cells g t) (residue g t (apply g by c)) ((reduced_listed g t law triple).every (residue g t (apply g by c)) (image_residue by p c cell)) in
             let next : i + 1 ≡ suc i = omega arith in
             elim (bit_cases m.0 k.0) [

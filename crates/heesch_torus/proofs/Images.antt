@@ -17,9 +17,13 @@ use Rattle.heesch_tiling.proofs.Steps.{map_length}
 use Rattle.heesch_torus.specs.Repeats.{HasRepeat, HasNoRepeat}
 use Rattle.heesch_torus.proofs.Repeating.{rising_from_sorted, Shorter, shorter, fits}
 
-module _ (g : Geometry) (law : IsGrid g) (shape : List Cell) (form : IsPolyform g shape) (t : Triple) (triple : IsTriple t) (by : Iso) (turn : IsIsometry g by) where
+-- the cells of a polyform are cells of the grid
+pub in_grid : (g : Geometry) (shape : List Cell) → IsPolyform g shape → (c : Cell) → Contains shape c → IsCell g c
+in_grid g shape form c m = All-contains (IsCell g) shape c form.is_set.in_grid m
+
+module _ (g : Geometry) (law : IsGrid g) (shape : List Cell) (cells : (c : Cell) → Contains shape c → IsCell g c) (t : Triple) (triple : IsTriple t) (by : Iso) (turn : IsIsometry g by) where
   pub image_cell : (c : Cell) → Contains (image g by shape) c → IsCell g c
-  image_cell c m = let r = map_member (apply g by) shape c m in subst (λ z. IsCell g z) r.2 (law.cells_kept by turn r.0 (All-contains (IsCell g) shape r.0 form.is_set.in_grid r.1))
+  image_cell c m = let r = map_member (apply g by) shape c m in subst (λ z. IsCell g z) r.2 (law.cells_kept by turn r.0 (cells r.0 r.1))
 
   -- the members of the reduced cells are the reduced cells of the image
   pub from_tile : (c : Cell) → Contains (tile_residues g shape t by) c → IsReducedFrom g t (image g by shape) c

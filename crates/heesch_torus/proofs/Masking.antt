@@ -1,6 +1,6 @@
 -- Masks of tiles, one cell and one tile more.
 use Rattle.std.proofs.Common.{◌≡◌, ◌≢◌, refl, sym, ap, subst, ◌∙◌, ℕ, zero, suc, ◌+◌, ◌-◌, ◌*◌, ◌/◌, ◌%◌, ◌^◌, ◌<◌, ◌≤◌, List, [], ◌∷◌, ◌++◌, map, filter, length, take, get_or, Bool, true, false, cond, ◌⊎◌, inl, inr, arith, bit_or, Contains, true≢false}
-use Rattle.std.specs.Prelude.{ℤ, ◌+ℤ◌, Some, None, nat_lt, slice_index, unwrap_or}
+use Rattle.std.specs.Prelude.{Some, None, nat_lt, slice_index, unwrap_or}
 use Rattle.std.specs.List.{range_with_len, slice_get}
 use Rattle.std.specs.Int.{bit_at, w64}
 use Rattle.std.proofs.lemmas.Nat.Bits.{bit_at-zero, bit_at-lt, bit_at_set_same, bit_at_set_other, ones_shr, bit_at_ones, bit_at_ones_above, same_from_bits}
@@ -13,12 +13,11 @@ use Rattle.heesch_grid.specs.declared.Cell.{Cell}
 use Rattle.heesch_grid.specs.declared.isometries.Iso.{Iso}
 use Rattle.heesch_grid.specs.Cells.{same_cell, cell_before}
 use Rattle.heesch_grid.specs.Geometry.{Geometry, IsGrid, IsCell, IsIsometry, apply}
-use Rattle.heesch_grid.specs.Lattice.{Triple, IsTriple, IsReduced, translated}
+use Rattle.heesch_grid.specs.Lattice.{Triple, IsTriple, IsReduced}
 use Rattle.heesch_grid.specs.Listing.{IsRising}
 use Rattle.heesch_grid.specs.Pairs.{same_cell-true, same_cell-is}
 use Rattle.heesch_grid.proofs.ListFacts.{member_cases, member_here, no_member, member_at}
 use Rattle.heesch_grid.proofs.CellFacts.{cell_before-irreflexive}
-use Rattle.heesch_grid.proofs.ReductionFacts.{vector_i, vector_j, is_reduced, reduced_once, translated_twice, translated_cell}
 use Rattle.heesch_tiling.specs.Counting.{residue, tile_residues, times_in, window_size, in_window}
 use Rattle.heesch_tiling.proofs.Tallies.{times_append, tile_more, times_begun}
 use Rattle.heesch_torus.specs.Formula.{reduced_cells}

@@ -35,7 +35,7 @@ use Rattle.heesch_torus.specs.Answer.{AreChosenPlaces, IsChosenCover}
 use Rattle.heesch_torus.specs.Chosen.{chosen, chosen_places, chosen_tiling}
 use Rattle.heesch_torus.specs.Variables.{TorusVariable, sets_of, HasIsometry, AreVariables}
 use Rattle.heesch_torus.proofs.Repeating.{Shorter, fits}
-use Rattle.heesch_torus.proofs.Images.{from_tile, in_tile, tile_count}
+use Rattle.heesch_torus.proofs.Images.{in_grid, from_tile, in_tile, tile_count}
 use Rattle.heesch_torus.proofs.Numbering.{rising_map, reduced_listed}
 
 abbrev pub Entry : Type 0
@@ -85,16 +85,16 @@ module _ (g : Geometry) (law : IsGrid g) (shape : List Cell) (form : IsPolyform 
       let turn : IsIsometry g by = k.is_isometry in
       elim (cases_Bool (has r c)) [
         | inl h ↦
-            let some = times_some (tile_residues g shape t by) c (in_tile g law shape form t triple by turn c (All-contains (IsReducedFrom g t (image g by shape)) r c k.lists.only (has-true r c h))) in
+            let some = times_some (tile_residues g shape t by) c (in_tile g law shape (in_grid g shape form) t triple by turn c (All-contains (IsReducedFrom g t (image g by shape)) r c k.lists.only (has-true r c h))) in
             elim (cases_order (times_in (tile_residues g shape t by) c) 1) [
               | inl e ↦ e ∙ ap (λ b. length (cond b (c ∷ []) [])) (sym h)
               | inr o ↦ elim o [
                 | inl none ↦ absurd (omega arith)
                 | inr two ↦
                     let s : Shorter (tile_residues g shape t by) = shorter_from_two (tile_residues g shape t by) c two in
-                    let few = fits r s.list k.lists.rising (λ d m. s.keeps d (in_tile g law shape form t triple by turn d (All-contains (IsReducedFrom g t (image g by shape)) r d k.lists.only m))) in
+                    let few = fits r s.list k.lists.rising (λ d m. s.keeps d (in_tile g law shape (in_grid g shape form) t triple by turn d (All-contains (IsReducedFrom g t (image g by shape)) r d k.lists.only m))) in
                     let all = k.all_differ in
-                    let count = tile_count g law shape form t triple by turn in
+                    let count = tile_count g law shape (in_grid g shape form) t triple by turn in
                     let less = s.less in
                     absurd (omega arith)
               ]
@@ -104,7 +104,7 @@ module _ (g : Geometry) (law : IsGrid g) (shape : List Cell) (form : IsPolyform 
               | inl e ↦ e
               | inr o ↦ elim o [
                 | inl less ↦ absurd (omega arith)
-                | inr more ↦ absurd (has-false r c f (k.lists.every c (from_tile g law shape form t triple by turn c (times_member (tile_residues g shape t by) c more))))
+                | inr more ↦ absurd (has-false r c f (k.lists.every c (from_tile g law shape (in_grid g shape form) t triple by turn c (times_member (tile_residues g shape t by) c more))))
               ]
             ] in
             none ∙ ap (λ b. length (cond b (c ∷ []) [])) (sym f)

@@ -1,5 +1,5 @@
 -- Reduced cells, moved: a lattice vector doesn't change what a cell is reduced to, and moving what a cell is reduced to leads where moving the cell does.
-use Rattle.std.proofs.Common.{◌≡◌, refl, sym, ap, subst, ◌∙◌, ℕ, List, [], ◌∷◌, map, arith, Contains}
+use Rattle.std.proofs.Common.{◌≡◌, refl, sym, ap, subst, ◌∙◌, List, [], ◌∷◌, map, arith, Contains}
 use Rattle.std.specs.Prelude.{ℤ, pos, ◌+ℤ◌, ◌*ℤ◌}
 use lib.IntN.{zero-*ℤ}
 use Rattle.std.proofs.lemmas.Int.{ints}

@@ -1,8 +1,7 @@
 -- Tiles as the numbers of their reduced cells: their words, one step further, and the table of a step.
-use Rattle.std.proofs.Common.{◌≡◌, ◌≢◌, refl, sym, ap, subst, ◌∙◌, ℕ, zero, suc, ◌+◌, ◌*◌, ◌/◌, ◌%◌, ◌<◌, ◌≤◌, List, [], ◌∷◌, ◌++◌, map, filter, length, take, get_or, Bool, true, false, cond, ◌==◌, inl, inr, arith, All, Contains}
+use Rattle.std.proofs.Common.{◌≡◌, refl, sym, ap, subst, ◌∙◌, ℕ, zero, suc, ◌+◌, ◌*◌, ◌/◌, ◌%◌, ◌<◌, ◌≤◌, List, [], ◌∷◌, ◌++◌, map, filter, length, Bool, true, false, cond, ◌==◌, inl, inr, arith, All, Contains}
 use Rattle.std.specs.Prelude.{ℤ, pos, ◌+ℤ◌, Option, Some, None, is_some, IfSome, IfNone, slice_index}
 use Rattle.std.specs.List.{range_with_len, slice_get, count_by}
-use Rattle.std.specs.Int.{bit_at}
 use Rattle.std.proofs.lemmas.Bool.{cases_Bool, cases_lt}
 use Rattle.std.proofs.lemmas.Int.{ints}
 use Rattle.std.proofs.lemmas.List.{length-map, map-append}
@@ -14,7 +13,7 @@ use Rattle.heesch_grid.specs.declared.Cell.{Cell}
 use Rattle.heesch_grid.specs.declared.isometries.Iso.{Iso}
 use Rattle.heesch_grid.specs.Cells.{same_cell, cell_before}
 use Rattle.heesch_grid.specs.Geometry.{Geometry, IsGrid, IsCell, IsIsometry, apply, moved}
-use Rattle.heesch_grid.specs.Lattice.{Triple, IsTriple, IsReduced}
+use Rattle.heesch_grid.specs.Lattice.{Triple, IsReduced}
 use Rattle.heesch_grid.specs.Listing.{IsRising}
 use Rattle.heesch_grid.specs.Pairs.{same_cell-true, same_cell-is}
 use Rattle.heesch_grid.proofs.ListFacts.{member_cases, member_here, member_there, member_at, no_member, All-from_members}

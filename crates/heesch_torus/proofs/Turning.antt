@@ -3,15 +3,15 @@ use Rattle.std.proofs.Common.{◌≡◌, sym, subst, ℕ, ◌+◌, ◌-◌, ◌*
 use Rattle.std.specs.List.{sum}
 use Rattle.std.proofs.lemmas.List.Sums.{sum_by-cons}
 use Rattle.std.proofs.lemmas.Bool.{cases_order}
-use Rattle.std.proofs.lemmas.List.Elements.{All-contains}
 use Rattle.heesch_grid.specs.declared.Cell.{Cell}
-use Rattle.heesch_grid.specs.Geometry.{Geometry, IsGrid, IsCell}
+use Rattle.heesch_grid.specs.Geometry.{Geometry, IsGrid}
 use Rattle.heesch_grid.specs.Lattice.{Triple, IsTriple}
 use Rattle.heesch_grid.specs.Polyform.{IsPolyform}
 use Rattle.heesch_torus.specs.Formula.{reduced_cells}
 use Rattle.heesch_torus.specs.Beside.{FillBeside, CountsChoices}
 use Rattle.heesch_torus.specs.Masks.{IsMaskOf, AddsMasks, HasMasksFrom}
 use Rattle.heesch_torus.specs.Covers.{HasAllPoints, unmoved, HasNoCoverAt, HasPartialCovers, HasPartialCoversFrom, AreFewNodes}
+use Rattle.heesch_torus.proofs.Images.{in_grid}
 use Rattle.heesch_torus.proofs.Masking.{masks_of_turn}
 use Rattle.heesch_torus.proofs.Filled.{no_cover_at}
 
@@ -66,7 +66,7 @@ pub masks_now : (g : Geometry) → IsGrid g → (shape : List Cell) (t : Triple)
 masks_now g law shape t triple form turns done all less old new masks e have adds =
     let before : g.turns - done ≡ turns - 1 - done + 1 = omega arith in
     subst (HasMasksFrom g shape t (turns - 1 - done)) (sym e)
-    (masks_of_turn g shape t law triple (λ d m. All-contains (IsCell g) shape d form.is_set.in_grid m) (turns - 1 - done) old new (omega arith) (subst (λ n. HasMasksFrom g shape t n old) before have) adds)
+    (masks_of_turn g shape t law triple (in_grid g shape form) (turns - 1 - done) old new (omega arith) (subst (λ n. HasMasksFrom g shape t n old) before have) adds)
 
 module _ (g : Geometry) (law : IsGrid g) (shape : List Cell) (form : IsPolyform g shape) (t : Triple) (triple : IsTriple t) (full : ℕ) (points : HasAllPoints g t full) (small : length (reduced_cells g t) ≤ 64) (turns done : ℕ) (all : turns ≡ g.turns) (less : done < turns) where
   pub next_masks : (masks : List ℕ) → HasMasksFrom g shape t (turns - 1 - done) masks → HasMasksFrom g shape t (g.turns - (done + 1)) masks

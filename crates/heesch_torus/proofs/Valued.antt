@@ -35,7 +35,7 @@ use Rattle.heesch_torus.specs.Formula.{reduced_cells}
 use Rattle.heesch_torus.specs.Masks.{IsMaskOf, HasDouble}
 use Rattle.heesch_torus.specs.Variables.{TorusVariable, sets_of, HasIsometry, AreVariables}
 use Rattle.heesch_torus.proofs.Beside.{index_of, bit_cases, with_bit_filter}
-use Rattle.heesch_torus.proofs.Images.{from_tile, in_tile, tile_count}
+use Rattle.heesch_torus.proofs.Images.{in_grid, from_tile, in_tile, tile_count}
 use Rattle.heesch_torus.proofs.Masking.{one_mask, double_unmasked}
 use Rattle.heesch_torus.proofs.Modelled.{Numbered, TwoOf, two_of, of_variable, member_some, tile_times, with_cell, once_covers, chosen_cover}
 use Rattle.heesch_torus.proofs.Numbering.{reduced_listed}
@@ -61,7 +61,7 @@ module _ (g : Geometry) (law : IsGrid g) (shape : List Cell) (form : IsPolyform 
   set_of_mask by p m is =
       let xs : List Cell = tile_residues g shape t by in
       let few : (c : Cell) → Contains (tile_residues g shape t by) c → times_in (tile_residues g shape t by) c ≤ 1 = λ c i.
-      let k = point_of c (from_tile g law shape form t triple by p c i).reduced in
+      let k = point_of c (from_tile g law shape (in_grid g shape form) t triple by p c i).reduced in
       let e = is.cells k.0 c k.1 in
       elim (bit_cases m k.0) [ inl z ↦ omega arith | inr o ↦ omega arith ]
       in
@@ -69,10 +69,10 @@ module _ (g : Geometry) (law : IsGrid g) (shape : List Cell) (form : IsPolyform 
         is_isometry = p;
         lists = record {
           rising = (sorted_list xs).rising;
-          only = All-from_members (IsReducedFrom g t (image g by shape)) (sorted xs) (λ c i. from_tile g law shape form t triple by p c (has_sorted xs c i));
-          every = λ c a. sorted_has xs c (in_tile g law shape form t triple by p c a);
+          only = All-from_members (IsReducedFrom g t (image g by shape)) (sorted xs) (λ c i. from_tile g law shape (in_grid g shape form) t triple by p c (has_sorted xs c i));
+          every = λ c a. sorted_has xs c (in_tile g law shape (in_grid g shape form) t triple by p c a);
         };
-        all_differ = sorted_length xs (no_repeat xs few) ∙ tile_count g law shape form t triple by p;
+        all_differ = sorted_length xs (no_repeat xs few) ∙ tile_count g law shape (in_grid g shape form) t triple by p;
       }
 
   -- the bits of a tile's mask are those of its residue set

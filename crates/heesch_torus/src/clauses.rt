@@ -1,13 +1,13 @@
 //! The clauses that say that each reduced cell is covered.
-ghost use Rattle.std.specs.Prelude.{◌≡◌, ◌<◌, ◌≤◌, ◌+◌, ◌^◌, ◌∷◌, [], map, length, All, OnOk};
+ghost use Rattle.std.specs.Prelude.{◌≡◌, ◌<◌, ◌≤◌, ◌^◌, ◌∷◌, [], map, length, IfOk, OnOk};
 ghost use Rattle.heesch_cert.specs.Literals.{literals};
 ghost use Rattle.heesch_torus.specs.Covering.{AreNumbers, cell_lists};
 ghost use Rattle.heesch_torus.specs.Formula.{AddsClauses};
 
+use crate::incidence::Incidence;
 use heesch_cnf::{FlatFormula, Lit};
 use heesch_grid::Grid;
-use heesch_io::{NoMemory, Seq};
-use heesch_lattice::Triple;
+use heesch_io::NoMemory;
 use heesch_tiling::pair_at;
 use std::alloc::Global;
 
@@ -41,27 +41,26 @@ fn add_clause(
     formula.add(clause.as_slice())
 }
 
-/// Adds the clause of each reduced cell, in cell order: the variables that have it.
-pub(crate) fn add_covering_clauses<G: Grid>(
+/// The clause of each reduced cell, in cell order: the variables that have it.
+pub(crate) fn covering_clauses<G: Grid>(
     alloc: Global,
-    formula: &mut FlatFormula,
-    triple: Triple,
-    lists: &[Seq<u32>],
-) -> Result<(), NoMemory>
-    requires numbers { All (AreNumbers formula.old.vars) lists.now }
-    requires small { length lists.now ≤ 1000000 }
-    requires room { length formula.old.clauses ≤ 1000000 }
-    ensures adds { OnOk result
-        (AddsClauses (map (map literals.plus)
-        (cell_lists G.geometry triple
-        lists.now)) formula.old.vars formula.old.clauses formula.new.vars formula.new.clauses) }
-    ensures few { OnOk result (length formula.new.clauses ≤ length formula.old.clauses + length lists.now) }
+    incidence: &Incidence<G>,
+) -> Result<FlatFormula, NoMemory>
+    ensures vars { IfOk result (λ f. f.vars ≡ length incidence.now.sets.now.variables.now) }
+    ensures clauses { IfOk result
+        (λ f. f.clauses ≡ map (map literals.plus)
+        (cell_lists G.geometry incidence.now.sets.now.triple incidence.now.lists.now)) }
+    ensures few { IfOk result (λ f. length f.clauses ≤ 13824) }
 {
+    let sets = incidence.sets;
+    let triple = sets.triple;
+    let lists = incidence.lists;
+    let mut formula = FlatFormula::new(alloc, sets.variables.len() as u32);
     let mut clause = Vec::new(alloc);
     for (k, list) in lists.iter().enumerate() {
         if G::is_cell(pair_at::<G>(triple, k)) {
-            add_clause(formula, &mut clause, list.as_slice())?;
+            add_clause(&mut formula, &mut clause, list.as_slice())?;
         }
     }
-    Ok(())
+    Ok(formula)
 }

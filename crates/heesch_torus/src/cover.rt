@@ -1,30 +1,33 @@
 //! The search for a cover of a triple that keeps no log.
-ghost use Rattle.std.specs.Prelude.{◌≡◌, ◌↔◌, ◌<◌, ◌≤◌, ◌+◌, ◌*◌, ℕ, true, length, IfOk, OnOk};
+ghost use Rattle.std.specs.Prelude.{◌≡◌, ◌↔◌, ◌<◌, ◌≤◌, ◌+◌, ℕ, true, length, IfOk, OnOk};
 ghost use Rattle.heesch_grid.specs.declared.Cell.{Cell};
 ghost use Rattle.heesch_grid.specs.Cells.{has};
 ghost use Rattle.heesch_grid.specs.Polyform.{IsPolyform};
 ghost use Rattle.heesch_grid.specs.Vectors.{IsWithin};
 ghost use Rattle.heesch_tiling.specs.Counting.{IsInRange};
 ghost use Rattle.heesch_torus.specs.Answer.{IsChosenCover};
-ghost use Rattle.heesch_torus.specs.Covers.{IsCoverAnswer, HasAllPoints, HasMaskAmong, HasExactMasks, AreValuesOf};
+ghost use Rattle.heesch_torus.specs.Covers.{IsCoverAnswer, HasMaskAmong, HasExactMasks, AreValuesOf};
 ghost use Rattle.heesch_torus.specs.Covers.{HasPartialCovers, IsFillingAt, IsTorusFilling};
 ghost use Rattle.heesch_torus.specs.Domain.{HasDomain};
-ghost use Rattle.heesch_torus.specs.Masks.{IsMaskable, HasMasksFrom};
+ghost use Rattle.heesch_torus.specs.Masks.{HasMasksFrom};
 ghost use Rattle.heesch_torus.specs.Variables.{AreVariables};
 
 use crate::filling::{Filling, fill_beside};
 use crate::found::Variable;
 use crate::masks::{add_masks, mask_of};
+use crate::near_iso::NearIso;
 use crate::places::chosen_tiling;
 use crate::points::{all_points, points_of};
 use crate::steps::steps_of;
+use crate::torus::Torus;
 use crate::variables::variables_of;
 use heesch_cert::Tiling;
-use heesch_grid::{Cell, Grid, Iso};
+use heesch_grid::{Grid, Iso};
 use heesch_io::{NoMemory, Seq};
 use heesch_lattice::Triple;
 use heesch_shape::Shape;
 use std::alloc::Global;
+use std::marker::PhantomData;
 
 /// Whether there is a cover for a triple, as far as it was searched.
 #[derive(Drop)]
@@ -40,28 +43,27 @@ pub enum CoverAnswer {
 /// Searches for masks that, with the tile of a turn at (0, 0), have each point once.
 fn fill_at<G: Grid>(
     alloc: Global,
-    numbers: &[u32],
-    cells: &[Cell],
-    triple: Triple,
+    torus: &Torus<G>,
     turn: u32,
     masks: &[u64],
-    full: u64,
     nodes: &mut u32,
 ) -> Result<Filling, NoMemory>
-    requires maskable { IsMaskable G.geometry cells.now triple numbers.now }
-    requires small { triple.p * triple.q ≤ 384 }
     requires turn { turn < G.geometry.turns }
-    requires masks { HasMasksFrom G.geometry cells.now triple turn masks.now }
-    requires full { HasAllPoints G.geometry triple full }
-    ensures answer { IfOk result (IsFillingAt G.geometry cells.now triple turn masks.now full nodes.old) }
-    ensures spent { OnOk result ((count : ℕ) × HasPartialCovers G.geometry cells.now triple full turn count
+    requires masks { HasMasksFrom G.geometry torus.now.cells.now torus.now.triple turn masks.now }
+    ensures answer { IfOk result
+        (IsFillingAt G.geometry torus.now.cells.now torus.now.triple turn masks.now torus.now.full nodes.old) }
+    ensures spent { OnOk result ((count : ℕ)
+        × HasPartialCovers G.geometry torus.now.cells.now torus.now.triple torus.now.full turn count
         × (nodes.old ≤ nodes.new + count)) }
 {
-    let unmoved = Iso { turn, da: 0, db: 0 };
-    let Some(first) = mask_of::<G>(numbers, cells, triple, unmoved) else {
+    let unmoved = NearIso::<G> {
+        iso: Iso { turn, da: 0, db: 0 },
+        grid: PhantomData,
+    };
+    let Some(first) = mask_of(torus, &unmoved) else {
         return Ok(Filling::None);
     };
-    let filling = fill_beside(alloc, masks, first, full, nodes)?;
+    let filling = fill_beside(alloc, masks, first, torus.full, nodes)?;
     match filling {
         Filling::Filled { mut masks } => {
             masks.push(first)?;
@@ -73,27 +75,17 @@ fn fill_at<G: Grid>(
 }
 
 /// Searches for masks of tiles that have each point once. A tile of the least turn stands at (0, 0).
-fn fill_torus<G: Grid>(
-    alloc: Global,
-    numbers: &[u32],
-    cells: &[Cell],
-    triple: Triple,
-    full: u64,
-    nodes: u32,
-) -> Result<Filling, NoMemory>
-    requires maskable { IsMaskable G.geometry cells.now triple numbers.now }
-    requires small { triple.p * triple.q ≤ 384 }
-    requires form { IsPolyform G.geometry cells.now }
-    requires full { HasAllPoints G.geometry triple full }
-    ensures { IfOk result (IsTorusFilling G.geometry cells.now triple full nodes) }
+fn fill_torus<G: Grid>(alloc: Global, torus: &Torus<G>, nodes: u32) -> Result<Filling, NoMemory>
+    requires { IsPolyform G.geometry torus.now.cells.now }
+    ensures { IfOk result (IsTorusFilling G.geometry torus.now.cells.now torus.now.triple torus.now.full nodes) }
 {
     let mut masks = Vec::new(alloc);
     let mut left = nodes;
-    let steps = steps_of::<G>(numbers, triple);
+    let steps = steps_of(torus);
     for done in 0..G::TURNS {
         let turn = G::TURNS - 1 - done;
-        add_masks::<G>(&mut masks, numbers, &steps, cells, triple, turn)?;
-        let filling = fill_at::<G>(alloc, numbers, cells, triple, turn, &masks, full, &mut left)?;
+        add_masks(&mut masks, torus, &steps, turn)?;
+        let filling = fill_at(alloc, torus, turn, &masks, &mut left)?;
         match filling {
             Filling::Filled { masks } => return Ok(Filling::Filled { masks }),
             Filling::Open => return Ok(Filling::Open),
@@ -104,18 +96,15 @@ fn fill_torus<G: Grid>(
 }
 
 /// Whether the mask of a variable is among these.
-fn is_among<G: Grid>(
-    numbers: &[u32],
-    cells: &[Cell],
-    triple: Triple,
-    masks: &[u64],
-    by: Iso,
-) -> bool
-    requires maskable { IsMaskable G.geometry cells.now triple numbers.now }
-    requires range { IsInRange G.geometry by }
-    ensures { (result ≡ true) ↔ HasMaskAmong G.geometry cells.now triple masks.now by }
+fn is_among<G: Grid>(torus: &Torus<G>, masks: &[u64], by: Iso) -> bool
+    requires { IsInRange G.geometry by }
+    ensures { (result ≡ true) ↔ HasMaskAmong G.geometry torus.now.cells.now torus.now.triple masks.now by }
 {
-    let Some(mask) = mask_of::<G>(numbers, cells, triple, by) else {
+    let near = NearIso::<G> {
+        iso: by,
+        grid: PhantomData,
+    };
+    let Some(mask) = mask_of(torus, &near) else {
         return false;
     };
     masks.contains(&mask)
@@ -124,41 +113,30 @@ fn is_among<G: Grid>(
 /// Which of the variables have their mask among these.
 fn values_of<G: Grid>(
     alloc: Global,
-    numbers: &[u32],
-    cells: &[Cell],
-    triple: Triple,
+    torus: &Torus<G>,
     masks: &[u64],
     variables: &[Variable],
 ) -> Result<Seq<bool>, NoMemory>
-    requires maskable { IsMaskable G.geometry cells.now triple numbers.now }
-    requires small { triple.p * triple.q ≤ 384 }
-    requires variables { AreVariables G.geometry cells.now triple variables.now }
-    ensures { IfOk result (AreValuesOf G.geometry cells.now triple masks.now variables.now) }
+    requires { AreVariables G.geometry torus.now.cells.now torus.now.triple variables.now }
+    ensures { IfOk result
+        (AreValuesOf G.geometry torus.now.cells.now torus.now.triple masks.now variables.now) }
 {
     let mut values = Seq::new(alloc);
     for variable in variables {
-        values.push(is_among::<G>(numbers, cells, triple, masks, variable.by))?;
+        values.push(is_among(torus, masks, variable.by))?;
     }
     Ok(values)
 }
 
 /// The cover by the tiles whose masks these are.
-fn cover_of<G: Grid>(
-    alloc: Global,
-    numbers: &[u32],
-    cells: &[Cell],
-    triple: Triple,
-    masks: &[u64],
-) -> Result<Tiling, NoMemory>
-    requires maskable { IsMaskable G.geometry cells.now triple numbers.now }
-    requires small { triple.p * triple.q ≤ 384 }
-    requires form { IsPolyform G.geometry cells.now }
-    requires size { length cells.now ≤ 32 }
-    requires exact { HasExactMasks G.geometry cells.now triple masks.now }
-    ensures { IfOk result (IsChosenCover G.geometry cells.now triple) }
+fn cover_of<G: Grid>(alloc: Global, torus: &Torus<G>, masks: &[u64]) -> Result<Tiling, NoMemory>
+    requires form { IsPolyform G.geometry torus.now.cells.now }
+    requires exact { HasExactMasks G.geometry torus.now.cells.now torus.now.triple masks.now }
+    ensures { IfOk result (IsChosenCover G.geometry torus.now.cells.now torus.now.triple) }
 {
-    let variables = variables_of::<G>(alloc, cells, triple)?;
-    let values = values_of::<G>(alloc, numbers, cells, triple, masks, variables.as_slice())?;
+    let triple = torus.triple;
+    let variables = variables_of::<G>(alloc, torus.cells, triple)?;
+    let values = values_of(alloc, torus, masks, variables.as_slice())?;
     chosen_tiling(alloc, triple, variables.as_slice(), values.as_slice())
 }
 
@@ -192,10 +170,17 @@ pub fn find_cover<G: Grid>(
         return Ok(CoverAnswer::Open);
     }
     let full = all_points(points.count);
-    let filling = fill_torus::<G>(alloc, &points.numbers, cells, triple, full, nodes)?;
+    let torus = Torus::<G> {
+        cells,
+        triple,
+        numbers: &points.numbers,
+        full,
+        grid: PhantomData,
+    };
+    let filling = fill_torus(alloc, &torus, nodes)?;
     match filling {
         Filling::Filled { masks } => {
-            let tiling = cover_of::<G>(alloc, &points.numbers, cells, triple, masks.as_slice())?;
+            let tiling = cover_of(alloc, &torus, masks.as_slice())?;
             Ok(CoverAnswer::Tiles { tiling })
         }
         Filling::None => Ok(CoverAnswer::None),

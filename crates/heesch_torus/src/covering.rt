@@ -7,11 +7,13 @@ ghost use Rattle.heesch_torus.specs.Variables.{sets_of, AreReducedSets, IsReduce
 ghost use Rattle.heesch_torus.specs.Covering.{AreCovering, AddsNumber};
 
 use crate::found::Variable;
+use crate::incidence::TorusSets;
 use heesch_grid::{Cell, Grid};
 use heesch_io::{NoMemory, Seq};
 use heesch_lattice::Triple;
 use heesch_tiling::{number_of, window_size};
 use std::alloc::Global;
+use std::marker::PhantomData;
 
 /// Adds a number to the k-th list.
 fn add_to(lists: &mut [Seq<u32>], k: usize, variable: u32) -> Result<(), NoMemory>
@@ -51,17 +53,12 @@ fn empty_lists(alloc: Global, count: usize) -> Result<Vec<Seq<u32>>, NoMemory>
 }
 
 /// Adds the numbers of the variables to the lists of their cells.
-fn add_variables<G: Grid>(
-    lists: &mut [Seq<u32>],
-    triple: Triple,
-    variables: &[Variable],
-) -> Result<(), NoMemory>
-    requires triple { IsTriple triple }
-    requires sets { AreReducedSets G.geometry triple (sets_of variables.now) }
-    requires few { length variables.now ≤ 4608 }
-    requires none { AreCovering G.geometry triple [] lists.old }
-    ensures { OnOk result (AreCovering G.geometry triple (sets_of variables.now) lists.new) }
+fn add_variables<G: Grid>(lists: &mut [Seq<u32>], sets: &TorusSets<G>) -> Result<(), NoMemory>
+    requires { AreCovering G.geometry sets.now.triple [] lists.old }
+    ensures { OnOk result (AreCovering G.geometry sets.now.triple (sets_of sets.now.variables.now) lists.new) }
 {
+    let triple = sets.triple;
+    let variables = sets.variables;
     for (before, variable) in variables.iter().enumerate() {
         add_variable::<G>(
             lists,
@@ -71,6 +68,19 @@ fn add_variables<G: Grid>(
         )?;
     }
     Ok(())
+}
+
+/// For each pair of the window the numbers of the variables that have it, in rising order.
+pub(crate) fn lists_of_sets<G: Grid>(
+    alloc: Global,
+    sets: &TorusSets<G>,
+) -> Result<Vec<Seq<u32>>, NoMemory>
+    ensures { IfOk result
+        (λ lists. AreCovering G.geometry sets.now.triple (sets_of sets.now.variables.now) lists.items) }
+{
+    let mut lists = empty_lists(alloc, window_size::<G>(sets.triple))?;
+    add_variables(&mut lists, sets)?;
+    Ok(lists)
 }
 
 /// For each pair of the window the numbers of the variables that have it, in rising order.
@@ -87,7 +97,10 @@ pub fn covering_lists<G: Grid>(
     requires few { length variables.now ≤ 4608 }
     ensures { IfOk result (λ lists. AreCovering G.geometry triple (sets_of variables.now) lists.items) }
 {
-    let mut lists = empty_lists(alloc, window_size::<G>(triple))?;
-    add_variables::<G>(&mut lists, triple, variables)?;
-    Ok(lists)
+    let sets = TorusSets::<G> {
+        triple,
+        variables,
+        grid: PhantomData,
+    };
+    lists_of_sets(alloc, &sets)
 }

@@ -1,19 +1,19 @@
 //! The torus formula, in one array.
-ghost use Rattle.std.specs.Prelude.{◌≡◌, ◌≤◌, ◌*◌, true, length, IfOk};
+ghost use Rattle.std.specs.Prelude.{◌≡◌, ◌≤◌, true, length, IfOk};
 ghost use Rattle.heesch_grid.specs.declared.Cell.{Cell};
 ghost use Rattle.heesch_grid.specs.Cells.{has};
-ghost use Rattle.heesch_grid.specs.Lattice.{IsTriple};
 ghost use Rattle.heesch_grid.specs.Polyform.{IsPolyform};
 ghost use Rattle.heesch_grid.specs.TorusFormula.{torus_clauses};
 ghost use Rattle.heesch_grid.specs.Vectors.{IsWithin};
 ghost use Rattle.heesch_cert.specs.Literals.{literals};
 ghost use Rattle.heesch_torus.specs.Domain.{HasDomain};
 ghost use Rattle.heesch_torus.specs.Formula.{reduced_cells, IsFormulaOf, HasModelWhereCover};
-ghost use Rattle.heesch_torus.specs.Variables.{sets_of, AreReducedSets, AreVariables};
+ghost use Rattle.heesch_torus.specs.Variables.{sets_of, AreVariables};
 
-use crate::clauses::add_covering_clauses;
-use crate::covering::covering_lists;
+use crate::clauses::covering_clauses;
+use crate::covering::lists_of_sets;
 use crate::found::Variable;
+use crate::incidence::{Incidence, TorusSets};
 use crate::pairs::add_pair_clauses;
 use crate::variables::variables_of;
 use heesch_cnf::FlatFormula;
@@ -22,33 +22,19 @@ use heesch_io::NoMemory;
 use heesch_lattice::Triple;
 use heesch_shape::Shape;
 use std::alloc::Global;
+use std::marker::PhantomData;
 
 /// The formula over these variables.
-fn formula_of<G: Grid>(
-    alloc: Global,
-    triple: Triple,
-    variables: &[Variable],
-) -> Result<FlatFormula, NoMemory>
-    requires triple { IsTriple triple }
-    requires small { triple.p * triple.q ≤ 384 }
-    requires sets { AreReducedSets G.geometry triple (sets_of variables.now) }
-    requires few { length variables.now ≤ 4608 }
-    ensures vars { IfOk result (λ f. f.vars ≡ length variables.now) }
+fn formula_of<G: Grid>(alloc: Global, incidence: &Incidence<G>) -> Result<FlatFormula, NoMemory>
+    ensures vars { IfOk result (λ f. f.vars ≡ length incidence.now.sets.now.variables.now) }
     ensures clauses { IfOk result
-        (λ f. f.clauses ≡ torus_clauses literals (reduced_cells G.geometry triple) (sets_of variables.now)) }
+        (λ f. f.clauses ≡ torus_clauses literals (reduced_cells G.geometry incidence.now.sets.now.triple)
+        (sets_of incidence.now.sets.now.variables.now)) }
     ensures few { IfOk result (λ f. length f.clauses ≤ 30000000) }
 {
-    let lists = covering_lists::<G>(alloc, triple, variables)?;
-    let mut formula = FlatFormula::new(alloc, variables.len() as u32);
-    add_covering_clauses::<G>(alloc, &mut formula, triple, lists.as_slice())?;
-    let mut marks = vec![in alloc; 0; variables.len() + 1]?;
-    add_pair_clauses::<G>(
-        &mut formula,
-        &mut marks,
-        triple,
-        variables,
-        lists.as_slice(),
-    )?;
+    let mut formula = covering_clauses(alloc, incidence)?;
+    let mut marks = vec![in alloc; 0; incidence.sets.variables.len() + 1]?;
+    add_pair_clauses(&mut formula, &mut marks, incidence)?;
     Ok(formula)
 }
 
@@ -68,7 +54,17 @@ pub(crate) fn formula_with_variables<G: Grid>(
     ensures few { IfOk result (λ f. length f.0.clauses ≤ 30000000) }
 {
     let variables = variables_of::<G>(alloc, shape.cells(), triple)?;
-    let formula = formula_of::<G>(alloc, triple, variables.as_slice())?;
+    let sets = TorusSets::<G> {
+        triple,
+        variables: variables.as_slice(),
+        grid: PhantomData,
+    };
+    let lists = lists_of_sets(alloc, &sets)?;
+    let incidence = Incidence {
+        sets: &sets,
+        lists: lists.as_slice(),
+    };
+    let formula = formula_of(alloc, &incidence)?;
     Ok((formula, variables))
 }
 

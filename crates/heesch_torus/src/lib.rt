@@ -19,13 +19,17 @@ mod domains;
 mod filling;
 mod formula;
 mod found;
+mod incidence;
 mod masks;
+mod near_iso;
 mod outcome;
 mod pairs;
 mod places;
 mod points;
 mod residues;
 mod steps;
+mod tiles;
+mod torus;
 mod variables;
 
 pub use answer::{TorusAnswer, search};

@@ -1,14 +1,15 @@
 //! The masks of tiles: the sets of their reduced cells.
-ghost use Rattle.std.specs.Prelude.{◌<◌, ◌≤◌, ◌*◌, All, IfSome, IfNone, OnOk};
-ghost use Rattle.heesch_tiling.specs.Counting.{IsInRange};
-ghost use Rattle.heesch_torus.specs.Masks.{IsMaskable, IsMaskOf, HasDouble, AddsMasks};
+ghost use Rattle.std.specs.Prelude.{◌<◌, ◌*◌, All, IfSome, IfNone, OnOk};
+ghost use Rattle.heesch_torus.specs.Masks.{IsMaskOf, HasDouble, AddsMasks};
 ghost use Rattle.heesch_torus.specs.Stepping.{AreSteps, HasBits, HasTwice};
 
+use crate::near_iso::NearIso;
 use crate::points::points_of_tile;
 use crate::steps::{Steps, take_step};
-use heesch_grid::{Cell, Grid, Iso};
+use crate::torus::Torus;
+use heesch_grid::{Grid, Iso};
 use heesch_io::NoMemory;
-use heesch_lattice::Triple;
+use std::marker::PhantomData;
 
 /// The word with the bits of the points, where these all differ.
 fn word_of(points: &[u32]) -> Option<u64>
@@ -27,18 +28,11 @@ fn word_of(points: &[u32]) -> Option<u64>
 }
 
 /// The mask of a tile, where its reduced cells all differ.
-pub(crate) fn mask_of<G: Grid>(
-    numbers: &[u32],
-    cells: &[Cell],
-    triple: Triple,
-    by: Iso,
-) -> Option<u64>
-    requires maskable { IsMaskable G.geometry cells.now triple numbers.now }
-    requires range { IsInRange G.geometry by }
-    ensures found { IfSome result (IsMaskOf G.geometry cells.now triple by) }
-    ensures none { IfNone result (HasDouble G.geometry cells.now triple by) }
+pub(crate) fn mask_of<G: Grid>(torus: &Torus<G>, by: &NearIso<G>) -> Option<u64>
+    ensures found { IfSome result (IsMaskOf G.geometry torus.now.cells.now torus.now.triple by.now.iso) }
+    ensures none { IfNone result (HasDouble G.geometry torus.now.cells.now torus.now.triple by.now.iso) }
 {
-    let points = points_of_tile::<G>(numbers, cells, triple, by);
+    let points = points_of_tile(torus, by);
     word_of(points.as_slice())
 }
 
@@ -46,21 +40,22 @@ pub(crate) fn mask_of<G: Grid>(
 /// others found by steps: p steps to the right lead back to the first tile of a row.
 pub(crate) fn add_masks<G: Grid>(
     masks: &mut Vec<u64>,
-    numbers: &[u32],
+    torus: &Torus<G>,
     steps: &Steps,
-    cells: &[Cell],
-    triple: Triple,
     turn: u32,
 ) -> Result<(), NoMemory>
-    requires maskable { IsMaskable G.geometry cells.now triple numbers.now }
-    requires steps { AreSteps G.geometry triple steps.now }
-    requires small { triple.p * triple.q ≤ 384 }
+    requires steps { AreSteps G.geometry torus.now.triple steps.now }
     requires turn { turn < G.geometry.turns }
     ensures { OnOk result
-        (AddsMasks G.geometry cells.now triple turn (triple.p * triple.q) masks.old.items masks.new.items) }
+        (AddsMasks G.geometry torus.now.cells.now torus.now.triple turn (torus.now.triple.p * torus.now.triple.q)
+        masks.old.items masks.new.items) }
 {
-    let unmoved = Iso { turn, da: 0, db: 0 };
-    let mut points = points_of_tile::<G>(numbers, cells, triple, unmoved);
+    let triple = torus.triple;
+    let unmoved = NearIso::<G> {
+        iso: Iso { turn, da: 0, db: 0 },
+        grid: PhantomData,
+    };
+    let mut points = points_of_tile(torus, &unmoved);
     if word_of(points.as_slice()).is_none() {
         return Ok(());
     }

@@ -3,15 +3,16 @@ ghost use Rattle.std.specs.Prelude.{◌≡◌, ◌<◌, ◌≤◌, ◌+◌, ◌*
 ghost use Rattle.std.specs.List.{slice_get};
 ghost use Rattle.std.specs.Int.{bit_at};
 ghost use Rattle.heesch_grid.specs.Geometry.{IsCell, apply};
-ghost use Rattle.heesch_grid.specs.Lattice.{IsTriple};
 ghost use Rattle.heesch_grid.specs.Vectors.{IsWithin};
-ghost use Rattle.heesch_tiling.specs.Counting.{residue, IsInRange};
+ghost use Rattle.heesch_tiling.specs.Counting.{residue};
 ghost use Rattle.heesch_torus.specs.Formula.{reduced_cells};
-ghost use Rattle.heesch_torus.specs.Masks.{ArePoints, IsMaskable};
+ghost use Rattle.heesch_torus.specs.Masks.{ArePoints};
 ghost use Rattle.heesch_torus.specs.Stepping.{ArePointsOf};
 
+use crate::near_iso::NearIso;
+use crate::torus::Torus;
 use arrayvec::ArrayVec;
-use heesch_grid::{Cell, Grid, Iso};
+use heesch_grid::{Cell, Grid};
 use heesch_io::NoMemory;
 use heesch_lattice::Triple;
 use heesch_shape::CELLS_MAX;
@@ -45,32 +46,22 @@ pub(crate) fn points_of<G: Grid>(alloc: Global, triple: Triple) -> Result<Points
 }
 
 /// The number of the reduced cell of the image of c.
-pub(crate) fn point_of<G: Grid>(numbers: &[u32], triple: Triple, by: Iso, c: Cell) -> u32
-    requires triple { IsTriple triple }
-    requires points { ArePoints G.geometry triple numbers.now (length (reduced_cells G.geometry triple)) }
-    requires range { IsInRange G.geometry by }
-    requires cell { IsCell G.geometry c }
-    requires within { IsWithin 100000 c }
-    ensures { slice_get (reduced_cells G.geometry triple) result ≡ Some
-        (residue G.geometry triple (apply G.geometry by c)) }
+pub(crate) fn point_of<G: Grid>(torus: &Torus<G>, by: &NearIso<G>, c: Cell) -> u32
+    requires { IsCell G.geometry c × IsWithin 100000 c }
+    ensures { slice_get (reduced_cells G.geometry torus.now.triple) result ≡ Some
+        (residue G.geometry torus.now.triple (apply G.geometry by.now.iso c)) }
 {
-    numbers[number_of::<G>(triple, residue_of::<G>(triple, by, c))]
+    let triple = torus.triple;
+    torus.numbers[number_of::<G>(triple, residue_of::<G>(triple, by.iso, c))]
 }
 
 /// The numbers of the reduced cells of a tile, in the order of its cells.
-pub(crate) fn points_of_tile<G: Grid>(
-    numbers: &[u32],
-    cells: &[Cell],
-    triple: Triple,
-    by: Iso,
-) -> TilePoints
-    requires maskable { IsMaskable G.geometry cells.now triple numbers.now }
-    requires range { IsInRange G.geometry by }
-    ensures { ArePointsOf G.geometry cells.now triple by result.items }
+pub(crate) fn points_of_tile<G: Grid>(torus: &Torus<G>, by: &NearIso<G>) -> TilePoints
+    ensures { ArePointsOf G.geometry torus.now.cells.now torus.now.triple by.now.iso result.items }
 {
     let mut points = ArrayVec::new();
-    for c in cells {
-        points.push(point_of::<G>(numbers, triple, by, *c));
+    for c in torus.cells {
+        points.push(point_of(torus, by, *c));
     }
     points
 }

@@ -1,19 +1,16 @@
 //! The residue set of an image.
-ghost use Rattle.std.specs.Prelude.{◌≡◌, ◌≢◌, ◌<◌, ◌≤◌, ◌+◌, ℕ, List, true, false, length, slice_index_or, IfSome};
+ghost use Rattle.std.specs.Prelude.{◌≡◌, List, true, false, IfSome};
 ghost use Rattle.std.specs.Prelude.{IfNone, IsPermutation, IsSorted};
 ghost use Rattle.heesch_grid.specs.declared.Cell.{Cell};
-ghost use Rattle.heesch_grid.specs.Cells.{cell_cmp, has};
-ghost use Rattle.heesch_grid.specs.Geometry.{IsCell};
-ghost use Rattle.heesch_grid.specs.Lattice.{IsTriple, IsReduced};
-ghost use Rattle.heesch_grid.specs.Polyform.{IsPolyform};
+ghost use Rattle.heesch_grid.specs.Cells.{cell_cmp};
 ghost use Rattle.heesch_grid.specs.TorusFormula.{GivesResidues};
-ghost use Rattle.heesch_grid.specs.Vectors.{IsWithin};
-ghost use Rattle.heesch_tiling.specs.Counting.{tile_residues, IsInRange};
+ghost use Rattle.heesch_tiling.specs.Counting.{tile_residues};
 ghost use Rattle.heesch_torus.specs.Repeats.{HasRepeat, HasNoRepeat};
 
+use crate::near_iso::NearIso;
+use crate::tiles::Tiles;
 use arrayvec::ArrayVec;
-use heesch_grid::{Cell, Grid, Iso};
-use heesch_lattice::Triple;
+use heesch_grid::{Cell, Grid};
 use heesch_shape::CELLS_MAX;
 use heesch_tiling::residue_of;
 
@@ -21,28 +18,23 @@ use heesch_tiling::residue_of;
 pub type Residues = ArrayVec<Cell, CELLS_MAX>;
 
 /// The reduced cells of the images of the cells, in the order of the cells.
-fn reduced_image<G: Grid>(cells: &[Cell], triple: Triple, by: Iso) -> Residues
-    requires few { length cells.now ≤ 32 }
-    requires range { IsInRange G.geometry by }
-    requires cells { (c : Cell) → has cells.now c ≡ true → IsCell G.geometry c × IsWithin 100000 c }
-    ensures { result.items ≡ tile_residues G.geometry cells.now triple by }
+fn reduced_image<G: Grid>(tiles: &Tiles<G>, by: &NearIso<G>) -> Residues
+    ensures { result.items ≡ tile_residues G.geometry tiles.now.cells.now tiles.now.triple by.now.iso }
 {
     let mut residues = ArrayVec::new();
-    for c in cells {
-        residues.push(residue_of::<G>(triple, by, *c));
+    for c in tiles.cells {
+        residues.push(residue_of::<G>(tiles.triple, by.iso, *c));
     }
     residues
 }
 
 /// The same cells in cell order.
-fn sorted_image<G: Grid>(cells: &[Cell], triple: Triple, by: Iso) -> Residues
-    requires few { length cells.now ≤ 32 }
-    requires range { IsInRange G.geometry by }
-    requires cells { (c : Cell) → has cells.now c ≡ true → IsCell G.geometry c × IsWithin 100000 c }
-    ensures permutation { IsPermutation (tile_residues G.geometry cells.now triple by) result.items }
+fn sorted_image<G: Grid>(tiles: &Tiles<G>, by: &NearIso<G>) -> Residues
+    ensures permutation { IsPermutation
+        (tile_residues G.geometry tiles.now.cells.now tiles.now.triple by.now.iso) result.items }
     ensures sorted { IsSorted cell_cmp result.items }
 {
-    let mut residues = reduced_image::<G>(cells, triple, by);
+    let mut residues = reduced_image(tiles, by);
     residues.sort_unstable();
     residues
 }
@@ -61,16 +53,13 @@ fn has_repeat(cells: &[Cell]) -> bool
 }
 
 /// The residue set of the image: its reduced cells, where they are as many as the cells.
-pub(crate) fn residues_of<G: Grid>(cells: &[Cell], triple: Triple, by: Iso) -> Option<Residues>
-    requires triple { IsTriple triple }
-    requires form { IsPolyform G.geometry cells.now }
-    requires few { length cells.now ≤ 32 }
-    requires near { (c : Cell) → has cells.now c ≡ true → IsWithin 100000 c }
-    requires range { IsInRange G.geometry by }
-    ensures found { IfSome result (λ r. GivesResidues G.geometry cells.now triple r.items by) }
-    ensures none { IfNone result ((r : List Cell) → ¬ GivesResidues G.geometry cells.now triple r by) }
+pub(crate) fn residues_of<G: Grid>(tiles: &Tiles<G>, by: &NearIso<G>) -> Option<Residues>
+    ensures found { IfSome result
+        (λ r. GivesResidues G.geometry tiles.now.cells.now tiles.now.triple r.items by.now.iso) }
+    ensures none { IfNone result
+        ((r : List Cell) → ¬ GivesResidues G.geometry tiles.now.cells.now tiles.now.triple r by.now.iso) }
 {
-    let residues = sorted_image::<G>(cells, triple, by);
+    let residues = sorted_image(tiles, by);
     if has_repeat(residues.as_slice()) {
         return None;
     }

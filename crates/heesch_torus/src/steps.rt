@@ -1,16 +1,14 @@
 //! Steps on a torus: where each of its cells comes when it is moved by one unit.
-ghost use Rattle.std.specs.Prelude.{◌≡◌, ◌<◌, ◌≤◌, ◌*◌, map, length, slice_index, All};
-ghost use Rattle.heesch_grid.specs.Lattice.{IsTriple};
-ghost use Rattle.heesch_tiling.specs.Counting.{IsInRange};
-ghost use Rattle.heesch_torus.specs.Formula.{reduced_cells};
-ghost use Rattle.heesch_torus.specs.Masks.{ArePoints};
+ghost use Rattle.std.specs.Prelude.{◌≡◌, ◌<◌, map, length, slice_index, All};
 ghost use Rattle.heesch_torus.specs.Stepping.{IsStep, AreSteps};
 
+use crate::near_iso::NearIso;
 use crate::points::point_of;
+use crate::torus::Torus;
 use arrayvec::ArrayVec;
 use heesch_grid::{Grid, Iso};
-use heesch_lattice::Triple;
 use heesch_tiling::{pair_at, window_size};
+use std::marker::PhantomData;
 
 /// A torus that is searched by masks has at most so many cells.
 const POINTS_MAX: usize = 64;
@@ -26,50 +24,46 @@ pub(crate) struct Steps {
 }
 
 /// The step by a translation.
-fn step_of<G: Grid>(numbers: &[u32], triple: Triple, by: Iso) -> Step
-    requires triple { IsTriple triple }
-    requires small { triple.p * triple.q ≤ 384 }
-    requires points { ArePoints G.geometry triple numbers.now (length (reduced_cells G.geometry triple)) }
-    requires few { length (reduced_cells G.geometry triple) ≤ 64 }
-    requires range { IsInRange G.geometry by }
-    requires unturned { by.turn ≡ 0 }
-    ensures { IsStep G.geometry triple by.da by.db result.items }
+fn step_of<G: Grid>(torus: &Torus<G>, by: &NearIso<G>) -> Step
+    requires { by.now.iso.turn ≡ 0 }
+    ensures { IsStep G.geometry torus.now.triple by.now.iso.da by.now.iso.db result.items }
 {
+    let triple = torus.triple;
     let mut step = ArrayVec::new();
     for k in 0..window_size::<G>(triple) {
         let c = pair_at::<G>(triple, k);
         if G::is_cell(c) {
-            step.push(point_of::<G>(numbers, triple, by, c));
+            step.push(point_of(torus, by, c));
         }
     }
     step
 }
 
-/// The steps of a triple: two reductions for each cell of its torus.
-pub(crate) fn steps_of<G: Grid>(numbers: &[u32], triple: Triple) -> Steps
-    requires triple { IsTriple triple }
-    requires small { triple.p * triple.q ≤ 384 }
-    requires points { ArePoints G.geometry triple numbers.now (length (reduced_cells G.geometry triple)) }
-    requires few { length (reduced_cells G.geometry triple) ≤ 64 }
-    ensures { AreSteps G.geometry triple result }
+/// The steps of a torus: two reductions for each of its cells.
+pub(crate) fn steps_of<G: Grid>(torus: &Torus<G>) -> Steps
+    ensures { AreSteps G.geometry torus.now.triple result }
 {
     Steps {
-        right: step_of::<G>(
-            numbers,
-            triple,
-            Iso {
-                turn: 0,
-                da: 1,
-                db: 0,
+        right: step_of(
+            torus,
+            &NearIso {
+                iso: Iso {
+                    turn: 0,
+                    da: 1,
+                    db: 0,
+                },
+                grid: PhantomData,
             },
         ),
-        up: step_of::<G>(
-            numbers,
-            triple,
-            Iso {
-                turn: 0,
-                da: 0,
-                db: 1,
+        up: step_of(
+            torus,
+            &NearIso {
+                iso: Iso {
+                    turn: 0,
+                    da: 0,
+                    db: 1,
+                },
+                grid: PhantomData,
             },
         ),
     }

@@ -9,54 +9,63 @@ ghost use Rattle.heesch_torus.specs.Variables.{AreVariables};
 ghost use Rattle.heesch_torus.specs.Trying.{tried, HasTried};
 
 use crate::found::{Found, Variable};
+use crate::near_iso::NearIso;
 use crate::residues::residues_of;
+use crate::tiles::Tiles;
 use heesch_grid::{Cell, Grid, Iso};
 use heesch_io::NoMemory;
 use heesch_lattice::Triple;
 use std::alloc::Global;
+use std::marker::PhantomData;
 
 /// How many translations lie within the triple.
-pub(crate) fn translation_count(triple: Triple) -> u32
+fn translation_count(triple: Triple) -> u32
     ensures { result ≡ triple.p * triple.q }
 {
     triple.p * triple.q
 }
 
 /// The k-th isometry of a turn within the triple, by db and then by da.
-pub(crate) fn isometry_at(triple: Triple, turn: u32, k: u32) -> Iso
-    requires { k ≤ 1000 }
-    ensures { result ≡ tried triple turn k }
+fn isometry_at<G: Grid>(triple: Triple, turn: u32, k: u32) -> NearIso<G>
+    requires turn { turn < G.geometry.turns }
+    requires number { k ≤ 1000 }
+    ensures { result.iso ≡ tried triple turn k }
 {
-    Iso {
-        turn,
-        da: (k % triple.p) as i32,
-        db: (k / triple.p) as i32,
+    NearIso {
+        iso: Iso {
+            turn,
+            da: (k % triple.p) as i32,
+            db: (k / triple.p) as i32,
+        },
+        grid: PhantomData,
     }
 }
 
 /// Adds the residue sets of the isometries of a turn.
-fn try_turn<G: Grid>(
-    found: &mut Found,
-    cells: &[Cell],
-    triple: Triple,
-    turn: u32,
-) -> Result<(), NoMemory>
-    requires triple { IsTriple triple }
-    requires small { triple.p * triple.q ≤ 384 }
-    requires form { IsPolyform G.geometry cells.now }
-    requires few { length cells.now ≤ 32 }
-    requires near { (c : Cell) → has cells.now c ≡ true → IsWithin 100000 c }
+fn try_turn<G: Grid>(found: &mut Found, tiles: &Tiles<G>, turn: u32) -> Result<(), NoMemory>
     requires turn { turn < G.geometry.turns }
-    requires before { HasTried G.geometry cells.now triple turn 0 found.old }
-    ensures { OnOk result (HasTried G.geometry cells.now triple (turn + 1) 0 found.new) }
+    requires before { HasTried G.geometry tiles.now.cells.now tiles.now.triple turn 0 found.old }
+    ensures { OnOk result (HasTried G.geometry tiles.now.cells.now tiles.now.triple (turn + 1) 0 found.new) }
 {
+    let triple = tiles.triple;
     for k in 0..translation_count(triple) {
-        let by = isometry_at(triple, turn, k);
-        if let Some(residues) = residues_of::<G>(cells, triple, by) {
-            found.add(residues, by)?;
+        let by = isometry_at::<G>(triple, turn, k);
+        if let Some(residues) = residues_of(tiles, &by) {
+            found.add(residues, by.iso)?;
         }
     }
     Ok(())
+}
+
+/// The residue sets of the tiles, each with its first isometry.
+fn variables_of_tiles<G: Grid>(alloc: Global, tiles: &Tiles<G>) -> Result<Vec<Variable>, NoMemory>
+    ensures { IfOk result (λ v. AreVariables G.geometry tiles.now.cells.now tiles.now.triple v.items) }
+{
+    let mut found = Found::new(alloc);
+    for turn in 0..G::TURNS {
+        try_turn(&mut found, tiles, turn)?;
+    }
+    found.into_variables(alloc)
 }
 
 /// The variables of the torus formula in number order: the residue sets, each with its isometry, the first within the
@@ -77,9 +86,10 @@ pub fn variables_of<G: Grid>(
     requires near { (c : Cell) → has cells.now c ≡ true → IsWithin 100000 c }
     ensures { IfOk result (λ v. AreVariables G.geometry cells.now triple v.items) }
 {
-    let mut found = Found::new(alloc);
-    for turn in 0..G::TURNS {
-        try_turn::<G>(&mut found, cells, triple, turn)?;
-    }
-    found.into_variables(alloc)
+    let tiles = Tiles::<G> {
+        cells,
+        triple,
+        grid: PhantomData,
+    };
+    variables_of_tiles(alloc, &tiles)
 }

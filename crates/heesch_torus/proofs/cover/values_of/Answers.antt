@@ -10,11 +10,11 @@ use Rattle.heesch_torus.proofs.cover.values_of.Goals as goal
 pub loop-variable-preserved : goal.loop-variable-preserved
 loop-variable-preserved g c =
     let by : c.variable.inside.by ≡ c.variable-item.result.by = ap (λ (x : TorusVariable). x.by) c.variable.view_is in
-    let now : (c.is_among.result ≡ true) ↔ HasMaskAmong g.G.Grid.geometry c.args.cells.now c.args.triple c.args.masks.now c.variable-item.result.by =
-    subst (λ (x : Iso). (c.is_among.result ≡ true) ↔ HasMaskAmong g.G.Grid.geometry c.args.cells.now c.args.triple c.args.masks.now x) by c.is_among.ensures in
+    let now : (c.is_among.result ≡ true) ↔ HasMaskAmong g.G.Grid.geometry c.args.torus.now.cells.now c.args.torus.now.triple c.args.masks.now c.variable-item.result.by =
+    subst (λ (x : Iso). (c.is_among.result ≡ true) ↔ HasMaskAmong g.G.Grid.geometry c.args.torus.now.cells.now c.args.torus.now.triple c.args.masks.now x) by c.is_among.ensures in
     record {
       count = let long = one_more c.loop-variable.values c.is_among.result c.push.new.self c.in_ok-push.ensures.ok in let count = c.loop-variable.invariant.count in omega arith;
-      each = values_more g.G.Grid.geometry c.args.cells.now c.args.triple c.args.masks.now c.args.variables.now c.loop-variable.variable-index c.variable-item.result c.loop-variable.values c.push.new.self c.is_among.result c.loop-variable-test.true c.variable-item.is c.in_ok-push.ensures.ok c.loop-variable.invariant.count now c.loop-variable.invariant.each;
+      each = values_more g.G.Grid.geometry c.args.torus.now.cells.now c.args.torus.now.triple c.args.masks.now c.args.variables.now c.loop-variable.variable-index c.variable-item.result c.loop-variable.values c.push.new.self c.is_among.result c.loop-variable-test.true c.variable-item.is c.in_ok-push.ensures.ok c.loop-variable.invariant.count now c.loop-variable.invariant.each;
     }
 
 pub returns : goal.returns

@@ -10,14 +10,14 @@ use Rattle.heesch_torus.proofs.formula.formula_with_variables.Goals as goal
 pub variables_of-requires-clause-small : goal.variables_of-requires-clause-small
 variables_of-requires-clause-small g c = domain_small g.G.Grid.geometry g.met.G.Grid.laws (length c.args.shape.now) c.args.triple c.cells.ensures.shape.few c.requires.domain
 
-pub formula_of-requires-clause-small : goal.formula_of-requires-clause-small
-formula_of-requires-clause-small g c = domain_small g.G.Grid.geometry g.met.G.Grid.laws (length c.args.shape.now) c.args.triple c.cells.ensures.shape.few c.requires.domain
+pub invariant_of-incidence-clause-small : goal.invariant_of-incidence-clause-small
+invariant_of-incidence-clause-small g c = domain_small g.G.Grid.geometry g.met.G.Grid.laws (length c.args.shape.now) c.args.triple c.cells.ensures.shape.few c.requires.domain
 
 pub returns-clause-variables : goal.returns-clause-variables
 returns-clause-variables g c = subst (λ (s : List Cell). AreVariables g.G.Grid.geometry s c.args.triple c.in_ok-variables.variables.items) c.cells.ensures.cells c.in_ok-variables.ensures
 
-pub formula_of-requires-clause-sets : goal.formula_of-requires-clause-sets
-formula_of-requires-clause-sets g c =
+pub invariant_of-sets-clause-sets : goal.invariant_of-sets-clause-sets
+invariant_of-sets-clause-sets g c =
     let are = subst (λ (s : List Cell). AreVariables g.G.Grid.geometry s c.args.triple c.in_ok-variables.variables.items) c.cells.ensures.cells c.in_ok-variables.ensures in
     reduced_sets g.G.Grid.geometry c.args.shape.now c.args.triple c.as_slice.result.now (subst (λ (vs : List TorusVariable). AreVariables g.G.Grid.geometry c.args.shape.now c.args.triple vs) (sym c.as_slice.ensures.value) are)
 

@@ -5,4 +5,4 @@ use Rattle.heesch_shape.proofs.Loops.{has_at}
 use Rattle.heesch_torus.proofs.residues.reduced_image.Goals as goal
 
 pub residue_of-requires-clause-near : goal.residue_of-requires-clause-near
-residue_of-requires-clause-near g c = c.requires.cells (slice_index_or c.args.cells.now c.loop-c.c-index (cell (pos 0) (pos 0))) (has_at c.args.cells.now c.loop-c.c-index (cell (pos 0) (pos 0)) c.loop-c-test.true)
+residue_of-requires-clause-near g c = c.args.tiles.now.near (slice_index_or c.args.tiles.now.cells.now c.loop-c.c-index (cell (pos 0) (pos 0))) (has_at c.args.tiles.now.cells.now c.loop-c.c-index (cell (pos 0) (pos 0)) c.loop-c-test.true)

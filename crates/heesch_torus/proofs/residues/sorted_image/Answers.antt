@@ -8,7 +8,7 @@ use Rattle.heesch_torus.proofs.residues.sorted_image.Goals as goal
 pub returns-clause-permutation : goal.returns-clause-permutation
 returns-clause-permutation g c =
     let same = refilled c.reduced_image-residues.result.items c.sort_unstable.new.self (c.sort_unstable.ensures.len ∙ ap length c.deref_mut.ensures.value) in
-    subst (IsPermutation (tile_residues g.G.Grid.geometry c.args.cells.now c.args.triple c.args.by)) (sym same)
+    subst (IsPermutation (tile_residues g.G.Grid.geometry c.args.tiles.now.cells.now c.args.tiles.now.triple c.args.by.now.iso)) (sym same)
     (subst (λ (xs : List Cell). IsPermutation xs c.sort_unstable.new.self) (c.deref_mut.ensures.value ∙ c.reduced_image-residues.ensures) c.sort_unstable.ensures.permutation)
 
 pub returns-clause-sorted : goal.returns-clause-sorted

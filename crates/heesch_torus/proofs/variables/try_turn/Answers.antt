@@ -7,22 +7,22 @@ use Rattle.heesch_torus.proofs.variables.try_turn.Goals.{in-Some+in_ok-add, in_d
 
 pub loop-k-preserved : goal.loop-k-preserved
 loop-k-preserved g c =
-    let by = c.isometry_at-by.result in
+    let by = c.isometry_at-by.result.iso in
     let old = c.loop-k.found in
-    let tries : Tries g.G.Grid.geometry c.args.cells.now c.args.triple by old c.match-residues_of.found = elim c.match-residues_of.branch [
+    let tries : Tries g.G.Grid.geometry c.args.tiles.now.cells.now c.args.tiles.now.triple by old c.match-residues_of.found = elim c.match-residues_of.branch [
       | in-Some+in_ok-add w ↦
-          subst (Tries g.G.Grid.geometry c.args.cells.now c.args.triple by old) (sym w.found-is)
-          (tries_first g.G.Grid.geometry c.args.cells.now c.args.triple by old w.add.new.self w.in-Some.residues.items w.in-Some.ensures.found w.in_ok-add.ensures)
+          subst (Tries g.G.Grid.geometry c.args.tiles.now.cells.now c.args.tiles.now.triple by old) (sym w.found-is)
+          (tries_first g.G.Grid.geometry c.args.tiles.now.cells.now c.args.tiles.now.triple by old w.add.new.self w.in-Some.residues.items w.in-Some.ensures.found w.in_ok-add.ensures)
       | in_default w ↦
-          subst (Tries g.G.Grid.geometry c.args.cells.now c.args.triple by old) (sym w.found-is)
-          (tries_none g.G.Grid.geometry c.args.cells.now c.args.triple by old w.in_default.ensures.none)
+          subst (Tries g.G.Grid.geometry c.args.tiles.now.cells.now c.args.tiles.now.triple by old) (sym w.found-is)
+          (tries_none g.G.Grid.geometry c.args.tiles.now.cells.now c.args.tiles.now.triple by old w.in_default.ensures.none)
     ] in
-    one_tried g.G.Grid.geometry c.args.cells.now c.args.triple c.requires.triple c.args.turn c.loop-k.k old c.match-residues_of.found
+    one_tried g.G.Grid.geometry c.args.tiles.now.cells.now c.args.tiles.now.triple c.args.tiles.now.lattice c.args.turn c.loop-k.k old c.match-residues_of.found
     (omega (arith, c.loop-k-test.true, c.translation_count-k-end.ensures)) c.loop-k.invariant
-    (subst (λ (x : Iso). Tries g.G.Grid.geometry c.args.cells.now c.args.triple x old c.match-residues_of.found) c.isometry_at-by.ensures tries)
+    (subst (λ (x : Iso). Tries g.G.Grid.geometry c.args.tiles.now.cells.now c.args.tiles.now.triple x old c.match-residues_of.found) c.isometry_at-by.ensures tries)
 
 pub returns : goal.returns
 returns g c =
-    let last : c.loop-k.k ≡ c.args.triple.p * c.args.triple.q = omega (arith, c.loop-k-test.false, c.loop-k.auto.k-end, c.translation_count-k-end.ensures) in
-    turn_tried g.G.Grid.geometry c.args.cells.now c.args.triple c.requires.triple c.args.turn c.loop-k.found c.requires.small
-    (subst (λ k. HasTried g.G.Grid.geometry c.args.cells.now c.args.triple c.args.turn k c.loop-k.found) last c.loop-k.invariant)
+    let last : c.loop-k.k ≡ c.args.tiles.now.triple.p * c.args.tiles.now.triple.q = omega (arith, c.loop-k-test.false, c.loop-k.auto.k-end, c.translation_count-k-end.ensures) in
+    turn_tried g.G.Grid.geometry c.args.tiles.now.cells.now c.args.tiles.now.triple c.args.tiles.now.lattice c.args.turn c.loop-k.found c.args.tiles.now.small
+    (subst (λ k. HasTried g.G.Grid.geometry c.args.tiles.now.cells.now c.args.tiles.now.triple c.args.turn k c.loop-k.found) last c.loop-k.invariant)
