@@ -1,5 +1,5 @@
 -- Levels one after another are the universe, and lie near 0.
-use Rattle.std.proofs.Common.{◌≡◌, ℕ, zero, suc, ◌+◌, ◌-◌, ◌*◌, ◌≤◌, true, ◌&&◌, ◌==◌, ◌-ℤ◌, List, [], ◌∷◌, ◌++◌, map, Contains, refl, sym, ap, subst, ◌∙◌, arith, inl, inr, append_assoc}
+use Rattle.std.proofs.Common.{◌≡◌, ℕ, zero, suc, ◌+◌, ◌*◌, ◌≤◌, true, ◌&&◌, ◌==◌, ◌-ℤ◌, List, [], ◌∷◌, ◌++◌, map, Contains, refl, sym, ap, subst, ◌∙◌, arith, inl, inr, append_assoc}
 use Rattle.std.specs.Prelude.{IsTrue, nat_lt}
 use Rattle.std.proofs.lemmas.Int.{ints}
 use Rattle.std.proofs.lemmas.Bool.{lt-ltb, eq-eqb, or_left, or_right, and_from, cases_lt}
@@ -148,13 +148,6 @@ module _ {E : Type 0} (variable : E → Variable) (by : E → Iso) (g : Geometry
   }
 
 -- the entries of a level after a universe
-level_added : {E : Type 0} (variable : E → Variable) (by : E → Iso) (g : Geometry) (shape : List Cell) (k : ℕ) (tiles : List (List Cell)) (old new : List E) → AddTiles variable by g shape (k + 1) tiles old new → IsUniverse g shape k (map variable old) → HaveLeast variable by g shape old → ListsExactly cells_before (IsAtLevel g shape (k + 1)) tiles → IsUniverse g shape (k + 1) (map variable new) × HaveLeast variable by g shape new
+pub level_added : {E : Type 0} (variable : E → Variable) (by : E → Iso) (g : Geometry) (shape : List Cell) (k : ℕ) (tiles : List (List Cell)) (old new : List E) → AddTiles variable by g shape (k + 1) tiles old new → IsUniverse g shape k (map variable old) → HaveLeast variable by g shape old → ListsExactly cells_before (IsAtLevel g shape (k + 1)) tiles → IsUniverse g shape (k + 1) (map variable new) × HaveLeast variable by g shape new
 level_added variable by g shape k tiles old new a u least l =
     (subst (IsUniverse g shape (k + 1)) (sym a.variables) (universe_more g shape k (map variable old) tiles u l), a.least least)
-
--- the same, with the level before that of the tiles
-pub level_put : {E : Type 0} (variable : E → Variable) (by : E → Iso) (g : Geometry) (shape : List Cell) (k : ℕ) (tiles : List (List Cell)) (old new : List E) → 1 ≤ k → AddTiles variable by g shape k tiles old new → IsUniverse g shape (k - 1) (map variable old) → HaveLeast variable by g shape old → ListsExactly cells_before (IsAtLevel g shape k) tiles → IsUniverse g shape k (map variable new) × HaveLeast variable by g shape new
-level_put variable by g shape k tiles old new low a u least l =
-    let e : k - 1 + 1 ≡ k = omega arith in
-    let r = level_added variable by g shape (k - 1) tiles old new (subst (λ n. AddTiles variable by g shape n tiles old new) (sym e) a) u least (subst (λ n. ListsExactly cells_before (IsAtLevel g shape n) tiles) (sym e) l) in
-    (subst (λ n. IsUniverse g shape n (map variable new)) e r.0, r.1)

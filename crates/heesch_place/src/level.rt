@@ -8,6 +8,7 @@ ghost use Rattle.heesch_place.specs.declared.spots.Spot.{Spot};
 ghost use Rattle.heesch_place.specs.Found.{IsBeyond};
 ghost use Rattle.heesch_place.specs.Spots.{AreBesideSome, AreForms, AreSpotsOf, AreStepsOf, IsSpot, tile_at};
 
+use crate::forms::Forms;
 use crate::lists::add;
 use crate::prototile::Prototile;
 use crate::spots::{Spot, SpotMarks, radius_of};
@@ -17,15 +18,11 @@ use heesch_io::NoMemory;
 use std::alloc::Global;
 
 /// The placements that touch the shape, in the order of their cell lists.
-pub(crate) fn first_level<G: Grid>(
-    alloc: Global,
-    prototile: &Prototile<G>,
-) -> Result<Vec<Spot>, NoMemory>
-    requires { (c : Cell) → has prototile.now.formed.shape c ≡ true → IsWithin 200 c }
-    ensures { IfOk result (λ spots. AreSpotsOf G.geometry prototile.now.formed.forms
-        (IsAtLevel G.geometry prototile.now.formed.shape 1) spots.items) }
+pub(crate) fn first_level<G: Grid>(alloc: Global, forms: &Forms<G>) -> Result<Vec<Spot>, NoMemory>
+    requires { (c : Cell) → has forms.now.shape c ≡ true → IsWithin 200 c }
+    ensures { IfOk result (λ spots. AreSpotsOf G.geometry forms.now.forms (IsAtLevel G.geometry forms.now.shape 1)
+        spots.items) }
 {
-    let forms = prototile.forms();
     forms.beside(alloc, forms.shape())
 }
 

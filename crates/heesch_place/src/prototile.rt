@@ -1,4 +1,4 @@
-//! The shape whose placements are listed, and what is made of it once.
+//! The shape whose placements are listed, and what is made of it once for the levels after the first.
 ghost use Rattle.std.specs.Prelude.{◌≡◌, ◌<◌, ◌≤◌, ℕ, true, map, length, Contains, IfOk, slice_index_or, []};
 ghost use Rattle.heesch_grid.specs.declared.Cell.{Cell};
 ghost use Rattle.heesch_grid.specs.Cells.{has};
@@ -15,29 +15,28 @@ use crate::spots::{Spot, SpotMarks, radius_of, widened};
 use crate::turned::first_of;
 use heesch_grid::Grid;
 use heesch_io::NoMemory;
-use heesch_shape::Shape;
 use std::alloc::Global;
 use std::marker::Model;
 
 /// The shape whose placements are listed: its forms, the spots whose tiles touch each of them, how far from its first
 /// cell such a tile begins, and marks of the spots whose tiles meet or touch the shape.
 #[derive(Drop)]
-pub(crate) struct Prototile<G: Grid> {
-    forms: Forms<G>,
+pub(crate) struct Prototile<'a, G: Grid> {
+    forms: &'a Forms<G>,
     beside: Vec<Vec<Spot>>,
     reach: u32,
     barred: SpotMarks,
 }
 
-impl<G: Grid> Model for Prototile<G> {
+impl<'a, G: Grid> Model for Prototile<'a, G> {
     ghost use Rattle.std.specs.Prelude.{map};
     ghost use Rattle.heesch_place.specs.Spots.{IsPrepared, Prepared};
 
     ghost Value = { Prepared };
 
-    ghost view = { λ p. record { formed = p.forms; reach = p.reach } };
+    ghost view = { λ p. record { formed = p.forms.now; reach = p.reach } };
 
-    ghost invariant = { λ p. IsPrepared G.geometry p.forms (map (λ v. v.items) p.beside.items) p.reach p.barred };
+    ghost invariant = { λ p. IsPrepared G.geometry p.forms.now (map (λ v. v.items) p.beside.items) p.reach p.barred };
 }
 
 /// Marks of the spots whose tiles meet or touch the shape.
@@ -89,16 +88,15 @@ fn reach_of<G: Grid>(forms: &Forms<G>, beside: &[Vec<Spot>]) -> u32
     reach
 }
 
-impl<G: Grid> Prototile<G> {
-    /// What is made of a shape near 0.
-    pub(crate) fn of(alloc: Global, shape: Shape<G>) -> Result<Prototile<G>, NoMemory>
-        requires { (c : Cell) → has shape c ≡ true → IsWithin 200 c }
-        ensures { IfOk result (λ prototile. prototile.formed.shape ≡ shape) }
+impl<'a, G: Grid> Prototile<'a, G> {
+    /// What is made of the forms of a shape near 0.
+    pub(crate) fn of(alloc: Global, forms: &'a Forms<G>) -> Result<Prototile<'a, G>, NoMemory>
+        requires { (c : Cell) → has forms.now.shape c ≡ true → IsWithin 200 c }
+        ensures { IfOk result (λ prototile. prototile.formed ≡ forms.now) }
     {
-        let forms = Forms::of(alloc, shape)?;
-        let beside = beside_each(alloc, &forms)?;
-        let reach = reach_of(&forms, beside.as_slice());
-        let barred = barred_by(alloc, &forms)?;
+        let beside = beside_each(alloc, forms)?;
+        let reach = reach_of(forms, beside.as_slice());
+        let barred = barred_by(alloc, forms)?;
         Ok(Prototile {
             forms,
             beside,
@@ -113,14 +111,7 @@ impl<G: Grid> Prototile<G> {
         ensures forms { AreForms G.geometry self.now.formed.shape self.now.formed.forms }
     {
         let _shape = self.forms.shape();
-        &self.forms
-    }
-
-    /// The shape, alone.
-    pub(crate) fn into_shape(self) -> Shape<G>
-        ensures { result ≡ self.formed.shape }
-    {
-        self.forms.into_shape()
+        self.forms
     }
 
     /// The spots whose tiles touch the form of this place.

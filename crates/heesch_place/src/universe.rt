@@ -5,10 +5,10 @@ ghost use Rattle.heesch_grid.specs.declared.Cell.{Cell};
 ghost use Rattle.heesch_grid.specs.Cells.{has};
 ghost use Rattle.heesch_grid.specs.Polyform.{IsCanonicalListOf};
 ghost use Rattle.heesch_grid.specs.Placement.{IsLeastIsometry};
-ghost use Rattle.heesch_grid.specs.CoronaFormula.{Variable, IsUniverse, IsNumbered};
+ghost use Rattle.heesch_grid.specs.CoronaFormula.{Variable, IsAtLevel, IsUniverse, IsNumbered};
 ghost use Rattle.heesch_grid.specs.Vectors.{IsWithin};
 ghost use Rattle.heesch_place.specs.declared.spots.Spot.{Spot};
-ghost use Rattle.heesch_place.specs.Spots.{IsSpot, tile_at};
+ghost use Rattle.heesch_place.specs.Spots.{AreSpotsOf, IsSpot, tile_at};
 ghost use Rattle.heesch_place.specs.Universes.{IsUniverseOf, covering, level_at, variable_cmp, HaveLeast, AddTiles};
 
 use crate::forms::Forms;
@@ -96,30 +96,62 @@ fn add_entries<G: Grid>(
     Ok(())
 }
 
-/// The variables of the levels 1 to this one.
-fn entries_of<G: Grid>(
+/// The variables of the levels 1 to this one, made from those of level 1 and their spots.
+fn further_entries<G: Grid>(
     alloc: Global,
-    prototile: &Prototile<G>,
+    forms: &Forms<G>,
     level: u32,
+    first: Vec<Spot>,
+    inner: Vec<Entry<G>>,
 ) -> Result<Vec<Entry<G>>, NoMemory>
     requires level { (1 ≤ level) × (level ≤ 6) }
-    requires near { (c : Cell) → has prototile.now.formed.shape c ≡ true → IsWithin 200 c }
-    ensures universe { IfOk result (λ all.
-        IsUniverse G.geometry prototile.now.formed.shape level
+    requires near { (c : Cell) → has forms.now.shape c ≡ true → IsWithin 200 c }
+    requires first { AreSpotsOf G.geometry forms.now.forms (IsAtLevel G.geometry forms.now.shape 1) first.items }
+    requires inner { IsUniverse G.geometry forms.now.shape 1
+        (map (λ e. record { level = e.level; tile = e.place.tile }) inner.items) }
+    requires least { HaveLeast (λ e. record { level = e.level; tile = e.place.tile }) (λ e. e.place.by) G.geometry
+        forms.now.shape inner.items }
+    ensures universe { IfOk result (λ all. IsUniverse G.geometry forms.now.shape level
         (map (λ e. record { level = e.level; tile = e.place.tile }) all.items)) }
     ensures least { IfOk result (λ all.
         HaveLeast (λ e. record { level = e.level; tile = e.place.tile }) (λ e. e.place.by) G.geometry
-        prototile.now.formed.shape all.items) }
+        forms.now.shape all.items) }
 {
-    let forms = prototile.forms();
-    let mut entries = Vec::new(alloc);
-    let mut spots = first_level(alloc, prototile)?;
+    // Reading the shape tells the proof that these are its forms.
+    let _shape = forms.shape();
+    let prototile = Prototile::of(alloc, forms)?;
+    let mut spots = first;
+    let mut entries = inner;
     for k in 1..level {
-        add_entries(&mut entries, forms, k, spots.as_slice())?;
-        spots = next_level(alloc, prototile, spots.as_slice())?;
+        spots = next_level(alloc, &prototile, spots.as_slice())?;
+        add_entries(&mut entries, forms, k + 1, spots.as_slice())?;
     }
-    add_entries(&mut entries, forms, level, spots.as_slice())?;
     Ok(entries)
+}
+
+/// The variables of the levels 1 to this one. Level 1 alone needs no lists of the spots around each form.
+fn entries_of<G: Grid>(
+    alloc: Global,
+    forms: &Forms<G>,
+    level: u32,
+) -> Result<Vec<Entry<G>>, NoMemory>
+    requires level { (1 ≤ level) × (level ≤ 6) }
+    requires near { (c : Cell) → has forms.now.shape c ≡ true → IsWithin 200 c }
+    ensures universe { IfOk result (λ all. IsUniverse G.geometry forms.now.shape level
+        (map (λ e. record { level = e.level; tile = e.place.tile }) all.items)) }
+    ensures least { IfOk result (λ all.
+        HaveLeast (λ e. record { level = e.level; tile = e.place.tile }) (λ e. e.place.by) G.geometry
+        forms.now.shape all.items) }
+{
+    // Reading the shape tells the proof that these are its forms.
+    let _shape = forms.shape();
+    let spots = first_level(alloc, forms)?;
+    let mut entries = Vec::new(alloc);
+    add_entries(&mut entries, forms, 1, spots.as_slice())?;
+    if level == 1 {
+        return Ok(entries);
+    }
+    further_entries(alloc, forms, level, spots, entries)
 }
 
 /// The table of the variables' tiles.
@@ -158,14 +190,14 @@ impl<G: Grid> Universe<G> {
         ensures level { IfOk result (λ u. u.level ≡ level) }
         ensures few { IfOk result (λ u. length u.vars < 2 ^ 31) }
     {
-        let prototile = Prototile::of(alloc, shape.canonical())?;
-        let entries = entries_of(alloc, &prototile, level)?;
+        let forms = Forms::of(alloc, shape.canonical())?;
+        let entries = entries_of(alloc, &forms, level)?;
         if entries.len() >= VARIABLES_MAX {
             return Err(NoMemory);
         }
         let table = table_of(alloc, entries.as_slice())?;
         Ok(Universe {
-            shape: prototile.into_shape(),
+            shape: forms.into_shape(),
             level,
             entries,
             table,

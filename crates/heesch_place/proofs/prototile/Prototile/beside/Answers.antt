@@ -26,9 +26,9 @@ returns-clause-listed g c =
     let at = (goal.at.returns-clause-listed g c).After-as_slice in
     let k = c.args.form in
     let is = list_is g at in
-    let less : k < length c.self.inside.forms.forms = let l = is.0 in omega (arith, l, c.self.invariant.are_beside.long) in
+    let less : k < length c.self.inside.forms.now.forms = let l = is.0 in omega (arith, l, c.self.invariant.are_beside.long) in
     let L : Formed → List Spot → Type 0 = λ f zs. ListsExactly spot_before (IsBeside geometry f.forms (get_or f.forms k [])) zs in
-    subst (λ f. L f c.as_slice.result.now) (ap (λ (p : Prepared). p.formed) c.self.view_is) (subst (L c.self.inside.forms) is.1 (c.self.invariant.are_beside.each k less))
+    subst (λ f. L f c.as_slice.result.now) (ap (λ (p : Prepared). p.formed) c.self.view_is) (subst (L c.self.inside.forms.now) is.1 (c.self.invariant.are_beside.each k less))
 
 pub returns-clause-reach : goal.returns-clause-reach
 returns-clause-reach g c s m =

@@ -1,6 +1,5 @@
-use Rattle.std.proofs.Common.{Global, Vec, List, map, ap, sym, subst, ◌∙◌}
+use Rattle.std.proofs.Common.{Global, Vec, List, map, sym, subst}
 use Rattle.heesch_place.specs.declared.spots.Spot.{Spot}
-use Rattle.heesch_grid.specs.Cells.{has}
 use Rattle.heesch_place.specs.Spots.{AreInReach, AreWithinEach}
 use Rattle.heesch_place.proofs.prototile.Prototile.of.Goals as goal
 
@@ -13,10 +12,7 @@ reach_of-reach-requires-clause-near g c = subst (λ vs. AreWithinEach 20000 (map
 pub invariant_of-result : goal.invariant_of-result
 invariant_of-result g c = record {
   are_beside = c.in_ok-beside.ensures.listed;
-  in_reach = subst (λ vs. AreInReach c.in_ok-forms.forms.forms (map items vs) c.reach_of-reach.result) c.as_slice.ensures.value c.reach_of-reach.ensures.reach;
+  in_reach = subst (λ vs. AreInReach c.args.forms.now.forms (map items vs) c.reach_of-reach.result) c.as_slice.ensures.value c.reach_of-reach.ensures.reach;
   small = c.reach_of-reach.ensures.small;
   are_barred = c.in_ok-barred.ensures;
 }
-
-pub barred_by-requires : goal.barred_by-requires
-barred_by-requires g c d h = c.requires d (ap (λ zs. has zs d) (sym c.in_ok-forms.ensures) ∙ h)

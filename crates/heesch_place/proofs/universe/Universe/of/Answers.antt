@@ -29,7 +29,7 @@ pub of-requires : goal.of-requires
 of-requires g c = near g (goal.at.of-requires g c).After-canonical
 
 pub entries_of-requires-clause-near : goal.entries_of-requires-clause-near
-entries_of-requires-clause-near g c d h = near g (goal.at.entries_of-requires-clause-near g c).After-canonical d (ap (λ zs. has zs d) (sym c.in_ok-prototile.ensures) ∙ h)
+entries_of-requires-clause-near g c d h = near g (goal.at.entries_of-requires-clause-near g c).After-canonical d (ap (λ zs. has zs d) (sym c.in_ok-forms.ensures) ∙ h)
 
 pub invariant_of-result : goal.invariant_of-result
 invariant_of-result g c =
@@ -50,4 +50,4 @@ pub returns-clause-universe : goal.returns-clause-universe
 returns-clause-universe g c = subst (λ s. IsUniverse g.G.Grid.geometry s c.args.level (map (variable g) c.in_ok-entries.entries.items)) (sym c.into_shape.ensures) c.in_ok-entries.ensures.universe
 
 pub returns-clause-shape : goal.returns-clause-shape
-returns-clause-shape g c = c.into_shape.ensures ∙ c.in_ok-prototile.ensures ∙ sym (same g (goal.at.returns-clause-shape g c).After-canonical)
+returns-clause-shape g c = c.into_shape.ensures ∙ c.in_ok-forms.ensures ∙ sym (same g (goal.at.returns-clause-shape g c).After-canonical)
