@@ -154,7 +154,8 @@ pub(crate) fn round_from<G: Grid + Send + Sync, T: Threads + Sync, R: Source, H:
     let before = judge.entries;
     let until = judge.placed(before, front);
     if !goes_on_beside(front, until - before, reading, most, crew.workers) {
-        let (audited, ()) = judge.audits_between(crew, before, until, front, &mut || ());
+        let mut freed = || *spent = Seq::new(crew.alloc);
+        let (audited, ()) = judge.audits_between(crew, before, until, front, &mut freed);
         let audits = audited?;
         let ahead = Pending {
             items: Seq::new(crew.alloc),
