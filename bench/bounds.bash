@@ -15,6 +15,10 @@ least() { # NAME COLUMN
   awk -v column="$2" '{ print $column }' "$work/$1" | sort -n | head -n 1
 }
 
+median() { # NAME COLUMN: of an even number of figures, the lower of the two in the middle
+  awk -v column="$2" '{ print $column }' "$work/$1" | sort -n | awk '{ at[NR] = $1 } END { print at[int((NR + 1) / 2)] }'
+}
+
 megabytes() { # NAME: the greatest peak
   awk '$3 > most { most = $3 } END { printf "%.0f", most / 1024 }' "$work/$1"
 }

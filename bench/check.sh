@@ -4,9 +4,10 @@
 # square 10. A catalogue is FOLDER/GRID-N.txt where the environment has TEXTS=FOLDER and it has that file; else PROGRAM
 # makes it, with OPTIONS (none by default; as `--version 1`).
 # Both check it in turn, RUNS times (5): the least user seconds of each by one worker, their greatest peaks in MB, and
-# the ratio of the seconds. In the same turns PROGRAM checks it by four workers: its least seconds by the clock, as a
-# part of the least by one. Between the turns a loop of additions is timed in four processes at once and in one: the
-# least ratio, which is 1 on four quiet processors.
+# the ratio of the seconds. In the same turns PROGRAM checks it by four workers: the median of its seconds by the clock,
+# as a part of the median by one. (Single runs by one worker took a third less than most, where four took as long.)
+# Between the turns a loop of additions is timed in four processes at once and in one: the least ratio, which is 1 on
+# four quiet processors.
 # A line for each bound says whether it holds. Ends with 1 where one doesn't, or where the answers differ. It needs
 # rustc and GNU time.
 set -eu
@@ -15,7 +16,7 @@ declare -A most_megabytes=([square 10]=150 [square 11]=400)
 declare -A most_part=([iamond 10]=0.35 [square 9]=0.35)
 
 program=$(readlink -f "${1:-$(dirname "$0")/../crates/heesch/out/heesch}")
-[ -x "$program" ] || { sed -n 2,12p "$0" >&2; exit 2; }
+[ -x "$program" ] || { sed -n 2,13p "$0" >&2; exit 2; }
 [ $# -le 1 ] && set -- "$program" square 9 hex 7 iamond 10 square 10
 shift
 texts=${TEXTS:+$(readlink -f "$TEXTS")}
@@ -65,7 +66,7 @@ compare() { # GRID N
   bound "ratio to plain Rust" "$(ratio "$one" "$plain")" "${most_seconds[$name]:+1.4}" ""
   bound "one worker" "$one" "${most_seconds[$name]:-}" " s"
   bound "memory of one worker" "$(megabytes one)" "${most_megabytes[$name]:-}" " MB"
-  bound "four workers, as a part of one" "$(ratio "$(least four 2)" "$(least one 2)")" "${most_part[$name]:-}" ""
+  bound "four workers, as a part of one" "$(ratio "$(median four 2)" "$(median one 2)")" "${most_part[$name]:-}" ""
 }
 
 while [ $# -ge 2 ]; do
