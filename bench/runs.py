@@ -110,18 +110,31 @@ class Run:
 
     def command(self):
         """The words that make the folder again, without those that say what is so by default."""
-        given, defaults = options(shlex.split(re.search('`tools/run ([^`]*)`', self.readme)[1])), self.defaults()
+        given, defaults = self.options(), self.defaults()
         words = ['tools/run', self.grid, str(self.size)]
         for name in defaults:
             if given.get(name) != defaults[name]:
                 words += [name, *given.get(name, [])]
         return shlex.join(words)
 
+    def options(self):
+        """The values behind each option of the command that made the folder."""
+        return options(shlex.split(re.search('`tools/run ([^`]*)`', self.readme)[1]))
+
+    def covers(self):
+        """How many tiles the covers may have that a pass looked for alone; 0 where there was none."""
+        return int(self.options().get('--covers', ['0'])[0])
+
     def defaults(self):
         """The values of each option that a row shows, as they are by default."""
         first = ladder.first_limits(self.grid)
-        return {'--first': [str(first)], '--most': [str(plan.MOST_BYTES)], '--outer': None,
-                '--passes': [str(limits) for limits in ladder.default_passes(self.grid, self.size, first)]}
+        passes = ladder.default_passes(self.grid, self.size, first, self.covers())
+        return {'--first': [str(first)], '--most': [str(plan.MOST_BYTES)], '--covers': None, '--outer': None,
+                '--passes': [str(limits) for limits in passes]}
+
+    def last_limits(self):
+        """The limits of the last pass, and of the one that looked for covers alone."""
+        return self.limits()[-1] + (f', covers to {self.covers()}' if self.covers() else '')
 
     def seconds(self):
         """The time of all stages by the clock."""
@@ -229,7 +242,7 @@ def verdicts(runs):
         tally, outer = run.tally, run.outer()
         rows.append([f'`{run.name}`', tally['shapes'], tally['holed'], run.count('translation'), run.count('halfturn'),
                      run.count('periodic'), run.count('one_class'), in_words(run.counts('heesch')), run.with_holed,
-                     in_words(run.counts('outer', outer)) if outer else '', run.left(), run.limits()[-1],
+                     in_words(run.counts('outer', outer)) if outer else '', run.left(), run.last_limits(),
                      sum(int(given['shapes']) for given in run.given)])
     return table(['Size', 'Shapes', 'Holed', 'Translation', 'Half-turn', 'Periodic', 'Written with one class',
                   'Heesch numbers', 'With holed shapes', 'Outer numbers', 'Undecided by', 'Last limits',

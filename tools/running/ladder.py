@@ -41,16 +41,34 @@ def first_limits(grid):
     return FIRST.get(grid, DEFAULT)
 
 
-def default_passes(grid, size, first):
-    """The rungs above the first limits, each with the greatest domain up to its own that exists for the size."""
+def default_passes(grid, size, first, covers=0):
+    """The rungs above the first limits, each with the greatest domain up to its own that exists for the size; with the
+    first domain, where a pass before them looks for covers alone."""
     ladder = []
-    for domain, levels in RUNGS:
+    for rung, levels in RUNGS:
         before = ladder[-1] if ladder else first
-        limits = before._replace(domain=max(before.domain, greatest_domain(grid, size, domain)),
-                                 levels=max(before.levels, levels), turns=max(before.turns, PASS_TURNS))
+        domain = 0 if covers else greatest_domain(grid, size, rung)
+        limits = before._replace(domain=max(before.domain, domain), levels=max(before.levels, levels),
+                                 turns=max(before.turns, PASS_TURNS))
         if limits != before:
             ladder.append(limits)
     return ladder
+
+
+def cover_limits(first, domain):
+    """The limits of a pass that looks for covers of up to so many tiles alone.
+
+    `classify` looks for covers without a log first. One turn and one level end all that it does behind that at once.
+    """
+    if not first.domain < domain <= texts.MOST.domain:
+        raise commands.Fault(f'--covers {domain} has to be above the first domain, {first.domain}, and at most '
+                             f'{texts.MOST.domain}')
+    return first._replace(turns=1, levels=1, domain=domain)
+
+
+def greatest(limits):
+    """The greatest of each limit."""
+    return texts.Limits(*map(max, zip(*limits)))
 
 
 def greatest_domain(grid, size, most):

@@ -22,7 +22,8 @@ MOST_BYTES = 200_000_000  # of the evidence of undecided shapes that is kept of 
 class Plan:
     """The size, its number of shapes, the number of shares, the limits of the first classification and of the passes
     over what it leaves, the most bytes of the evidence of undecided shapes, whether outer numbers are wanted, the sum
-    of the program, and its commit, or nothing where that isn't known."""
+    of the program, its commit, or nothing where that isn't known, and the greatest domain of the pass that looks for
+    covers alone, which is the first one, or 0 where there is none."""
     grid: str
     size: int
     shapes: int
@@ -33,12 +34,15 @@ class Plan:
     outer: bool
     program: str
     commit: str = ''
+    covers: int = 0
 
     @property
     def command(self):
         """The words that make the same in another folder."""
         words = ['tools/run', self.grid, str(self.size), '--into', 'FOLDER', '--shares', str(self.shares),
-                 '--first', str(self.first), '--most', str(self.most), '--passes', *map(str, self.passes)]
+                 '--first', str(self.first), '--most', str(self.most)]
+        words += ['--covers', str(self.covers)] if self.covers else []
+        words += ['--passes', *map(str, self.passes[1:] if self.covers else self.passes)]
         return shlex.join(words + ['--outer'] * self.outer)
 
     @property
@@ -49,6 +53,10 @@ class Plan:
     def limits(self, number):
         """The limits of a pass, counted from 1; those of 0 are the first ones."""
         return self.passes[number - 1] if number else self.first
+
+    def greatest_limits(self, passes):
+        """The greatest of each limit, of the first ones and of so many passes."""
+        return ladder.greatest(map(self.limits, range(passes + 1)))
 
     def share_words(self, number):
         """The program's words for a share."""
@@ -64,7 +72,7 @@ class Plan:
 
     def outer_limits(self, passes):
         """The limits for outer numbers, behind so many passes: no domain need be searched where no shape tiles."""
-        return self.limits(passes)._replace(domain=1)
+        return self.greatest_limits(passes)._replace(domain=1)
 
     def outer_words(self, passes):
         """The program's words for the outer numbers of given shapes; behind `check` they are those that judge them."""
@@ -74,19 +82,25 @@ class Plan:
 def made(request, heesch):
     """A new plan by the words of a call. It counts the shapes, and where no number of shares is given it times some."""
     first = _first(request) or ladder.first_limits(request.grid)
-    passes = (ladder.default_passes(request.grid, request.size, first) if request.passes is None
-              else ladder.parse_passes(request.passes, first))
+    passes = _passes(request, first, request.covers)
     shapes = _count(request, heesch)
     shares = request.shares or _shares(request, heesch, first, shapes)
     if not 1 <= shares <= min(MOST_SHARES, shapes):
         raise commands.Fault(f'{request.grid} {request.size} has 1 to {min(MOST_SHARES, shapes)} shares')
-    return Plan(request.grid, request.size, shapes, shares, first, tuple(passes), request.most or MOST_BYTES,
-                request.outer, program.sum_of(heesch), request.commit or program.commit_of(heesch))
+    return Plan(request.grid, request.size, shapes, shares, first, passes, request.most or MOST_BYTES, request.outer,
+                program.sum_of(heesch), request.commit or program.commit_of(heesch), request.covers)
 
 
 def _first(request):
     """The first limits that a call asks for; what its words don't name is that of the grid. None where it has none."""
     return ladder.parse(request.first, ladder.first_limits(request.grid)) if request.first else None
+
+
+def _passes(request, first, covers):
+    """The limits of the passes that a call asks for, the one that looks for covers alone before the others."""
+    rungs = (ladder.default_passes(request.grid, request.size, first, covers) if request.passes is None
+             else ladder.parse_passes(request.passes, first))
+    return (*([ladder.cover_limits(first, covers)] if covers else []), *rungs)
 
 
 def _count(request, heesch):
@@ -130,10 +144,11 @@ def loaded(path):
 def check_agrees(plan, request, heesch, folder):
     """Refuses the words of a call, or a program, that aren't those with which the folder was begun."""
     first = _first(request) or plan.first
-    passes = plan.passes if request.passes is None else tuple(ladder.parse_passes(request.passes, first))
+    passes = plan.passes if request.passes is None else _passes(request, first, plan.covers)
     for name, asked, begun in (
             ('the size', f'{request.grid} {request.size}', plan.name), ('--first', first, plan.first),
             ('--shares', request.shares or plan.shares, plan.shares), ('--most', request.most or plan.most, plan.most),
+            ('--covers', request.covers or plan.covers, plan.covers),
             ('--passes', [str(limits) for limits in passes], [str(limits) for limits in plan.passes]),
             ('--outer', request.outer or plan.outer, plan.outer),
             ('--commit', request.commit or plan.commit, plan.commit),

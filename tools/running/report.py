@@ -135,6 +135,9 @@ class Report:
                  'written, the Heesch number where a proof shows it, the coronas with holes, the numbers of tiles in a '
                  'period for which each lattice is refuted, and how many lattices are refuted, and how many searches '
                  f'were spent. The evidence is that under `{self._plan.limits(self._merged["last"])}`.')
+        if self._plan.covers:
+            words += (f' Pass 1 looked for covers alone, of up to {self._plan.covers} tiles in a period, and found none '
+                      'for these shapes.')
         if failed := sum(facts['failed'] for facts in self._passes):
             words += f' Shapes of passes that were left, since a process failed twice on them: {failed}.'
         rows = [[shape.number, f'`{shape.verdict}`', f'`{shape.cells}`'] for shape in self._left[:LISTED]]

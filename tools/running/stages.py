@@ -93,6 +93,8 @@ class Run:
         """Makes a pass over what the one before leaves, and joins its parts."""
         sizes = self._cut_list(self.folder.left(number - 1), f'pass-{number}')
         evidence = Evidence(self.folder.work(f'pass-{number}'), self.plan.most)
+        if self.plan.covers:
+            evidence.give_up()
         tasks = [self._pass_task(number, part, sizes, evidence)
                  for part in self._missing(f'pass-{number}', sizes, 'decided')]
         shapes = sum(sizes.values())
@@ -172,7 +174,8 @@ class Run:
         later = [self.folder.pass_text(number) for number in range(last + 1, len(passes) + 1)]
         decided = sum(facts['decided'] for facts in passes[last:])
         if decided:
-            header = texts.parse_header(joins.header_of(later[-1]).decode().rstrip('\n'))
+            limits = self.plan.greatest_limits(len(passes))
+            header = texts.Header(False, VERSION, self.plan.grid, None, limits)
             joins.join_given(later, self.folder.work(GIVEN), f'{header}\n'.encode())
         self.folder.record('merge', {'last': last, 'passes': len(passes), 'later': decided})
 

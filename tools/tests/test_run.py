@@ -58,6 +58,16 @@ class Ladders(unittest.TestCase):
                                          ('iamond', 10, 7, 7), ('square', 5, 7, 7)):
             self.assertEqual(ladder.greatest_domain(grid, size, most), wanted)
 
+    def test_covers(self):
+        """Behind a pass that looks for covers alone the passes keep the first domain."""
+        first = ladder.DEFAULT
+        self.assertEqual(ladder.cover_limits(first, 12), first._replace(turns=1, levels=1, domain=12))
+        self.assertEqual([str(limits) for limits in ladder.default_passes('hex', 10, first, 12)],
+                         [f'turns 200000 levels {levels} domain 4 size 60000000' for levels in (4, 5)])
+        for domain in (4, 13):
+            with self.assertRaisesRegex(commands.Fault, f'--covers {domain} has to be above the first domain, 4'):
+                ladder.cover_limits(first, domain)
+
     def test_words(self):
         passes = ladder.parse_passes(['domain 8 levels 4', 'turns 200000'], ladder.DEFAULT)
         self.assertEqual([str(limits) for limits in passes], ['turns 20000 levels 4 domain 8 size 60000000',
@@ -368,6 +378,32 @@ class Runs(ToolTest):
         self.assertEqual(program('check', text=files['given.txt'].decode()), f'valid {decided}\n')
         self.assertTrue(files['given.txt'].startswith(b'heesch 2 iamond given turns 20000 levels 1 domain 2 '))
         self.assertIn(b'given.txt', files['tally.csv'])
+
+    def test_covers_first(self):
+        """A pass for covers alone decides what tiles, and leaves the rest to the passes behind it."""
+        words = ['iamond', 9, '--first', 'domain 2 levels 1', '--covers', '6', '--passes', 'levels 3']
+        files = self.assert_made('covers', *words)
+        first, whole = (program('classify', 'iamond', 9, '--domain', domain, '--levels', levels)
+                        for domain, levels in ((2, 1), (6, 3)))
+        self.assertEqual(files['catalogue.txt'].decode(), first)
+        given = files['given.txt'].decode()
+        self.assertTrue(given.startswith('heesch 2 iamond given turns 20000 levels 3 domain 6 '))
+        left = self.left_of(first).splitlines()
+        decided = [cells for cells in left if cells not in self.left_of(whole).splitlines()]
+        self.assertEqual(program('check', text=given), f'valid {len(decided)}\n')
+        self.assertEqual(self.verdicts(given), {cells: self.verdicts(whole)[cells] for cells in decided})
+        self.assertEqual(files.get('undecided.txt', b'').decode(), self.left_of(whole))
+        self.assertEqual({verdict.split()[1] for verdict in self.verdicts(given).values()}, {'tiles', 'heesch'})
+        readme = (self.folder / 'covers' / 'README.md').read_text()
+        for part in ("--covers 6 --passes 'turns 20000 levels 3 domain 2 size 60000000'`",
+                     '| pass 1 | `turns 1 levels 1 domain 6 size 60000000` |', 'decided in the catalogue of given',
+                     'Pass 1 looked for covers alone, of up to 6 tiles in a period, and found none for these shapes.'):
+            self.assertIn(part, readme)
+        self.assert_refused(self.run_tool('covers', 'iamond', 9, '--covers', 5), 'was begun with --covers 6, and not 5')
+
+    def verdicts(self, catalogue):
+        """The verdict lines of a catalogue by the cells."""
+        return dict(re.findall('^shape (.*)\n(verdict .*)$', catalogue, re.MULTILINE))
 
     def left_of(self, catalogue):
         """The undecided shapes of a catalogue."""

@@ -86,6 +86,15 @@ class Tables(helpers.ToolTest):
              'catalogue.txt', '1234', '0' * 64, 'valid 9'],
             ['', '', '', '', '', '0.7', '26', '', '', 'outer.txt', '567', '0' * 64, 'valid 3 in 2 parts']])
 
+    def test_covers_alone(self):
+        """The command says up to which domain a pass looked for covers alone, and so does the column of the limits."""
+        run = self.run_of()
+        passes = [f"'turns 200000 levels {levels} domain 4 size 60000000'" for levels in (4, 5)]
+        run.readme = re.sub('--most.*\n--passes.*`,', f'--most 200000000\n--covers 12 --passes {" ".join(passes)}`,',
+                            run.readme)
+        self.assertEqual(run.command(), 'tools/run hex 7 --covers 12')
+        self.assertEqual(self.rows('verdicts', run)[0][11], 'levels 4 domain 6, covers to 12')
+
     def test_outer_numbers_that_were_not_judged(self):
         """An earlier tool had nothing said of them."""
         run = self.run_of()
