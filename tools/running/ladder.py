@@ -7,6 +7,7 @@ DEFAULT = texts.Limits(turns=20_000, levels=3, domain=4, size=60_000_000)  # of 
 FIRST = {'kite': DEFAULT._replace(domain=6)}  # of 5 or 7 kites no smaller domain exists
 RUNGS = ((8, 4), (12, 5))  # domain and levels of the passes by default, where such domains exist
 PASS_TURNS = 200_000  # of these passes: a polyhex of 7 cells needs 22,340 at level 4
+COVER_TURNS = 300  # of a pass that looks for covers: with one turn it found half of those of domain 8 of polyhexes of 10
 
 
 def parse(words, before):
@@ -56,14 +57,11 @@ def default_passes(grid, size, first, covers=0):
 
 
 def cover_limits(first, domain):
-    """The limits of a pass that looks for covers of up to so many tiles alone.
-
-    `classify` looks for covers without a log first. One turn and one level end all that it does behind that at once.
-    """
+    """The limits of a pass that looks for covers of up to so many tiles alone: few turns and one level end all else."""
     if not first.domain < domain <= texts.MOST.domain:
         raise commands.Fault(f'--covers {domain} has to be above the first domain, {first.domain}, and at most '
                              f'{texts.MOST.domain}')
-    return first._replace(turns=1, levels=1, domain=domain)
+    return first._replace(turns=min(first.turns, COVER_TURNS), levels=1, domain=domain)
 
 
 def greatest(limits):

@@ -61,7 +61,7 @@ class Ladders(unittest.TestCase):
     def test_covers(self):
         """Behind a pass that looks for covers alone the passes keep the first domain."""
         first = ladder.DEFAULT
-        self.assertEqual(ladder.cover_limits(first, 12), first._replace(turns=1, levels=1, domain=12))
+        self.assertEqual(ladder.cover_limits(first, 12), first._replace(turns=300, levels=1, domain=12))
         self.assertEqual([str(limits) for limits in ladder.default_passes('hex', 10, first, 12)],
                          [f'turns 200000 levels {levels} domain 4 size 60000000' for levels in (4, 5)])
         for domain in (4, 13):
@@ -396,7 +396,7 @@ class Runs(ToolTest):
         self.assertEqual({verdict.split()[1] for verdict in self.verdicts(given).values()}, {'tiles', 'heesch'})
         readme = (self.folder / 'covers' / 'README.md').read_text()
         for part in ("--covers 6 --passes 'turns 20000 levels 3 domain 2 size 60000000'`",
-                     '| pass 1 | `turns 1 levels 1 domain 6 size 60000000` |', 'decided in the catalogue of given',
+                     '| pass 1 | `turns 300 levels 1 domain 6 size 60000000` |', 'decided in the catalogue of given',
                      'Pass 1 looked for covers alone, of up to 6 tiles in a period, and found none for these shapes.'):
             self.assertIn(part, readme)
         self.assert_refused(self.run_tool('covers', 'iamond', 9, '--covers', 5), 'was begun with --covers 6, and not 5')
